@@ -1,0 +1,10 @@
+//! Names of the domain name system (RFC 1035 2.3.4, 3.1), and octets that contracts see as a list.
+#![tactic(auto)]
+
+mod fault;
+mod name;
+mod octets;
+
+pub use fault::NameFault;
+pub use name::Name;
+pub use octets::Octets;

@@ -1,0 +1,39 @@
+-- What a question is, without where it lies in memory.
+use Rattle.std.specs.Prelude.{◌≡◌, ℕ, ◌+◌, ◌<◌, ◌≤◌, ◌⊎◌, List, length, Option, Some, None}
+use Rattle.fleet_name.specs.Name.{wire, lower_all, IsName}
+use Rattle.fleet_wire.specs.Number.{u16_at}
+use Rattle.fleet_wire.specs.Reading.{Stands, Reads}
+use Rattle.fleet_wire.specs.Faults.{NameFails}
+use Rattle.fleet_wire.specs.declared.fault.ReadFault.{ReadFault}
+use Rattle.fleet_wire.specs.declared.fault.ReadFault.TheVariants.{Truncated}
+use Rattle.fleet_wire.specs.declared.question.Question.{Question}
+
+pub record Asked : Type 0 where
+  pub spelled : List ℕ
+  pub name : List (List ℕ)
+  pub rtype : ℕ
+  pub class : ℕ
+
+abbrev pub asked : {A : Type 0} → Question A → Asked
+asked q = record { spelled = q.spelled.items; name = q.name; rtype = q.rtype; class = q.class }
+
+abbrev pub asked_in : {A : Type 0} → Option (Question A) → Option Asked
+asked_in None = None
+asked_in (Some q) = Some (asked q)
+
+-- the question q stands at p, and ends before e
+pub record IsQuestion (m : List ℕ) (p : ℕ) (q : Asked) (e : ℕ) : Type 0 where
+  pub labels : List (List ℕ)
+  pub past : ℕ
+  pub stands : Stands m p p labels past
+  pub spelled : q.spelled ≡ wire labels
+  pub name : q.name ≡ lower_all labels
+  pub named : IsName q.name
+  pub fits : past + 4 ≤ length m
+  pub rtype : q.rtype ≡ u16_at m past
+  pub class : q.class ≡ u16_at m (past + 2)
+  pub end_is : e ≡ past + 4
+
+-- the first fault of a question at p: its name's, or that the message ends too early
+abbrev pub QuestionFails : List ℕ → ℕ → ReadFault → Type 0
+QuestionFails m p f = NameFails m p f ⊎ ((n : List (List ℕ)) × (past : ℕ) × Reads m p n past × (length m < past + 4) × (f ≡ Truncated))

@@ -1,0 +1,54 @@
+-- What a record is, without where it lies in memory, and what records stand at a place of a message.
+use Rattle.std.specs.Prelude.{◌≡◌, ℕ, ◌+◌, ◌<◌, ◌≤◌, ◌⊎◌, List, [], ◌∷◌, length, map}
+use Rattle.fleet_wire.specs.Number.{u16_at, u32_at}
+use Rattle.fleet_wire.specs.Reading.{Reads}
+use Rattle.fleet_wire.specs.Faults.{NameFails}
+use Rattle.fleet_wire.specs.Shape.{shape_of, ShapeAt, ShapeFails}
+use Rattle.fleet_wire.specs.declared.fault.ReadFault.{ReadFault}
+use Rattle.fleet_wire.specs.declared.fault.ReadFault.TheVariants.{Truncated}
+use Rattle.fleet_wire.specs.declared.record.Record.{Record}
+
+pub record Told : Type 0 where
+  pub name : List (List ℕ)
+  pub rtype : ℕ
+  pub class : ℕ
+  pub ttl : ℕ
+  pub rdata : List ℕ
+
+abbrev pub told : {A : Type 0} → Record A → Told
+told r = record { name = r.name; rtype = r.rtype; class = r.class; ttl = r.ttl; rdata = r.rdata.items }
+
+abbrev pub all_told : {A : Type 0} → List (Record A) → List Told
+all_told rs = map told rs
+
+-- the record r stands at p, and ends before e: a name, ten octets, and the RDATA that the last two of them count
+pub record RecordAt (m : List ℕ) (p : ℕ) (r : Told) (e : ℕ) : Type 0 where
+  pub past : ℕ
+  pub name : Reads m p r.name past
+  pub room : past + 10 + u16_at m (past + 8) ≤ length m
+  pub rtype : r.rtype ≡ u16_at m past
+  pub class : r.class ≡ u16_at m (past + 2)
+  pub ttl : r.ttl ≡ u32_at m (past + 4)
+  pub rdata : ShapeAt m (past + 10) (u16_at m (past + 8)) (shape_of r.rtype) r.rdata
+  pub end_is : e ≡ past + 10 + u16_at m (past + 8)
+
+-- the ten octets, or the RDATA, pass the end of the message
+abbrev pub IsCut : List ℕ → ℕ → Type 0
+IsCut m past = (length m < past + 10) ⊎ (length m < past + 10 + u16_at m (past + 8))
+
+-- the first fault behind the name of a record
+abbrev pub FixedFails : List ℕ → ℕ → ReadFault → Type 0
+FixedFails m past f = (IsCut m past × (f ≡ Truncated)) ⊎ ((past + 10 + u16_at m (past + 8) ≤ length m) × ShapeFails m (past + 10) (u16_at m (past + 8)) (shape_of (u16_at m past)) f)
+
+-- the first fault of a record at p: its name's, or one behind the name
+abbrev pub RecordFails : List ℕ → ℕ → ReadFault → Type 0
+RecordFails m p f = NameFails m p f ⊎ ((n : List (List ℕ)) × (past : ℕ) × Reads m p n past × FixedFails m past f)
+
+-- the records stand at p in a row, and end before e
+abbrev pub RecordsAt : List ℕ → ℕ → List Told → ℕ → Type 0
+RecordsAt m p [] e = e ≡ p
+RecordsAt m p (r ∷ rs) e = (past : ℕ) × RecordAt m p r past × RecordsAt m past rs e
+
+-- the first fault of so many records at p: behind fewer of them stands none
+abbrev pub RecordsFail : List ℕ → ℕ → ℕ → ReadFault → Type 0
+RecordsFail m p count f = (rs : List Told) × (past : ℕ) × RecordsAt m p rs past × (length rs < count) × RecordFails m past f

@@ -1,0 +1,78 @@
+//! Whether RDATA is plain: each name in full and in lower case.
+
+ghost use Rattle.std.specs.Prelude.{◌≡◌, ℕ, List, ◌++◌, IsTrue, IsFalse, MatchOption};
+ghost use Rattle.fleet_name.specs.Name.{wire, lower, IsName};
+ghost use Rattle.fleet_wire.specs.Outline.{ArePlain, IsPlain};
+
+use crate::reading::{Step, step_at};
+use crate::shape::{Part, parts_of};
+
+fn is_lower(label: &[u8]) -> bool
+    ensures yes { IsTrue result → lower label.now ≡ label.now }
+    ensures no { IsFalse result → lower label.now ≡ label.now → ⊥ }
+{
+    for octet in label {
+        if octet.to_ascii_lowercase() != *octet {
+            return false;
+        }
+    }
+    true
+}
+
+// The octets behind a name in full and in lower case, if one stands first.
+fn after_name(octets: &[u8]) -> Option<&[u8]>
+    ensures { MatchOption result ((n : List (List ℕ)) (others : List ℕ) → IsName n → octets.now ≡ wire n ++ others → ⊥) (λ s. (n : List (List ℕ)) × IsName n × (octets.now ≡ wire n ++ s.now)) }
+{
+    let mut at = 0;
+    loop {
+        match step_at(octets, at, 0, at + 1) {
+            Ok(Step::End) => {
+                let (_, rest) = octets.split_at(at + 1);
+                return Some(rest);
+            }
+            Ok(Step::Label(label)) => {
+                if !is_lower(label) {
+                    return None;
+                }
+                at += 1 + label.len();
+            }
+            Ok(Step::Pointer(_)) => return None,
+            Err(_) => return None,
+        }
+    }
+}
+
+// Whether the octets are those of the parts, and no more.
+fn are_plain(parts: &[Part], octets: &[u8]) -> bool
+    ensures yes { IsTrue result → ArePlain parts.now octets.now }
+    ensures no { IsFalse result → ArePlain parts.now octets.now → ⊥ }
+{
+    let mut rest = octets;
+    for part in parts {
+        match part {
+            Part::Plain(count) => {
+                if rest.len() < *count {
+                    return false;
+                }
+                let (_, others) = rest.split_at(*count);
+                rest = others;
+            }
+            Part::Name => match after_name(rest) {
+                None => return false,
+                Some(others) => rest = others,
+            },
+        }
+    }
+    rest.is_empty()
+}
+
+/// Whether RDATA has its type's shape, with each name in full and in lower case.
+pub fn plain_rdata(rtype: u16, rdata: &[u8]) -> bool
+    ensures yes { IsTrue result → IsPlain rtype rdata.now }
+    ensures no { IsFalse result → IsPlain rtype rdata.now → ⊥ }
+{
+    match parts_of(rtype) {
+        None => true,
+        Some(parts) => are_plain(parts, rdata),
+    }
+}
