@@ -4,7 +4,10 @@
 mod fault;
 mod name;
 mod octets;
+#[cfg(test)]
+mod tests;
+mod text;
 
 pub use fault::NameFault;
-pub use name::Name;
+pub use name::{Name, suffix_in};
 pub use octets::Octets;

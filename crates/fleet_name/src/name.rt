@@ -1,15 +1,20 @@
-//! A name, as its octets in full.
+//! A name, as its octets in full (RFC 1035 3.1).
 
 ghost use Rattle.std.specs.Prelude.{◌≡◌, ℕ, ◌+◌, ◌-◌, ◌<◌, ◌≤◌, List, [], ◌∷◌, ◌++◌, ◌↔◌, length, take, drop, IfOk, OnOk, OnErr, IsTrue, MatchOption, MatchResult, None, vec_len, vec_capacity};
-ghost use Rattle.fleet_name.specs.Name.{frame, wire, lower, lower_all, labels_of, IsName, IsUnder, IsSpelling};
+ghost use Rattle.std.specs.String.{string_bytes};
+ghost use Rattle.fleet_name.specs.Name.{frame, wire, lower, lower_all, labels_of, IsName, IsUnder, IsSpelling, IsWire, IsSuffix};
 ghost use Rattle.fleet_name.specs.Fault.{push_fault, IsFirst};
+ghost use Rattle.fleet_name.specs.Text.{label_text, text_of};
+ghost use Rattle.std.specs.List.{flat_map};
 
 use crate::fault::NameFault;
+use crate::text::push_label;
 use std::alloc::{AllocError, Allocator, Global};
 use std::cmp::Ordering;
 use std::marker::Model;
 
-/// A name: its labels, in lower case.
+/// A name: its labels in lower case, each of 1 to 63 octets, at most 255 octets in full
+/// (RFC 1035 2.3.4, 3.1). Contracts see it as the list of its labels. It takes one allocation.
 #[derive(Drop)]
 pub struct Name<A: Allocator = Global> {
     octets: Vec<u8, A>,
@@ -28,7 +33,7 @@ impl<A: Allocator> Model for Name<A> {
 }
 
 impl<A: Allocator> Name<A> {
-    /// The name without labels.
+    /// The root, the name without labels.
     pub fn root(alloc: A) -> Result<Name<A>, AllocError>
         ensures { IfOk result (λ n. n ≡ []) }
     {
@@ -37,7 +42,8 @@ impl<A: Allocator> Name<A> {
         Ok(Name { octets, labels: 0 })
     }
 
-    /// The name that these octets spell, whatever their case.
+    /// The name that these octets spell in full, whatever their case, where it has so many labels.
+    /// It keeps the vector and allocates nothing.
     pub fn from_spelled(octets: Vec<u8, A>, labels: usize) -> Name<A>
         requires spelled { IsSpelling octets.items }
         requires counted { labels ≡ length (labels_of octets.items) }
@@ -51,6 +57,18 @@ impl<A: Allocator> Name<A> {
         }
     }
 
+    /// A name with these octets in full and in lower case: one allocation of just their number.
+    pub fn copy_of(alloc: A, octets: &[u8]) -> Result<Name<A>, AllocError>
+        requires { IsWire octets.now }
+        ensures { IfOk result (λ n. wire n ≡ octets.now) }
+    {
+        let Some(labels) = labels_in(octets) else {
+            unreachable!()
+        };
+        let octets = Vec::from_slice(alloc, octets)?;
+        Ok(Name { octets, labels })
+    }
+
     /// How many labels the name has.
     pub fn labels(&self) -> usize
         ensures { result ≡ length self.now }
@@ -58,7 +76,7 @@ impl<A: Allocator> Name<A> {
         self.labels
     }
 
-    /// The name in full.
+    /// The name in full: each label behind its length octet, and a zero octet (RFC 1035 3.1).
     pub fn octets(&self) -> &[u8]
         ensures octets { result.now ≡ wire self.now }
         ensures named { IsName self.now }
@@ -66,7 +84,8 @@ impl<A: Allocator> Name<A> {
         &self.octets
     }
 
-    /// Adds a label after the others, in lower case.
+    /// Adds a label after the others, in lower case. A fault is the first one in the order of
+    /// `NameFault`, and leaves the name as it was.
     pub fn push(&mut self, label: &[u8]) -> Result<(), NameFault>
         ensures ok { OnOk result (self.new ≡ self.old ++ lower label.now ∷ []) }
         ensures named { OnOk result (IsName (self.old ++ lower label.now ∷ [])) }
@@ -87,14 +106,14 @@ impl<A: Allocator> Name<A> {
         Ok(())
     }
 
-    /// Whether the names are the same.
+    /// Whether the names have the same labels.
     pub fn same(&self, other: &Name<A>) -> bool
         ensures { IsTrue result ↔ (self.now ≡ other.now) }
     {
         self.octets() == other.octets()
     }
 
-    /// The name in full without the first `count` labels, if it has so many.
+    /// The name in full without the first `count` labels; `None` where it has fewer.
     pub fn suffix(&self, count: usize) -> Option<&[u8]>
         ensures { MatchOption result (length self.now < count) (λ s. (count ≤ length self.now) × (s.now ≡ wire (drop count self.now))) }
     {
@@ -104,7 +123,7 @@ impl<A: Allocator> Name<A> {
         Some(after_labels(&self.octets, count))
     }
 
-    /// Whether this is the ancestor's name or one below it.
+    /// Whether this is the ancestor's name or one below it: the ancestor's labels are its last ones.
     pub fn is_under(&self, ancestor: &Name<A>) -> bool
         ensures { IsTrue result ↔ IsUnder self.now ancestor.now }
     {
@@ -112,6 +131,21 @@ impl<A: Allocator> Name<A> {
             return false;
         }
         after_labels(&self.octets, self.labels - ancestor.labels) == ancestor.octets()
+    }
+
+    /// The text of the name: each label followed by a dot, the root as a dot alone. In a label a dot
+    /// and a backslash have a backslash before them, and an octet outside 33 to 126 is a backslash
+    /// and three decimal digits (RFC 1035 5.1).
+    pub fn write_text<B: Allocator>(&self, alloc: B) -> Result<String<B>, AllocError>
+        ensures { IfOk result (λ t. string_bytes t ≡ text_of self.now) }
+    {
+        let mut text = String::new(alloc);
+        if self.labels == 0 {
+            text.push('.')?;
+            return Ok(text);
+        }
+        push_labels(&mut text, &self.octets, self.labels)?;
+        Ok(text)
     }
 
     /// A copy of the name.
@@ -140,7 +174,7 @@ impl<A: Allocator> PartialEq for Name<A> {
     ghost laws = { Prim.search (comparing, rules) };
 
     fn eq(&self, other: &Self) -> bool {
-        self.octets() == other.octets()
+        self.octets.as_slice() == other.octets()
     }
 }
 
@@ -226,4 +260,79 @@ fn after_labels(octets: &[u8], count: usize) -> &[u8]
         rest = others;
     }
     rest
+}
+
+// Adds so many labels that stand at the front of a name in full.
+fn push_labels<A: Allocator>(
+    text: &mut String<A>,
+    octets: &[u8],
+    count: usize,
+) -> Result<(), AllocError>
+    requires spelled { octets.now ≡ wire (labels_of octets.now) }
+    requires counted { count ≡ length (labels_of octets.now) }
+    ensures { OnOk result (string_bytes text.new ≡ string_bytes text.old ++ flat_map label_text (labels_of octets.now)) }
+{
+    let mut rest = octets;
+    for _ in 0..count {
+        let (first, others) = rest.split_at(rest[0] as usize + 1);
+        let (_, label) = first.split_at(1);
+        push_label(text, label)?;
+        rest = others;
+    }
+    Ok(())
+}
+
+fn is_lower(label: &[u8]) -> bool
+    ensures { IsTrue result ↔ (lower label.now ≡ label.now) }
+{
+    for octet in label {
+        if octet.to_ascii_lowercase() != *octet {
+            return false;
+        }
+    }
+    true
+}
+
+// How many labels the name has that these octets are in full and in lower case, if they are one.
+fn labels_in(octets: &[u8]) -> Option<usize>
+    ensures { MatchOption result (IsWire octets.now → ⊥) (λ count. (n : List (List ℕ)) × IsName n × (octets.now ≡ wire n) × (count ≡ length n)) }
+{
+    if octets.len() > 255 {
+        return None;
+    }
+    let mut rest = octets;
+    let mut labels = 0;
+    while !rest.is_empty() {
+        let (_, others) = rest.split_at(1);
+        let count = rest[0] as usize;
+        if count == 0 {
+            return if others.is_empty() {
+                Some(labels)
+            } else {
+                None
+            };
+        }
+        if count > 63 || others.len() < count {
+            return None;
+        }
+        let (label, behind) = others.split_at(count);
+        if !is_lower(label) {
+            return None;
+        }
+        labels += 1;
+        rest = behind;
+    }
+    None
+}
+
+/// What `Name::suffix` gives of the name that these octets are in full and in lower case: its octets
+/// without the first `count` labels. `None` where they are no name, or one of fewer labels.
+pub fn suffix_in(octets: &[u8], count: usize) -> Option<&[u8]>
+    ensures { MatchOption result ((rest : List ℕ) → IsSuffix octets.now count rest → ⊥) (λ s. IsSuffix octets.now count s.now) }
+{
+    let labels = labels_in(octets)?;
+    if count > labels {
+        return None;
+    }
+    Some(after_labels(octets, count))
 }
