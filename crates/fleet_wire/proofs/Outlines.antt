@@ -4,7 +4,8 @@ use Rattle.std.proofs.lemmas.Bool.Decides.{nat_tests}
 use Rattle.fleet_name.specs.Name.{wire}
 use Rattle.fleet_wire.specs.Question.{Asked}
 use Rattle.fleet_wire.specs.Record.{Told}
-use Rattle.fleet_wire.specs.Outline.{Sketch, u16_octets, u32_octets, record_octets, rows, question_octets, header_octets, body_size, whole_octets, cut_octets, octets_of_outline}
+use Rattle.fleet_wire.specs.Number.{u16_octets, u32_octets}
+use Rattle.fleet_wire.specs.Outline.{Sketch, record_octets, rows, question_octets, header_octets, body_size, whole_octets, cut_octets, octets_of_outline}
 
 nat_le-true : {a b : ℕ} → a ≤ b → nat_le a b ≡ true
 nat_le-true {a} {b} h = grind (arith, nat_tests)

@@ -4,8 +4,8 @@ use Rattle.std.proofs.Common.{◌≡◌, ℕ, ◌+◌, ◌<◌, ◌≤◌, List,
 use Rattle.std.proofs.Math.ListN.{drop_of_length-le}
 use Rattle.std.proofs.lemmas.List.{append-nil}
 use Rattle.fleet_name.specs.Name.{wire, lower_all, IsName}
-use Rattle.fleet_wire.specs.Reading.{Reads}
-use Rattle.fleet_wire.specs.Faults.{NameFails, OrMemory}
+use Rattle.fleet_wire.specs.NameAt.{ReadsName}
+use Rattle.fleet_wire.specs.Fault.{NameFails, OrMemory}
 use Rattle.fleet_wire.specs.Shape.{PartsAt, PartsFail, ShapeAt, ShapeFails}
 use Rattle.fleet_wire.specs.declared.fault.ReadFault.{ReadFault}
 use Rattle.fleet_wire.specs.declared.fault.ReadFault.TheVariants.{OutOfMemory}
@@ -22,16 +22,19 @@ pub or_only : (f : ReadFault) (P : Type 0) → (P → ⊥) → OrMemory f P → 
 or_only f P never (inl e) = e
 or_only f P never (inr h) = absurd (never h)
 
-pub name_or_fault : (m : List ℕ) (p : ℕ) (n : List (List ℕ)) (e : ℕ) (f : ReadFault) → Reads m p n e → NameFails m p f → ⊥
+pub name_or_fault : (m : List ℕ) (p : ℕ) (n : List (List ℕ)) (e : ℕ) (f : ReadFault) → ReadsName m p n e → NameFails m p f → ⊥
 name_or_fault m p n e f r h = none_from_fails m p f r.spelled e h (subst (λ (x : List (List ℕ)). IsName x) r.lowered r.named) r.stands
 
-pub one_reads : (m : List ℕ) (p : ℕ) (a b : List (List ℕ)) (x y : ℕ) → Reads m p a x → Reads m p b y → (a ≡ b) × (x ≡ y)
+pub one_reads : (m : List ℕ) (p : ℕ) (a b : List (List ℕ)) (x y : ℕ) → ReadsName m p a x → ReadsName m p b y → (a ≡ b) × (x ≡ y)
 one_reads m p a b x y one two =
     let same = one_reading m p p one.spelled two.spelled x y one.stands two.stands in
     (one.lowered ∙ (ap lower_all same.0 ∙ sym two.lowered), same.1)
 
-pub reads_within : (m : List ℕ) (p : ℕ) (n : List (List ℕ)) (e : ℕ) → Reads m p n e → e ≤ length m
+pub reads_within : (m : List ℕ) (p : ℕ) (n : List (List ℕ)) (e : ℕ) → ReadsName m p n e → e ≤ length m
 reads_within m p n e r = ends_within m p p r.spelled e r.stands
+
+pub reads_named : (m : List ℕ) (p : ℕ) (n : List (List ℕ)) (e : ℕ) → ReadsName m p n e → IsName n
+reads_named m p n e r = r.named
 
 pub one_parts : (m : List ℕ) (parts : List Part) (p : ℕ) (a b : List ℕ) (x y : ℕ) → PartsAt m parts p a x → PartsAt m parts p b y → (a ≡ b) × (x ≡ y)
 one_parts m [] p a b x y one two = (one.0 ∙ sym two.0, one.1 ∙ sym two.1)
@@ -78,7 +81,7 @@ module _ (m : List ℕ) (parts rest more : List Part) (p at : ℕ) (items new : 
     pub name_fails : (f : ReadFault) → PartsFail m (Name ∷ more) at f → PartsFail m parts p f
     name_fails f h = fails f (subst (λ (x : List Part). PartsFail m x at f) (sym is) h)
 
-    pub name_found : (n : List (List ℕ)) (past : ℕ) → Reads m at n past → new ≡ items ++ wire n → (o : List ℕ) (e : ℕ) → PartsAt m more past o e → PartsAt m parts p (new ++ o) e
+    pub name_found : (n : List (List ℕ)) (past : ℕ) → ReadsName m at n past → new ≡ items ++ wire n → (o : List ℕ) (e : ℕ) → PartsAt m more past o e → PartsAt m parts p (new ++ o) e
     name_found n past named wrote o e r =
         let whole : new ++ o ≡ items ++ (wire n ++ o) = ap (λ (x : List ℕ). x ++ o) wrote ∙ append_assoc items (wire n) o in
         subst (λ (x : List ℕ). PartsAt m parts p x e) (sym whole) (found (wire n ++ o) e (subst (λ (x : List Part). PartsAt m x at (wire n ++ o) e) (sym is) (n, past, o, named, r, refl)))

@@ -5,18 +5,18 @@ use Rattle.std.proofs.lemmas.List.{append-nil, take-append-drop, length-take-le,
 use Rattle.std.proofs.lemmas.Grind.{flat_map-append}
 use Rattle.std.specs.List.{flat_map, AllByRecursion}
 use Rattle.fleet_name.specs.Name.{wire, frame, lower, IsLabel, IsName}
-use Rattle.fleet_name.proofs.Spelling.{named_push}
-use Rattle.fleet_wire.specs.Reading.{LabelAt, EndAt, Stands, ends, goes_on, points}
-use Rattle.fleet_wire.specs.Faults.{FaultAt, here}
+use Rattle.fleet_wire.proofs.Spelled.{named_push, long_lower, lower_same}
+use Rattle.fleet_wire.specs.NameAt.{LabelAt, EndAt, NameAt, ends, goes_on, points}
+use Rattle.fleet_wire.specs.Fault.{FaultAt, here}
 use Rattle.fleet_wire.specs.declared.fault.ReadFault.{ReadFault}
 use Rattle.fleet_wire.specs.declared.shape.Part.{Part}
 use Rattle.fleet_wire.specs.declared.shape.Part.TheVariants.{Plain, Name}
-use Rattle.fleet_wire.specs.Outline.{ArePlain}
+use Rattle.fleet_wire.specs.Shape.{ArePlain}
 use Rattle.fleet_wire.proofs.Readings.{one_reading, none_read, label_same, octets}
-use Rattle.fleet_wire.proofs.Written.{stands_written, long_lower, lower_same}
+use Rattle.fleet_wire.proofs.Written.{stands_written}
 
 -- the name at the front of octets stands there
-pub stands_first : (m : List ℕ) (n : List (List ℕ)) (others : List ℕ) → IsName n → m ≡ wire n ++ others → Stands m 0 0 n (0 + length (wire n))
+pub stands_first : (m : List ℕ) (n : List (List ℕ)) (others : List ℕ) → IsName n → m ≡ wire n ++ others → NameAt m 0 0 n (0 + length (wire n))
 stands_first m n others named e =
     let same = lower_same n named.labels in
     stands_written m 0 0 n (long_lower n (rw same named.labels)) (record { front = []; back = others; whole = e; place = refl })
@@ -27,11 +27,11 @@ same_behind m n n' a b named named' e e' =
     let both : wire n ++ a ≡ wire n ++ b = sym e ∙ (e' ∙ ap (λ (x : List (List ℕ)). wire x ++ b) (sym same)) in
     sym (drop-append_seam (wire n) a) ∙ (ap (λ (x : List ℕ). drop (length (wire n)) x) both ∙ drop-append_seam (wire n) b)
 
-stands_label : (m : List ℕ) (p s : ℕ) (label : List ℕ) (t : List (List ℕ)) (e : ℕ) → LabelAt m p label → Stands m p s t e → (rest : List (List ℕ)) × (t ≡ label ∷ rest) × Stands m (p + 1 + length label) s rest e
+stands_label : (m : List ℕ) (p s : ℕ) (label : List ℕ) (t : List (List ℕ)) (e : ℕ) → LabelAt m p label → NameAt m s p t e → (rest : List (List ℕ)) × (t ≡ label ∷ rest) × NameAt m s (p + 1 + length label) rest e
 stands_label m p s label t e at (ends ended is past) = absurd (omega (arith, at, ended))
 stands_label m p s label t e at (goes_on l rest at' r is) =
     let same = label_same m p l label at' at in
-    (rest, is ∙ ap (λ (x : List ℕ). x ∷ rest) same, subst (λ (x : List ℕ). Stands m (p + 1 + length x) s rest e) same r)
+    (rest, is ∙ ap (λ (x : List ℕ). x ∷ rest) same, subst (λ (x : List ℕ). NameAt m s (p + 1 + length x) rest e) same r)
 stands_label m p s label t e at (points q past at' lt r is) = absurd (omega (arith, at, at'))
 
 label_of : (before : List (List ℕ)) (label : List ℕ) (rest : List (List ℕ)) → AllByRecursion IsLabel (before ++ label ∷ rest) → IsLabel label
@@ -40,7 +40,7 @@ label_of (l ∷ before) label rest all = label_of before label rest all.1
 
 -- The labels read so far, and what any name at the front goes on with.
 module _ (m : List ℕ) (at : ℕ) (before : List (List ℕ)) (whole : m ≡ flat_map frame before ++ drop at m) (size : at ≡ length (flat_map frame before)) (named : IsName before)
-    (only : (n : List (List ℕ)) (e : ℕ) → Stands m 0 0 n e → (t : List (List ℕ)) × (n ≡ before ++ t) × Stands m at 0 t e) where
+    (only : (n : List (List ℕ)) (e : ℕ) → NameAt m 0 0 n e → (t : List (List ℕ)) × (n ≡ before ++ t) × NameAt m 0 at t e) where
   pub room : at + 1 ≤ 255
   room = omega (arith, named.fits, length-append (flat_map frame before) (0 ∷ []), size)
 
@@ -82,7 +82,7 @@ module _ (m : List ℕ) (at : ℕ) (before : List (List ℕ)) (whole : m ≡ fla
       pub more_named : IsName (before ++ label ∷ [])
       more_named = named_push before label named (record { some = found.some; short = found.short; lowered = low }) (omega (arith, size, length-append (flat_map frame before) (0 ∷ [])))
 
-      pub more_only : (n : List (List ℕ)) (e : ℕ) → Stands m 0 0 n e → (t : List (List ℕ)) × (n ≡ (before ++ label ∷ []) ++ t) × Stands m (at + (1 + length label)) 0 t e
+      pub more_only : (n : List (List ℕ)) (e : ℕ) → NameAt m 0 0 n e → (t : List (List ℕ)) × (n ≡ (before ++ label ∷ []) ++ t) × NameAt m 0 (at + (1 + length label)) t e
       more_only n e r =
           let o = only n e r in
           let next = stands_label m at 0 label o.0 e found o.2 in

@@ -3,12 +3,13 @@ use mathlib.Core.Logic.{inl, inr}
 use Rattle.std.proofs.Common.{◌≡◌, ℕ, ◌+◌, ◌<◌, List, [], ◌∷◌, ◌++◌, length, refl, sym, ap, ◌∙◌, subst, arith, Bool, true, false, get_or}
 use Rattle.fleet_name.specs.Name.{wire, lower_all}
 use Rattle.fleet_wire.specs.Number.{u16_at, u32_at}
-use Rattle.fleet_wire.specs.Reading.{Reads}
+use Rattle.fleet_wire.specs.NameAt.{ReadsName}
 use Rattle.fleet_wire.specs.Question.{Asked, IsQuestion, QuestionFails}
 use Rattle.fleet_wire.specs.Shape.{shape_of, ShapeAt, ShapeFails}
 use Rattle.fleet_wire.specs.Record.{Told, RecordAt, FixedFails, RecordFails, RecordsAt, RecordsFail}
-use Rattle.fleet_wire.specs.Message.{header_of, IsQuery, QueryFails, too_short, too_long, other_count, no_question, Reply, IsReply, ReplyFails, SectionsAt, SectionsFail}
+use Rattle.fleet_wire.specs.Message.{header_of, HasOneQuestion, HeaderFails, IsQuery, QueryFails, Reply, IsReply, ReplyFails, SectionsAt, SectionsFail}
 use Rattle.fleet_wire.specs.declared.fault.ReadFault.{ReadFault}
+use Rattle.fleet_wire.specs.declared.fault.ReadFault.TheVariants as faults
 use Rattle.fleet_wire.specs.declared.header.Header.{Header}
 use Rattle.fleet_wire.proofs.Readings.{one_reading}
 use Rattle.fleet_wire.proofs.Parts.{one_reads, name_or_fault, one_shape, shape_or_fault}
@@ -69,7 +70,7 @@ pub records_more : (m : List ℕ) (p middle e : ℕ) (rs : List Told) (r : Told)
 records_more m p middle e [] r before at = (e, subst (λ (q : ℕ). RecordAt m q r e) before at, refl)
 records_more m p middle e (first ∷ rs) r before at = (before.0, before.1, records_more m before.0 middle e rs r before.2 at)
 
-reads_question : (m : List ℕ) (p : ℕ) (q : Asked) (e : ℕ) → (at : IsQuestion m p q e) → Reads m p q.name at.past
+reads_question : (m : List ℕ) (p : ℕ) (q : Asked) (e : ℕ) → (at : IsQuestion m p q e) → ReadsName m p q.name at.past
 reads_question m p q e at = record { spelled = at.labels; stands = at.stands; lowered = at.name; named = at.named }
 
 question_or_fault : (m : List ℕ) (p : ℕ) (q : Asked) (e : ℕ) (f : ReadFault) → IsQuestion m p q e → QuestionFails m p f → ⊥
@@ -78,11 +79,20 @@ question_or_fault m p q e f at (inr h) =
     let same = one_reads m p h.0 q.name h.1 at.past h.2 (reads_question m p q e at) in
     omega (arith, same.1, at.fits, h.3)
 
+pub header_or_fault : (m : List ℕ) (f : ReadFault) → HasOneQuestion m → HeaderFails m f → ⊥
+header_or_fault m faults.TooShort is h = omega (arith, h, is.long)
+header_or_fault m faults.TooLong is h = omega (arith, h, is.short)
+header_or_fault m faults.QuestionCount is h = h.2 is.one
+header_or_fault m faults.Truncated is h = h
+header_or_fault m faults.BadLabel is h = h
+header_or_fault m faults.BadPointer is h = h
+header_or_fault m faults.LongName is h = h
+header_or_fault m faults.BadRdata is h = h
+header_or_fault m faults.OutOfMemory is h = h
+
 pub query_or_fault : (m : List ℕ) (h : Header) (q : Asked) (past : ℕ) (f : ReadFault) → IsQuery m h q past → QueryFails m f → ⊥
-query_or_fault m h q past f is (too_short n e) = omega (arith, n, is.long)
-query_or_fault m h q past f is (too_long n e) = omega (arith, n, is.short)
-query_or_fault m h q past f is (other_count long short n e) = n is.one
-query_or_fault m h q past f is (no_question long short n e) = question_or_fault m 12 q past f is.question e
+query_or_fault m h q past f is (inl e) = header_or_fault m f is.counted e
+query_or_fault m h q past f is (inr e) = question_or_fault m 12 q past f is.question e.1
 
 asked_of : List ℕ → List (List ℕ) → ℕ → ℕ → Asked
 asked_of spelled name rtype class = record { spelled = spelled; name = name; rtype = rtype; class = class }
@@ -140,7 +150,7 @@ one_reply m a b one two =
 -- where the header says that nothing was cut off, a fault of a section is one of the reply
 module _ (m : List ℕ) (h : Header) (q : Asked) (past : ℕ) (f : ReadFault) (is : IsQuery m h q past) (whole : h.tc ≡ false) where
   own : IsQuery m (header_of m) q past
-  own = record { long = is.long; short = is.short; one = is.one; header = refl; question = is.question }
+  own = record { counted = is.counted; header = refl; question = is.question }
 
   section_fails : SectionsFail m past false f → ReplyFails m f
   section_fails fails =

@@ -1,23 +1,23 @@
 -- What is written is read again.
 use Rattle.std.proofs.Common.{◌≡◌, ℕ, ◌+◌, ◌*◌, ◌/◌, ◌%◌, ◌<◌, ◌≤◌, List, [], ◌∷◌, ◌++◌, length, take, drop, get_or, refl, sym, ap, ◌∙◌, subst, arith, append_assoc, length-append, Bool, true, false, Option, Some, None, nat_eq, nat_le, cond}
 use Rattle.std.proofs.Math.Seq.{drop-append_seam, take-append_seam, get_or-append_seam}
-use Rattle.std.proofs.lemmas.List.{append-nil, length-map}
+use Rattle.std.proofs.lemmas.List.{append-nil}
 use Rattle.std.specs.Prelude.{slice_index}
 use Rattle.std.proofs.lemmas.Bool.Decides.{nat_tests}
-use Rattle.std.specs.Char.{to_ascii_lowercase}
 use Rattle.std.specs.List.{flat_map, AllByRecursion}
-use Rattle.fleet_name.specs.Name.{wire, frame, lower_all, IsLabel, IsName}
-use Rattle.fleet_wire.specs.Number.{u16_at, u32_at}
-use Rattle.fleet_wire.specs.Reading.{LabelAt, Stands, ends, goes_on, Reads}
-use Rattle.fleet_wire.specs.Question.{Asked, IsQuestion}
-use Rattle.fleet_wire.specs.Shape.{shape_of, PartsAt, ShapeAt}
-use Rattle.fleet_wire.specs.Record.{Told, RecordAt, RecordsAt}
+use Rattle.fleet_name.specs.Name.{wire, frame, IsLabel, IsName}
+use Rattle.fleet_wire.specs.Number.{u16_at, u32_at, u16_octets, u32_octets}
+use Rattle.fleet_wire.specs.NameAt.{LabelAt, NameAt, ends, goes_on, ReadsName}
+use Rattle.fleet_wire.specs.Question.{Asked, IsQuestion, IsAsked}
+use Rattle.fleet_wire.specs.Shape.{shape_of, PartsAt, ShapeAt, ArePlain, HasShape}
+use Rattle.fleet_wire.specs.Record.{Told, RecordAt, RecordsAt, IsPlainRecord}
 use Rattle.fleet_wire.specs.declared.shape.Part.{Part}
 use Rattle.fleet_wire.specs.declared.shape.Part.TheVariants.{Plain, Name}
 use Rattle.fleet_wire.specs.Message.{header_of, IsQuery, SectionsAt, IsReply}
 use Rattle.fleet_wire.specs.Query.{lowered, query_head, query_octets, query_header}
 use Rattle.fleet_wire.specs.declared.header.Header.{Header}
-use Rattle.fleet_wire.specs.Outline.{u16_octets, u32_octets, flag, record_octets, ArePlain, HasShape, IsPlainRecord, IsAsked, asked_octets, Sketch, ReadsBack, whole_octets, cut_octets, octets_of_outline, reply_sketched}
+use Rattle.fleet_wire.specs.Outline.{flag, record_octets, asked_octets, Sketch, IsLine, IsAskedIfAny, IsSketch, HasPlainRdata, IsWhole, whole_octets, cut_octets, octets_of_outline, reply_sketched}
+use Rattle.fleet_wire.proofs.Spelled.{IsLong, long_lower, lower_same, labels_spelled, lower-wire}
 
 -- these octets stand at a place of the message
 pub record SitsAt (m : List ℕ) (p : ℕ) (x : List ℕ) : Type 0 where
@@ -67,11 +67,7 @@ sits_u32 m p n s =
     let low = sits_u16 m (p + 2) (n % 65536) (sits_rest m p (u16_octets (n / 65536)) (u16_octets (n % 65536)) s) in
     rw (high, low) (omega arith)
 
--- a label of any case
-abbrev pub IsLong : List ℕ → Type 0
-IsLong l = (0 < length l) × (length l ≤ 63)
-
-pub stands_written : (m : List ℕ) (p s : ℕ) (n : List (List ℕ)) → AllByRecursion IsLong n → SitsAt m p (wire n) → Stands m p s n (p + length (wire n))
+pub stands_written : (m : List ℕ) (p s : ℕ) (n : List (List ℕ)) → AllByRecursion IsLong n → SitsAt m p (wire n) → NameAt m s p n (p + length (wire n))
 stands_written m p s [] all at = ends (record { begins = omega (arith, sits_within m p (0 ∷ []) at); zero_octet = sits_octet m p 0 [] at }) refl refl
 stands_written m p s (l ∷ n) all at =
     let is : wire (l ∷ n) ≡ frame l ++ wire n = append_assoc (frame l) (flat_map frame n) (0 ∷ []) in
@@ -89,39 +85,32 @@ stands_written m p s (l ∷ n) all at =
     let rest = sits_moved m (p + length (frame l)) (p + 1 + length l) (wire n) (wire n) (omega arith) refl (sits_rest m p (frame l) (wire n) at') in
     let others = stands_written m (p + 1 + length l) s n all.1 rest in
     let size = ap length is ∙ length-append (frame l) (wire n) in
-    goes_on l n found (subst (λ (e : ℕ). Stands m (p + 1 + length l) s n e) (omega (arith, size)) others) refl
+    goes_on l n found (subst (λ (e : ℕ). NameAt m s (p + 1 + length l) n e) (omega (arith, size)) others) refl
 
-pub long_lower : (n : List (List ℕ)) → AllByRecursion IsLabel (lower_all n) → AllByRecursion IsLong n
-long_lower [] all = tt
-long_lower (l ∷ n) all = ((omega (arith, all.0.some, length-map l to_ascii_lowercase), omega (arith, all.0.short, length-map l to_ascii_lowercase)), long_lower n all.1)
-
-pub lower_same : (n : List (List ℕ)) → AllByRecursion IsLabel n → lower_all n ≡ n
-lower_same [] all = refl
-lower_same (l ∷ n) all = ap (λ (x : List ℕ). x ∷ lower_all n) all.0.lowered ∙ ap (λ (x : List (List ℕ)). l ∷ x) (lower_same n all.1)
-
-pub reads_written : (m : List ℕ) (p : ℕ) (n : List (List ℕ)) → IsName n → SitsAt m p (wire n) → Reads m p n (p + length (wire n))
+pub reads_written : (m : List ℕ) (p : ℕ) (n : List (List ℕ)) → IsName n → SitsAt m p (wire n) → ReadsName m p n (p + length (wire n))
 reads_written m p n named at =
     let same = lower_same n named.labels in
     record { spelled = n; stands = stands_written m p p n (long_lower n (rw same named.labels)) at; lowered = sym same; named = named }
 
 pub question_written : (m : List ℕ) (p : ℕ) (q : Asked) → IsAsked q → SitsAt m p (asked_octets q) → IsQuestion m p q (p + length (asked_octets q))
 question_written m p q is at =
+    let found = labels_spelled q.name q.spelled is.named.labels is.spelled in let labels = found.0 in
     let numbers = u16_octets q.rtype ++ u16_octets q.class in
-    let name = sits_moved m p p q.spelled (wire is.labels) refl is.spelled (sits_first m p q.spelled numbers at) in
-    let past = p + length (wire is.labels) in
-    let others = sits_moved m (p + length q.spelled) past numbers numbers (ap (λ (x : List ℕ). p + length x) is.spelled) refl (sits_rest m p q.spelled numbers at) in
+    let name = sits_moved m p p q.spelled (wire labels) refl found.1 (sits_first m p q.spelled numbers at) in
+    let past = p + length (wire labels) in
+    let others = sits_moved m (p + length q.spelled) past numbers numbers (ap (λ (x : List ℕ). p + length x) found.1) refl (sits_rest m p q.spelled numbers at) in
     let within = sits_within m past numbers others in
     record {
-      labels = is.labels;
+      labels = labels;
       past = past;
-      stands = stands_written m p p is.labels (long_lower is.labels (subst (λ (x : List (List ℕ)). AllByRecursion IsLabel x) is.name is.named.labels)) name;
-      spelled = is.spelled;
-      name = is.name;
+      stands = stands_written m p p labels (long_lower labels (subst (λ (x : List (List ℕ)). AllByRecursion IsLabel x) (sym found.2) is.named.labels)) name;
+      spelled = found.1;
+      name = sym found.2;
       named = is.named;
       fits = within;
       rtype = sym (sits_u16 m past q.rtype (sits_first m past (u16_octets q.rtype) (u16_octets q.class) others));
       class = sym (sits_u16 m (past + 2) q.class (sits_rest m past (u16_octets q.rtype) (u16_octets q.class) others));
-      end_is = omega (arith, length-append q.spelled numbers, ap length is.spelled);
+      end_is = omega (arith, length-append q.spelled numbers, ap length found.1);
     }
 
 pub parts_written : (m : List ℕ) (parts : List Part) (p : ℕ) (o : List ℕ) → ArePlain parts o → SitsAt m p o → PartsAt m parts p o (p + length o)
@@ -280,6 +269,36 @@ sections_written m past a b an ns all all' is is' n n' at =
       n' ∙ is',
     )
 
+-- an outline of plain records that fits
+record ReadsBack (o : Sketch) (q : Asked) : Type 0 where
+  pub opcode : o.opcode < 16
+  pub rcode : o.rcode < 16
+  pub whole : o.tc ≡ false
+  pub question : o.question ≡ Some q
+  pub asked : IsAsked q
+  pub answer : AllByRecursion IsPlainRecord o.answer
+  pub authority : AllByRecursion IsPlainRecord o.authority
+  pub fits : length (whole_octets o) ≤ 512
+
+plain_records : (rs : List Told) → AllByRecursion IsLine rs → AllByRecursion HasPlainRdata rs → AllByRecursion IsPlainRecord rs
+plain_records [] lines plain = tt
+plain_records (r ∷ rs) lines plain = (record { name = lines.0.name; rdata = plain.0 }, plain_records rs lines.1 plain.1)
+
+asked_lawful : (a : Option Asked) (q : Asked) → a ≡ Some q → IsAskedIfAny a → IsAsked q
+asked_lawful a q e is = let is' : IsAskedIfAny (Some q) = subst (λ (x : Option Asked). IsAskedIfAny x) e is in is'
+
+whole_back : (o : Sketch) (q : Asked) → IsSketch o → IsWhole o q → ReadsBack o q
+whole_back o q lawful is = record {
+  opcode = lawful.opcode;
+  rcode = lawful.rcode;
+  whole = is.clear;
+  question = is.question;
+  asked = asked_lawful o.question q is.question lawful.question;
+  answer = plain_records o.answer lawful.answer is.answer;
+  authority = plain_records o.authority lawful.authority is.authority;
+  fits = is.fits;
+}
+
 plain_written : (m : List ℕ) (o : Sketch) (q : Asked) → ReadsBack o q → m ≡ plain_octets o q → length m ≤ 512 → IsReply m (reply_sketched o q)
 plain_written m o q is e fits =
     let h = head_octets o.id o.opcode o.rd o.rcode (length o.answer) (length o.authority) in
@@ -292,9 +311,11 @@ plain_written m o q is e fits =
     record {
       past = past;
       query = record {
-        long = omega (arith, sits_within m 0 h (sits_first m 0 h (asked_octets q ++ rows) at));
-        short = fits;
-        one = sym (ap (λ (x : Header). get_or x.counts 0 0) header);
+        counted = record {
+          long = omega (arith, sits_within m 0 h (sits_first m 0 h (asked_octets q ++ rows) at));
+          short = fits;
+          one = sym (ap (λ (x : Header). get_or x.counts 0 0) header);
+        };
         header = header;
         question = asked;
       };
@@ -304,11 +325,11 @@ plain_written m o q is e fits =
     }
 
 -- an outline of plain records that fits is read as it is
-pub reads_back : (o : Sketch) (q : Asked) → ReadsBack o q → IsReply (octets_of_outline o) (reply_sketched o q)
-reads_back o q is =
+pub reads_back : (o : Sketch) (q : Asked) → IsSketch o → IsWhole o q → IsReply (octets_of_outline o) (reply_sketched o q)
+reads_back o q lawful is =
     let whole = within_512 o is.fits in
-    let plain = whole_is o q is.whole is.question in
-    plain_written (octets_of_outline o) o q is (whole ∙ plain) (omega (arith, ap length whole, is.fits))
+    let plain = whole_is o q is.clear is.question in
+    plain_written (octets_of_outline o) o q (whole_back o q lawful is) (whole ∙ plain) (omega (arith, ap length whole, is.fits))
 
 query_header_written : (m : List ℕ) (id : ℕ) → SitsAt m 0 (query_head id) → query_header id ≡ header_of m
 query_header_written m id at =
@@ -342,14 +363,22 @@ query_back id q named =
     let at = sits_whole m in
     let header = query_header_written m id (sits_first m 0 (query_head id) (asked_octets (lowered q)) at) in
     let same = sym (lower_same q.name named.labels) in
-    let asked : IsAsked (lowered q) = record { labels = q.name; spelled = refl; name = same; named = named } in
+    let lower_is = lower-wire q.name (long_lower q.name (subst (λ (x : List (List ℕ)). AllByRecursion IsLabel x) same named.labels)) in
+    let asked : IsAsked (lowered q) = record { spelled = lower_is ∙ ap wire (sym same); named = named } in
     let question = question_written m 12 (lowered q) asked (sits_rest m 0 (query_head id) (asked_octets (lowered q)) at) in
     let size = length-append (query_head id) (asked_octets (lowered q)) in
     let inner = length-append (wire q.name) (u16_octets q.rtype ++ u16_octets q.class) in
     record {
-      long = omega (arith, size);
-      short = omega (arith, size, inner, named.fits);
-      one = sym (ap (λ (x : Header). get_or x.counts 0 0) header);
+      counted = record { long = omega (arith, size); short = omega (arith, size, inner, named.fits); one = sym (ap (λ (x : Header). get_or x.counts 0 0) header) };
       header = header;
       question = subst (λ (e : ℕ). IsQuestion m 12 (lowered q) e) (sym size) question;
     }
+
+-- the octets of a query, piece by piece
+pub query_pieces : (id : ℕ) (q : Asked) (a b d e f : List ℕ) → a ≡ [] → b ≡ a ++ query_head id → d ≡ b ++ wire q.name → e ≡ d ++ u16_octets q.rtype → f ≡ e ++ u16_octets q.class → f ≡ query_octets id q
+query_pieces id q a b d e f is_a is_b is_d is_e is_f =
+    let h = query_head id in let w = wire q.name in let t = u16_octets q.rtype in let k = u16_octets q.class in
+    let b_is : b ≡ h = is_b ∙ ap (λ (x : List ℕ). x ++ h) is_a in
+    let d_is : d ≡ h ++ w = is_d ∙ ap (λ (x : List ℕ). x ++ w) b_is in
+    let e_is : e ≡ (h ++ w) ++ t = is_e ∙ ap (λ (x : List ℕ). x ++ t) d_is in
+    is_f ∙ (ap (λ (x : List ℕ). x ++ k) e_is ∙ (append_assoc (h ++ w) t k ∙ append_assoc h w (t ++ k)))

@@ -1,14 +1,14 @@
--- What messages say: a header, a question, and records.
-use Rattle.std.specs.Prelude.{◌≡◌, ◌≢◌, ℕ, ◌/◌, ◌%◌, ◌<◌, ◌≤◌, ◌⊎◌, List, [], ◌∷◌, length, slice_index, Bool, true, false, nat_eq, nat_le}
+-- What messages say: a header, a question, and records (RFC 1035 4.1).
+use Rattle.std.specs.Prelude.{◌≡◌, ◌≢◌, ℕ, ◌/◌, ◌%◌, ◌<◌, ◌≤◌, ◌⊎◌, List, [], ◌∷◌, length, slice_index, Bool, true, false, nat_eq, nat_le, IsTrue}
+use Rattle.std.specs.List.{AllByRecursion}
 use Rattle.fleet_wire.specs.Number.{u16_at}
-use Rattle.fleet_wire.specs.Question.{Asked, asked, IsQuestion, QuestionFails}
-use Rattle.fleet_wire.specs.Record.{Told, all_told, RecordsAt, RecordsFail}
+use Rattle.fleet_wire.specs.Question.{Asked, IsAsked, IsQuestion, QuestionFails}
+use Rattle.fleet_wire.specs.Record.{Told, IsPlainRecord, RecordsAt, RecordsFail}
 use Rattle.fleet_wire.specs.declared.fault.ReadFault.{ReadFault}
-use Rattle.fleet_wire.specs.declared.fault.ReadFault.TheVariants.{TooShort, TooLong, QuestionCount}
+use Rattle.fleet_wire.specs.declared.fault.ReadFault.TheVariants.{TooShort, TooLong, Truncated, BadLabel, BadPointer, LongName, BadRdata, QuestionCount, OutOfMemory}
 use Rattle.fleet_wire.specs.declared.header.Header.{Header}
-use Rattle.fleet_wire.specs.declared.message.Message.{Message}
 
--- the header in the first twelve octets
+-- the header in the first twelve octets (RFC 1035 4.1.1)
 abbrev pub header_of : List ℕ → Header
 header_of m = record {
   id = u16_at m 0;
@@ -21,20 +21,42 @@ header_of m = record {
   counts = u16_at m 4 ∷ u16_at m 6 ∷ u16_at m 8 ∷ u16_at m 10 ∷ [];
 }
 
--- m has a header and a question, which ends before past
-pub record IsQuery (m : List ℕ) (h : Header) (q : Asked) (past : ℕ) : Type 0 where
+-- the fields of four bits, whatever the message was
+pub record IsHeader (h : Header) : Type 0 where
+  pub opcode : h.opcode < 16
+  pub rcode : h.rcode < 16
+
+-- m has 12 to 512 octets, and counts one question
+pub record HasOneQuestion (m : List ℕ) : Type 0 where
   pub long : 12 ≤ length m
   pub short : length m ≤ 512
   pub one : u16_at m 4 ≡ 1
+
+-- the first fault of a header
+abbrev pub HeaderFails : List ℕ → ReadFault → Type 0
+HeaderFails m TooShort = length m < 12
+HeaderFails m TooLong = 512 < length m
+HeaderFails m QuestionCount = (12 ≤ length m) × (length m ≤ 512) × (u16_at m 4 ≢ 1)
+HeaderFails m Truncated = ⊥
+HeaderFails m BadLabel = ⊥
+HeaderFails m BadPointer = ⊥
+HeaderFails m LongName = ⊥
+HeaderFails m BadRdata = ⊥
+HeaderFails m OutOfMemory = ⊥
+
+-- m has a header and a question, which ends before past; whatever follows is free
+pub record IsQuery (m : List ℕ) (h : Header) (q : Asked) (past : ℕ) : Type 0 where
+  pub counted : HasOneQuestion m
   pub header : h ≡ header_of m
   pub question : IsQuestion m 12 q past
 
 -- the first fault of header and question
-pub data QueryFails (m : List ℕ) (f : ReadFault) : Type 0 where
-  too_short : length m < 12 → f ≡ TooShort → QueryFails m f
-  too_long : 512 < length m → f ≡ TooLong → QueryFails m f
-  other_count : 12 ≤ length m → length m ≤ 512 → u16_at m 4 ≢ 1 → f ≡ QuestionCount → QueryFails m f
-  no_question : 12 ≤ length m → length m ≤ 512 → u16_at m 4 ≡ 1 → QuestionFails m 12 f → QueryFails m f
+abbrev pub QueryFails : List ℕ → ReadFault → Type 0
+QueryFails m f = HeaderFails m f ⊎ (HasOneQuestion m × QuestionFails m 12 f)
+
+-- the header and the question have no fault
+abbrev pub HasQuery : List ℕ → Type 0
+HasQuery m = (q : Asked) × (past : ℕ) × IsQuery m (header_of m) q past
 
 -- a message without where it lies in memory
 pub record Reply : Type 0 where
@@ -43,8 +65,16 @@ pub record Reply : Type 0 where
   pub answer : List Told
   pub authority : List Told
 
-abbrev pub reply_of : {A : Type 0} → Message A → Reply
-reply_of r = record { header = r.header; question = asked r.question; answer = all_told r.answer.items; authority = all_told r.authority.items }
+abbrev pub reply_with : Header → Asked → List Told → List Told → Reply
+reply_with header question answer authority = record { header = header; question = question; answer = answer; authority = authority }
+
+-- What every reply that was read meets: a lawful header and question, plain records whatever their class, and none of them where it was cut off.
+pub record IsRead (r : Reply) : Type 0 where
+  pub header : IsHeader r.header
+  pub question : IsAsked r.question
+  pub answer : AllByRecursion IsPlainRecord r.answer
+  pub authority : AllByRecursion IsPlainRecord r.authority
+  pub cut : IsTrue r.header.tc → (r.answer ≡ []) × (r.authority ≡ [])
 
 -- the sections behind the question: where the message says that it was cut off, none is read
 abbrev pub SectionsAt : List ℕ → ℕ → Bool → List Told → List Told → Type 0

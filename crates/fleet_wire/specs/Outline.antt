@@ -1,13 +1,12 @@
--- What a reply that is to be written says, and its octets.
-use Rattle.std.specs.Prelude.{◌≡◌, ℕ, ◌+◌, ◌*◌, ◌/◌, ◌%◌, ◌<◌, ◌≤◌, List, [], ◌∷◌, ◌++◌, length, Bool, true, false, Option, Some, None, if◌then◌else◌, nat_le}
+-- What a reply that is to be written says, and its octets (RFC 1035 4.1).
+use Rattle.std.specs.Prelude.{◌≡◌, ℕ, ◌+◌, ◌*◌, ◌<◌, ◌≤◌, List, [], ◌∷◌, ◌++◌, length, Bool, true, false, Option, Some, None, if◌then◌else◌, nat_le}
 use Rattle.std.specs.List.{flat_map, AllByRecursion}
-use Rattle.fleet_name.specs.Name.{wire, lower_all, IsName}
-use Rattle.fleet_wire.specs.Question.{Asked}
+use Rattle.fleet_name.specs.Name.{wire, IsName}
+use Rattle.fleet_wire.specs.Number.{u16_octets, u32_octets}
+use Rattle.fleet_wire.specs.Question.{Asked, IsAsked}
 use Rattle.fleet_wire.specs.Record.{Told}
-use Rattle.fleet_wire.specs.Shape.{shape_of}
+use Rattle.fleet_wire.specs.Shape.{IsPlain}
 use Rattle.fleet_wire.specs.Message.{Reply}
-use Rattle.fleet_wire.specs.declared.shape.Part.{Part}
-use Rattle.fleet_wire.specs.declared.shape.Part.TheVariants.{Plain, Name}
 
 -- the header fields, the question if any, and the records of two sections
 pub record Sketch : Type 0 where
@@ -20,13 +19,10 @@ pub record Sketch : Type 0 where
   pub answer : List Told
   pub authority : List Told
 
--- numbers, the high octet first
-abbrev pub u16_octets : ℕ → List ℕ
-u16_octets n = n / 256 ∷ n % 256 ∷ []
+abbrev pub sketch : ℕ → ℕ → Bool → ℕ → Bool → Option Asked → List Told → List Told → Sketch
+sketch id opcode rd rcode tc question answer authority = record { id = id; opcode = opcode; rd = rd; rcode = rcode; tc = tc; question = question; answer = answer; authority = authority }
 
-abbrev pub u32_octets : ℕ → List ℕ
-u32_octets n = u16_octets (n / 65536) ++ u16_octets (n % 65536)
-
+-- the bit of a flag
 abbrev pub flag : Bool → ℕ → ℕ
 flag b n = if b then n else 0
 
@@ -82,41 +78,33 @@ with_authority o r = record o { authority = o.authority ++ r ∷ [] }
 unfoldable pub octets_of_outline : Sketch → List ℕ
 octets_of_outline o = if nat_le (length (whole_octets o)) 512 then whole_octets o else cut_octets o
 
--- RDATA of a shape with each name in full and in lower case
-abbrev pub ArePlain : List Part → List ℕ → Type 0
-ArePlain [] octets = octets ≡ []
-ArePlain (Plain n ∷ parts) octets = (first : List ℕ) × (others : List ℕ) × (octets ≡ first ++ others) × (length first ≡ n) × ArePlain parts others
-ArePlain (Name ∷ parts) octets = (n : List (List ℕ)) × (others : List ℕ) × (octets ≡ wire n ++ others) × IsName n × ArePlain parts others
-
-abbrev pub HasShape : Option (List Part) → List ℕ → Type 0
-HasShape None octets = Unit {0}
-HasShape (Some parts) octets = ArePlain parts octets
-
--- RDATA of a type, without pointers and in lower case
-abbrev pub IsPlain : ℕ → List ℕ → Type 0
-IsPlain rtype octets = HasShape (shape_of rtype) octets
-
--- the labels of a question in its own case, and its name
-pub record IsAsked (q : Asked) : Type 0 where
-  pub labels : List (List ℕ)
-  pub spelled : q.spelled ≡ wire labels
-  pub name : q.name ≡ lower_all labels
-  pub named : IsName q.name
-
--- a record whose RDATA reads back
-pub record IsPlainRecord (r : Told) : Type 0 where
+-- a line: its owner is a name
+pub record IsLine (r : Told) : Type 0 where
   pub name : IsName r.name
-  pub rdata : IsPlain r.rtype r.rdata
+  pub class : r.class ≡ 1
 
--- an outline with a question, of plain records, that fits a message
-pub record ReadsBack (o : Sketch) (q : Asked) : Type 0 where
+abbrev pub IsAskedIfAny : Option Asked → Type 0
+IsAskedIfAny None = Unit {0}
+IsAskedIfAny (Some q) = IsAsked q
+
+-- what every outline of a program meets
+pub record IsSketch (o : Sketch) : Type 0 where
   pub opcode : o.opcode < 16
   pub rcode : o.rcode < 16
-  pub whole : o.tc ≡ false
+  pub question : IsAskedIfAny o.question
+  pub answer : AllByRecursion IsLine o.answer
+  pub authority : AllByRecursion IsLine o.authority
+
+-- the RDATA is plain for its type
+abbrev pub HasPlainRdata : Told → Type 0
+HasPlainRdata r = IsPlain r.rtype r.rdata
+
+-- an outline that is to be read again: with a question, TC clear, plain RDATA, and within a message
+pub record IsWhole (o : Sketch) (q : Asked) : Type 0 where
+  pub clear : o.tc ≡ false
   pub question : o.question ≡ Some q
-  pub asked : IsAsked q
-  pub answer : AllByRecursion IsPlainRecord o.answer
-  pub authority : AllByRecursion IsPlainRecord o.authority
+  pub answer : AllByRecursion HasPlainRdata o.answer
+  pub authority : AllByRecursion HasPlainRdata o.authority
   pub fits : length (whole_octets o) ≤ 512
 
 -- the reply that such an outline is

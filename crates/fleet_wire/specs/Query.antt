@@ -1,8 +1,9 @@
--- What a query to an upstream is, as octets.
+-- What a query to an upstream is, as octets (RFC 1035 4.1.1, 4.1.2).
 use Rattle.std.specs.Prelude.{ℕ, List, [], ◌∷◌, ◌++◌, true, false}
 use Rattle.fleet_name.specs.Name.{wire}
 use Rattle.fleet_wire.specs.Question.{Asked}
-use Rattle.fleet_wire.specs.Outline.{u16_octets, asked_octets}
+use Rattle.fleet_wire.specs.Number.{u16_octets}
+use Rattle.fleet_wire.specs.Outline.{asked_octets}
 use Rattle.fleet_wire.specs.declared.header.Header.{Header}
 
 -- the question with its name in lower case
@@ -13,8 +14,10 @@ lowered q = record { spelled = wire q.name; name = q.name; rtype = q.rtype; clas
 abbrev pub query_head : ℕ → List ℕ
 query_head id = u16_octets id ++ (u16_octets 256 ++ (u16_octets 1 ++ (u16_octets 0 ++ (u16_octets 0 ++ u16_octets 0))))
 
+-- the query's octets
 abbrev pub query_octets : ℕ → Asked → List ℕ
 query_octets id q = query_head id ++ asked_octets (lowered q)
 
+-- the header that is read again
 abbrev pub query_header : ℕ → Header
 query_header id = record { id = id; response = false; opcode = 0; aa = false; tc = false; rd = true; rcode = 0; counts = 1 ∷ 0 ∷ 0 ∷ 0 ∷ [] }

@@ -1,13 +1,14 @@
--- What a question is, without where it lies in memory.
+-- What a question is, without where it lies in memory (RFC 1035 4.1.2).
 use Rattle.std.specs.Prelude.{◌≡◌, ℕ, ◌+◌, ◌<◌, ◌≤◌, ◌⊎◌, List, length, Option, Some, None}
-use Rattle.fleet_name.specs.Name.{wire, lower_all, IsName}
+use Rattle.fleet_name.specs.Name.{wire, lower, lower_all, IsName}
 use Rattle.fleet_wire.specs.Number.{u16_at}
-use Rattle.fleet_wire.specs.Reading.{Stands, Reads}
-use Rattle.fleet_wire.specs.Faults.{NameFails}
+use Rattle.fleet_wire.specs.NameAt.{NameAt, ReadsName}
+use Rattle.fleet_wire.specs.Fault.{NameFails}
 use Rattle.fleet_wire.specs.declared.fault.ReadFault.{ReadFault}
 use Rattle.fleet_wire.specs.declared.fault.ReadFault.TheVariants.{Truncated}
 use Rattle.fleet_wire.specs.declared.question.Question.{Question}
 
+-- a question: its name in its own spelling, as octets, and as labels in lower case
 pub record Asked : Type 0 where
   pub spelled : List ℕ
   pub name : List (List ℕ)
@@ -15,7 +16,7 @@ pub record Asked : Type 0 where
   pub class : ℕ
 
 abbrev pub asked : {A : Type 0} → Question A → Asked
-asked q = record { spelled = q.spelled.items; name = q.name; rtype = q.rtype; class = q.class }
+asked q = record { spelled = q.spelled; name = q.name; rtype = q.rtype; class = q.class }
 
 abbrev pub asked_in : {A : Type 0} → Option (Question A) → Option Asked
 asked_in None = None
@@ -25,7 +26,7 @@ asked_in (Some q) = Some (asked q)
 pub record IsQuestion (m : List ℕ) (p : ℕ) (q : Asked) (e : ℕ) : Type 0 where
   pub labels : List (List ℕ)
   pub past : ℕ
-  pub stands : Stands m p p labels past
+  pub stands : NameAt m p p labels past
   pub spelled : q.spelled ≡ wire labels
   pub name : q.name ≡ lower_all labels
   pub named : IsName q.name
@@ -36,4 +37,13 @@ pub record IsQuestion (m : List ℕ) (p : ℕ) (q : Asked) (e : ℕ) : Type 0 wh
 
 -- the first fault of a question at p: its name's, or that the message ends too early
 abbrev pub QuestionFails : List ℕ → ℕ → ReadFault → Type 0
-QuestionFails m p f = NameFails m p f ⊎ ((n : List (List ℕ)) × (past : ℕ) × Reads m p n past × (length m < past + 4) × (f ≡ Truncated))
+QuestionFails m p f = NameFails m p f ⊎ ((n : List (List ℕ)) × (past : ℕ) × ReadsName m p n past × (length m < past + 4) × (f ≡ Truncated))
+
+-- what every question of a program meets: its spelling in lower case is its name in full
+pub record IsAsked (q : Asked) : Type 0 where
+  pub spelled : lower q.spelled ≡ wire q.name
+  pub named : IsName q.name
+
+-- a question stands at p
+abbrev pub HasQuestion : List ℕ → ℕ → Type 0
+HasQuestion m p = (q : Asked) × (past : ℕ) × IsQuestion m p q past

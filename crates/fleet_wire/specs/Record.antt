@@ -1,13 +1,15 @@
--- What a record is, without where it lies in memory, and what records stand at a place of a message.
+-- What a record is, without where it lies in memory, and what records stand at a place of a message (RFC 1035 4.1.3).
 use Rattle.std.specs.Prelude.{◌≡◌, ℕ, ◌+◌, ◌<◌, ◌≤◌, ◌⊎◌, List, [], ◌∷◌, length, map}
+use Rattle.fleet_name.specs.Name.{IsName}
 use Rattle.fleet_wire.specs.Number.{u16_at, u32_at}
-use Rattle.fleet_wire.specs.Reading.{Reads}
-use Rattle.fleet_wire.specs.Faults.{NameFails}
-use Rattle.fleet_wire.specs.Shape.{shape_of, ShapeAt, ShapeFails}
+use Rattle.fleet_wire.specs.NameAt.{ReadsName}
+use Rattle.fleet_wire.specs.Fault.{NameFails}
+use Rattle.fleet_wire.specs.Shape.{shape_of, ShapeAt, ShapeFails, IsPlain}
 use Rattle.fleet_wire.specs.declared.fault.ReadFault.{ReadFault}
 use Rattle.fleet_wire.specs.declared.fault.ReadFault.TheVariants.{Truncated}
 use Rattle.fleet_wire.specs.declared.record.Record.{Record}
 
+-- a record: its owner as labels, the TTL as it was read, and its RDATA
 pub record Told : Type 0 where
   pub name : List (List ℕ)
   pub rtype : ℕ
@@ -16,7 +18,7 @@ pub record Told : Type 0 where
   pub rdata : List ℕ
 
 abbrev pub told : {A : Type 0} → Record A → Told
-told r = record { name = r.name; rtype = r.rtype; class = r.class; ttl = r.ttl; rdata = r.rdata.items }
+told r = record { name = r.name; rtype = r.rtype; class = r.class; ttl = r.ttl; rdata = r.rdata }
 
 abbrev pub all_told : {A : Type 0} → List (Record A) → List Told
 all_told rs = map told rs
@@ -24,7 +26,7 @@ all_told rs = map told rs
 -- the record r stands at p, and ends before e: a name, ten octets, and the RDATA that the last two of them count
 pub record RecordAt (m : List ℕ) (p : ℕ) (r : Told) (e : ℕ) : Type 0 where
   pub past : ℕ
-  pub name : Reads m p r.name past
+  pub name : ReadsName m p r.name past
   pub room : past + 10 + u16_at m (past + 8) ≤ length m
   pub rtype : r.rtype ≡ u16_at m past
   pub class : r.class ≡ u16_at m (past + 2)
@@ -42,7 +44,7 @@ FixedFails m past f = (IsCut m past × (f ≡ Truncated)) ⊎ ((past + 10 + u16_
 
 -- the first fault of a record at p: its name's, or one behind the name
 abbrev pub RecordFails : List ℕ → ℕ → ReadFault → Type 0
-RecordFails m p f = NameFails m p f ⊎ ((n : List (List ℕ)) × (past : ℕ) × Reads m p n past × FixedFails m past f)
+RecordFails m p f = NameFails m p f ⊎ ((n : List (List ℕ)) × (past : ℕ) × ReadsName m p n past × FixedFails m past f)
 
 -- the records stand at p in a row, and end before e
 abbrev pub RecordsAt : List ℕ → ℕ → List Told → ℕ → Type 0
@@ -52,3 +54,8 @@ RecordsAt m p (r ∷ rs) e = (past : ℕ) × RecordAt m p r past × RecordsAt m 
 -- the first fault of so many records at p: behind fewer of them stands none
 abbrev pub RecordsFail : List ℕ → ℕ → ℕ → ReadFault → Type 0
 RecordsFail m p count f = (rs : List Told) × (past : ℕ) × RecordsAt m p rs past × (length rs < count) × RecordFails m past f
+
+-- a record whose RDATA has no pointer: its names in full and in lower case
+pub record IsPlainRecord (r : Told) : Type 0 where
+  pub name : IsName r.name
+  pub rdata : IsPlain r.rtype r.rdata

@@ -1,8 +1,8 @@
--- What RDATA holds: a table from types to parts, and what parts stand at a place of a message.
+-- What RDATA holds: a table from types to parts, and what parts stand at a place of a message (RFC 1035 3.3, RFC 2782).
 use Rattle.std.specs.Prelude.{◌≡◌, ◌≢◌, ℕ, ◌+◌, ◌<◌, ◌≤◌, ◌⊎◌, List, [], ◌∷◌, ◌++◌, length, take, drop, Option, Some, None, if◌then◌else◌, nat_eq, ◌||◌}
-use Rattle.fleet_name.specs.Name.{wire}
-use Rattle.fleet_wire.specs.Reading.{Reads}
-use Rattle.fleet_wire.specs.Faults.{NameFails}
+use Rattle.fleet_name.specs.Name.{wire, IsName}
+use Rattle.fleet_wire.specs.NameAt.{ReadsName}
+use Rattle.fleet_wire.specs.Fault.{NameFails}
 use Rattle.fleet_wire.specs.declared.fault.ReadFault.{ReadFault}
 use Rattle.fleet_wire.specs.declared.fault.ReadFault.TheVariants.{Truncated, BadRdata}
 use Rattle.fleet_wire.specs.declared.shape.Part.{Part}
@@ -23,13 +23,13 @@ shape_of t =
 abbrev pub PartsAt : List ℕ → List Part → ℕ → List ℕ → ℕ → Type 0
 PartsAt m [] p octets e = (octets ≡ []) × (e ≡ p)
 PartsAt m (Plain n ∷ parts) p octets e = (others : List ℕ) × (p + n ≤ length m) × PartsAt m parts (p + n) others e × (octets ≡ take n (drop p m) ++ others)
-PartsAt m (Name ∷ parts) p octets e = (n : List (List ℕ)) × (past : ℕ) × (others : List ℕ) × Reads m p n past × PartsAt m parts past others e × (octets ≡ wire n ++ others)
+PartsAt m (Name ∷ parts) p octets e = (n : List (List ℕ)) × (past : ℕ) × (others : List ℕ) × ReadsName m p n past × PartsAt m parts past others e × (octets ≡ wire n ++ others)
 
 -- the first fault of the parts at p
 abbrev pub PartsFail : List ℕ → List Part → ℕ → ReadFault → Type 0
 PartsFail m [] p f = ⊥
 PartsFail m (Plain n ∷ parts) p f = ((length m < p + n) × (f ≡ Truncated)) ⊎ ((p + n ≤ length m) × PartsFail m parts (p + n) f)
-PartsFail m (Name ∷ parts) p f = NameFails m p f ⊎ ((n : List (List ℕ)) × (past : ℕ) × Reads m p n past × PartsFail m parts past f)
+PartsFail m (Name ∷ parts) p f = NameFails m p f ⊎ ((n : List (List ℕ)) × (past : ℕ) × ReadsName m p n past × PartsFail m parts past f)
 
 -- k octets of RDATA at p, read by their shape
 abbrev pub ShapeAt : List ℕ → ℕ → ℕ → Option (List Part) → List ℕ → Type 0
@@ -40,3 +40,17 @@ ShapeAt m p k (Some parts) octets = PartsAt m parts p octets (p + k)
 abbrev pub ShapeFails : List ℕ → ℕ → ℕ → Option (List Part) → ReadFault → Type 0
 ShapeFails m p k None f = ⊥
 ShapeFails m p k (Some parts) f = PartsFail m parts p f ⊎ ((octets : List ℕ) × (e : ℕ) × PartsAt m parts p octets e × (e ≢ p + k) × (f ≡ BadRdata))
+
+-- RDATA of a shape with each name in full and in lower case
+abbrev pub ArePlain : List Part → List ℕ → Type 0
+ArePlain [] octets = octets ≡ []
+ArePlain (Plain n ∷ parts) octets = (first : List ℕ) × (others : List ℕ) × (octets ≡ first ++ others) × (length first ≡ n) × ArePlain parts others
+ArePlain (Name ∷ parts) octets = (n : List (List ℕ)) × (others : List ℕ) × (octets ≡ wire n ++ others) × IsName n × ArePlain parts others
+
+abbrev pub HasShape : Option (List Part) → List ℕ → Type 0
+HasShape None octets = Unit {0}
+HasShape (Some parts) octets = ArePlain parts octets
+
+-- RDATA of a type, without pointers and in lower case
+abbrev pub IsPlain : ℕ → List ℕ → Type 0
+IsPlain rtype octets = HasShape (shape_of rtype) octets

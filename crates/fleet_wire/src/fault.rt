@@ -5,17 +5,26 @@ ghost use Rattle.fleet_wire.specs.declared.fault.ReadFault.TheVariants.{OutOfMem
 
 use std::alloc::{AllocError, AllocFailed};
 
-/// Why a message can't be read.
+/// Why a message can't be read: the first fault that it meets, in the order of its octets.
 #[derive(Clone, Copy, Debug, PartialEq, Eq)]
 pub enum ReadFault {
+    /// It has under 12 octets, so no header (RFC 1035 4.1.1).
     TooShort,
+    /// It has over 512 octets (RFC 1035 2.3.4).
     TooLong,
+    /// It ends within a name, a question or a record.
     Truncated,
+    /// A length octet has the top bits 01 or 10 (RFC 1035 4.1.4).
     BadLabel,
+    /// A pointer doesn't lead to a place before the run of labels that holds it (RFC 1035 4.1.4).
     BadPointer,
+    /// A name would pass 255 octets (RFC 1035 2.3.4).
     LongName,
+    /// The parts of RDATA end at another octet than the RDATA (RFC 1035 3.3).
     BadRdata,
+    /// It has no question, or several (RFC 1035 4.1.1).
     QuestionCount,
+    /// There was no memory for what was read.
     OutOfMemory,
 }
 

@@ -1,26 +1,32 @@
-//! The header of a message.
+//! The header of a message (RFC 1035 4.1.1).
 
-ghost use Rattle.std.specs.Prelude.{◌≡◌, ℕ, ◌<◌, ◌≤◌, length, MatchOption};
-ghost use Rattle.fleet_wire.specs.Message.{header_of};
+ghost use Rattle.std.specs.Prelude.{◌≡◌, ℕ, ◌<◌, ◌≤◌, length, IfSome, MatchOption};
+ghost use Rattle.fleet_wire.specs.Message.{header_of, IsHeader};
 
 use crate::number::short_at;
 
-/// The header of a message.
+/// The header of a message (RFC 1035 4.1.1). RA and the Z bits are not kept.
 #[derive(Clone, Copy, Debug, PartialEq, Eq)]
 pub struct Header {
+    /// ID: a reply has that of its query.
     pub id: u16,
-    /// Whether it is a reply.
+    /// QR: whether it is a reply.
     pub response: bool,
+    /// Opcode, 0 to 15: 0 is a standard query.
     pub opcode: u8,
+    /// AA: whether the answer is an authority's.
     pub aa: bool,
+    /// TC: whether the message was cut off.
     pub tc: bool,
+    /// RD: whether recursion is wanted.
     pub rd: bool,
+    /// RCODE, 0 to 15: 0 is no error, 3 a name error.
     pub rcode: u8,
-    /// How many questions, answer, authority and additional records follow.
+    /// How many questions, answer, authority and additional records the message says that it has.
     pub counts: [u16; 4],
 }
 
-/// The header in the first octets of a message.
+// The header in the first octets of a message.
 pub(crate) fn header_at(message: &[u8]) -> Header
     requires { 12 ≤ length message.now }
     ensures { result ≡ header_of message.now }
@@ -43,9 +49,10 @@ pub(crate) fn header_at(message: &[u8]) -> Header
     }
 }
 
-/// The header of a message, if it is long enough for one.
+/// The header of a message, or `None` where it has under 12 octets.
 pub fn read_header(message: &[u8]) -> Option<Header>
-    ensures { MatchOption result (length message.now < 12) (λ h. (12 ≤ length message.now) × (h ≡ header_of message.now)) }
+    ensures found { MatchOption result (length message.now < 12) (λ h. (12 ≤ length message.now) × (h ≡ header_of message.now)) }
+    ensures lawful { IfSome result (λ h. IsHeader h) }
 {
     if message.len() < 12 {
         return None;

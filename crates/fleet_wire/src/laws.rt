@@ -1,16 +1,33 @@
-//! Laws of messages.
+//! Laws of messages. Each function does nothing: its contract is the law.
 
 ghost use Rattle.std.specs.Prelude.{◌≡◌, ℕ, List, length};
-ghost use Rattle.fleet_wire.specs.Message.{IsQuery, Reply, IsReply, ReplyFails};
-ghost use Rattle.fleet_wire.specs.Question.{Asked};
-ghost use Rattle.fleet_wire.specs.Outline.{Sketch, ReadsBack, octets_of_outline, reply_sketched};
 ghost use Rattle.fleet_name.specs.Name.{IsName};
+ghost use Rattle.fleet_wire.specs.NameAt.{ReadsName};
+ghost use Rattle.fleet_wire.specs.Question.{Asked};
+ghost use Rattle.fleet_wire.specs.Message.{IsQuery, QueryFails, Reply, IsReply, ReplyFails};
+ghost use Rattle.fleet_wire.specs.Outline.{Sketch, IsSketch, IsWhole, octets_of_outline, reply_sketched};
 ghost use Rattle.fleet_wire.specs.Query.{lowered, query_octets, query_header};
+ghost use Rattle.fleet_wire.specs.declared.header.Header.{Header};
 ghost use Rattle.fleet_wire.specs.declared.fault.ReadFault.{ReadFault};
+
+/// A place of a message has one name at most.
+pub fn one_name()
+    ensures { (m : List ℕ) (p : ℕ) (a b : List (List ℕ)) (x y : ℕ) → ReadsName m p a x → ReadsName m p b y → (a ≡ b) × (x ≡ y) }
+{}
+
+/// A message is one query at most.
+pub fn one_query()
+    ensures { (m : List ℕ) (h k : Header) (a b : Asked) (x y : ℕ) → IsQuery m h a x → IsQuery m k b y → (h ≡ k) × (a ≡ b) × (x ≡ y) }
+{}
 
 /// A message is one reply at most.
 pub fn one_reply()
     ensures { (m : List ℕ) (a b : Reply) → IsReply m a → IsReply m b → a ≡ b }
+{}
+
+/// What is a query has no fault.
+pub fn query_or_fault()
+    ensures { (m : List ℕ) (h : Header) (q : Asked) (past : ℕ) (f : ReadFault) → IsQuery m h q past → QueryFails m f → ⊥ }
 {}
 
 /// What is a reply has no fault.
@@ -18,9 +35,20 @@ pub fn reply_or_fault()
     ensures { (m : List ℕ) (r : Reply) (f : ReadFault) → IsReply m r → ReplyFails m f → ⊥ }
 {}
 
-/// What is written of plain records is read again.
-pub fn reads_back()
-    ensures { (o : Sketch) (q : Asked) → ReadsBack o q → IsReply (octets_of_outline o) (reply_sketched o q) }
+/// A message has one first fault as a query at most.
+pub fn one_query_fault()
+    ensures { (m : List ℕ) (f g : ReadFault) → QueryFails m f → QueryFails m g → f ≡ g }
+{}
+
+/// A message has one first fault as a reply at most.
+pub fn one_reply_fault()
+    ensures { (m : List ℕ) (f g : ReadFault) → ReplyFails m f → ReplyFails m g → f ≡ g }
+{}
+
+/// The octets of an outline with a question, plain RDATA and TC clear are read as its lines, if all
+/// of it fits a message.
+pub fn reply_reads_back()
+    ensures { (o : Sketch) (q : Asked) → IsSketch o → IsWhole o q → IsReply (octets_of_outline o) (reply_sketched o q) }
 {}
 
 /// A query is read again, with its name in lower case.

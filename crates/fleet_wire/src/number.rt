@@ -1,9 +1,11 @@
-//! Numbers in a message.
+//! Numbers in a message, the high octet first (RFC 1035 2.3.2).
 
-ghost use Rattle.std.specs.Prelude.{◌≡◌, ℕ, ◌+◌, ◌≤◌, length};
-ghost use Rattle.fleet_wire.specs.Number.{u16_at, u32_at};
+ghost use Rattle.std.specs.Prelude.{◌≡◌, ℕ, ◌+◌, ◌≤◌, length, ◌++◌, OnOk};
+ghost use Rattle.fleet_wire.specs.Number.{u16_at, u32_at, u16_octets, u32_octets};
 
-/// The number in the two octets at a place.
+use std::alloc::{AllocError, Allocator};
+
+// The number in the two octets at a place.
 pub(crate) fn short_at(message: &[u8], at: usize) -> u16
     requires { at + 2 ≤ length message.now }
     ensures { result ≡ u16_at message.now at }
@@ -11,10 +13,27 @@ pub(crate) fn short_at(message: &[u8], at: usize) -> u16
     u16::from(message[at]) * 256 + u16::from(message[at + 1])
 }
 
-/// The number in the four octets at a place.
+// The number in the four octets at a place.
 pub(crate) fn long_at(message: &[u8], at: usize) -> u32
     requires { at + 4 ≤ length message.now }
     ensures { result ≡ u32_at message.now at }
 {
     u32::from(short_at(message, at)) * 65536 + u32::from(short_at(message, at + 2))
+}
+
+// Adds a number of two octets.
+pub(crate) fn push_short<A: Allocator>(out: &mut Vec<u8, A>, n: u16) -> Result<(), AllocError>
+    ensures { OnOk result (out.new.items ≡ out.old.items ++ u16_octets n) }
+{
+    out.push((n / 256) as u8)?;
+    out.push((n % 256) as u8)?;
+    Ok(())
+}
+
+// Adds a number of four octets.
+pub(crate) fn push_long<A: Allocator>(out: &mut Vec<u8, A>, n: u32) -> Result<(), AllocError>
+    ensures { OnOk result (out.new.items ≡ out.old.items ++ u32_octets n) }
+{
+    push_short(out, (n / 65536) as u16)?;
+    push_short(out, (n % 65536) as u16)
 }

@@ -1,10 +1,10 @@
 //! Whether RDATA is plain: each name in full and in lower case.
 
-ghost use Rattle.std.specs.Prelude.{◌≡◌, ℕ, List, ◌++◌, IsTrue, IsFalse, MatchOption};
+ghost use Rattle.std.specs.Prelude.{◌≡◌, ℕ, List, ◌++◌, ◌↔◌, IsTrue, IsFalse, MatchOption};
 ghost use Rattle.fleet_name.specs.Name.{wire, lower, IsName};
-ghost use Rattle.fleet_wire.specs.Outline.{ArePlain, IsPlain};
+ghost use Rattle.fleet_wire.specs.Shape.{ArePlain, IsPlain};
 
-use crate::reading::{Step, step_at};
+use crate::name_reader::{Step, step_at};
 use crate::shape::{Part, parts_of};
 
 fn is_lower(label: &[u8]) -> bool
@@ -66,10 +66,10 @@ fn are_plain(parts: &[Part], octets: &[u8]) -> bool
     rest.is_empty()
 }
 
-/// Whether RDATA has its type's shape, with each name in full and in lower case.
+/// Whether RDATA has the shape of its type, with each name in full and in lower case. RDATA of a
+/// type without names is plain, whatever it holds.
 pub fn plain_rdata(rtype: u16, rdata: &[u8]) -> bool
-    ensures yes { IsTrue result → IsPlain rtype rdata.now }
-    ensures no { IsFalse result → IsPlain rtype rdata.now → ⊥ }
+    ensures { IsTrue result ↔ IsPlain rtype rdata.now }
 {
     match parts_of(rtype) {
         None => true,

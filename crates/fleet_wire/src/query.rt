@@ -1,29 +1,129 @@
-//! Queries to an upstream.
+//! Queries: the header and the question of a message (RFC 1035 4.1.1, 4.1.2).
 
-ghost use Rattle.std.specs.Prelude.{◌≡◌, ℕ, IfOk};
-ghost use Rattle.fleet_wire.specs.Question.{asked};
-ghost use Rattle.fleet_wire.specs.Query.{query_octets};
+ghost use Rattle.std.specs.Prelude.{◌≡◌, ℕ, ◌+◌, ◌≤◌, ◌++◌, length, IfOk, OnOk, IfErr, MatchResult};
+ghost use Rattle.fleet_name.specs.Name.{labels_of, lower_all, IsSpelling};
+ghost use Rattle.fleet_wire.specs.Question.{Asked, asked, IsQuestion, QuestionFails, HasQuestion};
+ghost use Rattle.fleet_wire.specs.Fault.{OrMemory};
+ghost use Rattle.fleet_wire.specs.Message.{header_of, IsHeader, HasOneQuestion, HeaderFails, IsQuery, QueryFails, HasQuery};
+ghost use Rattle.fleet_wire.specs.Query.{query_head, query_octets, query_header, lowered};
+ghost use Rattle.fleet_wire.specs.declared.header.Header.{Header};
+ghost use Rattle.fleet_wire.specs.declared.fault.ReadFault.TheVariants.{OutOfMemory};
 
+use crate::fault::ReadFault;
+use crate::header::{Header, header_at};
+use crate::name_reader::{Spelled, name_of, spelled_at};
+use crate::number::{push_short, short_at};
 use crate::question::Question;
-use crate::writing::push_short;
+use fleet_name::Octets;
 use std::alloc::{AllocError, Allocator};
 
-/// The octets of a query: recursion is wanted, and the name is in lower case.
+// The header of a message of one question.
+pub(crate) fn counted_header(message: &[u8]) -> Result<Header, ReadFault>
+    ensures { MatchResult result (λ h. HasOneQuestion message.now × (h ≡ header_of message.now)) (HeaderFails message.now) }
+{
+    if message.len() < 12 {
+        return Err(ReadFault::TooShort);
+    }
+    if message.len() > 512 {
+        return Err(ReadFault::TooLong);
+    }
+    let header = header_at(message);
+    if header.counts[0] != 1 {
+        return Err(ReadFault::QuestionCount);
+    }
+    Ok(header)
+}
+
+// The question of a name that was spelled.
+fn question_of<A: Allocator + Clone>(
+    alloc: &A,
+    spelled: &Spelled,
+    rtype: u16,
+    class: u16,
+) -> Result<Question<A>, AllocError>
+    requires spelled { IsSpelling spelled.now.octets.items }
+    requires counted { spelled.now.labels ≡ length (labels_of spelled.now.octets.items) }
+    ensures { IfOk result (λ q. asked q ≡ record { spelled = spelled.now.octets.items; name = lower_all (labels_of spelled.now.octets.items); rtype = rtype; class = class }) }
+{
+    let name = name_of(alloc.clone()?, spelled)?;
+    let octets = Octets::copy_of(alloc.clone()?, spelled.octets.as_slice())?;
+    Ok(Question {
+        spelled: octets,
+        name,
+        rtype,
+        class,
+    })
+}
+
+// The question at a place of a message, and where it ends.
+pub(crate) fn read_question<A: Allocator + Clone>(
+    alloc: &A,
+    message: &[u8],
+    offset: usize,
+) -> Result<(Question<A>, usize), ReadFault>
+    ensures found { IfOk result (λ r. IsQuestion message.now offset (asked r.0) r.1) }
+    ensures fault { IfErr result (λ f. OrMemory f (QuestionFails message.now offset f)) }
+    ensures memory { IfErr result (λ f. f ≡ OutOfMemory → HasQuestion message.now offset) }
+{
+    let spelled = spelled_at(message, offset)?;
+    let past = spelled.end;
+    if message.len() - past < 4 {
+        return Err(ReadFault::Truncated);
+    }
+    let rtype = short_at(message, past);
+    let class = short_at(message, past + 2);
+    let question = question_of(alloc, &spelled, rtype, class)?;
+    Ok((question, past + 4))
+}
+
+/// The header and the question of a message (RFC 1035 4.1.1, 4.1.2). What follows the question is
+/// not looked at.
+///
+/// The first fault is told: `TooShort` under 12 octets, `TooLong` over 512, `QuestionCount` where
+/// there is not one question, then what the question's name meets, and `Truncated` where its type
+/// or class is cut off. `OutOfMemory` is told only where there is none of these.
+pub fn read_query<A: Allocator + Clone>(
+    alloc: A,
+    message: &[u8],
+) -> Result<(Header, Question<A>), ReadFault>
+    ensures found { IfOk result (λ r. (past : ℕ) × IsQuery message.now r.0 (asked r.1) past) }
+    ensures lawful { IfOk result (λ r. IsHeader r.0) }
+    ensures fault { IfErr result (λ f. OrMemory f (QueryFails message.now f)) }
+    ensures only { (h : Header) (q : Asked) (past : ℕ) → IsQuery message.now h q past → IfErr result (λ f. f ≡ OutOfMemory) }
+    ensures memory { IfErr result (λ f. f ≡ OutOfMemory → HasQuery message.now) }
+{
+    let header = counted_header(message)?;
+    let (question, _) = read_question(&alloc, message, 12)?;
+    Ok((header, question))
+}
+
+// Adds a header that wants recursion alone and counts one question.
+fn push_query_head<A: Allocator>(out: &mut Vec<u8, A>, id: u16) -> Result<(), AllocError>
+    ensures { OnOk result (out.new.items ≡ out.old.items ++ query_head id) }
+{
+    push_short(out, id)?;
+    push_short(out, 0x0100)?;
+    push_short(out, 1)?;
+    push_short(out, 0)?;
+    push_short(out, 0)?;
+    push_short(out, 0)
+}
+
+/// The octets of a query to an upstream: recursion alone is wanted (RD, RFC 1035 4.1.1), and the
+/// name is in lower case. `Err` where there is no memory for them.
 pub fn write_query<A: Allocator, B: Allocator>(
     alloc: A,
     id: u16,
     question: &Question<B>,
 ) -> Result<Vec<u8, A>, AllocError>
-    ensures { IfOk result (λ v. v.items ≡ query_octets id (asked question.now)) }
+    ensures octets { IfOk result (λ v. v.items ≡ query_octets id (asked question.now)) }
+    // It is read again.
+    ensures reads_back { IfOk result (λ v. IsQuery v.items (query_header id) (lowered (asked question.now)) (length v.items)) }
 {
+    let name = question.name.octets();
     let mut octets = Vec::new(alloc);
-    push_short(&mut octets, id)?;
-    push_short(&mut octets, 256)?;
-    push_short(&mut octets, 1)?;
-    push_short(&mut octets, 0)?;
-    push_short(&mut octets, 0)?;
-    push_short(&mut octets, 0)?;
-    octets.extend_from_slice(question.name.octets())?;
+    push_query_head(&mut octets, id)?;
+    octets.extend_from_slice(name)?;
     push_short(&mut octets, question.rtype)?;
     push_short(&mut octets, question.class)?;
     Ok(octets)

@@ -1,18 +1,22 @@
-//! What RDATA holds.
+//! What RDATA holds (RFC 1035 3.3, RFC 2782).
 
-ghost use Rattle.std.specs.Prelude.{◌≡◌, ℕ, ◌+◌, ◌<◌, ◌≤◌, length, take, drop, Some, None, IfOk, IfErr, OnOk, MatchOption, MatchResult};
-ghost use Rattle.fleet_wire.specs.Faults.{OrMemory};
+ghost use Rattle.std.specs.Prelude.{◌≡◌, ℕ, ◌+◌, ◌<◌, ◌≤◌, List, ◌++◌, length, take, drop, Some, None, IfOk, IfErr, OnOk, MatchOption, MatchResult};
+ghost use Rattle.fleet_name.specs.Name.{lower, wire};
+ghost use Rattle.fleet_wire.specs.NameAt.{ReadsName};
+ghost use Rattle.fleet_wire.specs.Fault.{NameFails, OrMemory};
 ghost use Rattle.fleet_wire.specs.Shape.{shape_of, PartsAt, PartsFail, ShapeAt, ShapeFails};
 ghost use Rattle.fleet_wire.specs.declared.fault.ReadFault.TheVariants.{Truncated};
 
 use crate::fault::ReadFault;
-use crate::reading::read_name;
-use std::alloc::Allocator;
+use crate::name_reader::spelled_at;
+use crate::rtype::{CNAME, MB, MD, MF, MG, MINFO, MR, MX, NS, PTR, SOA, SRV};
+use fleet_name::Octets;
+use std::alloc::{AllocError, Allocator};
 
-/// A part of RDATA.
+// A part of RDATA.
 #[derive(Clone, Copy, Debug, PartialEq, Eq)]
 pub(crate) enum Part {
-    /// So many octets that are no name.
+    // So many octets that are no name.
     Plain(usize),
     Name,
 }
@@ -22,11 +26,11 @@ pub(crate) fn parts_of(rtype: u16) -> Option<&'static [Part]>
     ensures { MatchOption result (shape_of rtype ≡ None) (λ s. shape_of rtype ≡ Some s.now) }
 {
     match rtype {
-        2 | 3 | 4 | 5 | 7 | 8 | 9 | 12 => Some(&[Part::Name]),
-        6 => Some(&[Part::Name, Part::Name, Part::Plain(20)]),
-        14 => Some(&[Part::Name, Part::Name]),
-        15 => Some(&[Part::Plain(2), Part::Name]),
-        33 => Some(&[Part::Plain(6), Part::Name]),
+        NS | MD | MF | CNAME | MB | MG | MR | PTR => Some(&[Part::Name]),
+        SOA => Some(&[Part::Name, Part::Name, Part::Plain(20)]),
+        MINFO => Some(&[Part::Name, Part::Name]),
+        MX => Some(&[Part::Plain(2), Part::Name]),
+        SRV => Some(&[Part::Plain(6), Part::Name]),
         _ => None,
     }
 }
@@ -44,9 +48,34 @@ fn plain_at(message: &[u8], at: usize, count: usize) -> Result<&[u8], ReadFault>
     Ok(octets)
 }
 
+// Adds octets in lower case.
+fn append_lowered<A: Allocator>(out: &mut Vec<u8, A>, octets: &[u8]) -> Result<(), AllocError>
+    ensures { OnOk result (out.new.items ≡ out.old.items ++ lower octets.now) }
+{
+    out.reserve(octets.len())?;
+    for octet in octets {
+        out.push_reserved(octet.to_ascii_lowercase());
+    }
+    Ok(())
+}
+
+// Adds the name at a place, in full and in lower case, and tells where it ends.
+fn append_name<A: Allocator>(
+    out: &mut Vec<u8, A>,
+    message: &[u8],
+    at: usize,
+) -> Result<usize, ReadFault>
+    ensures found { IfOk result (λ past. (n : List (List ℕ)) × ReadsName message.now at n past × (out.new.items ≡ out.old.items ++ wire n)) }
+    ensures fault { IfErr result (λ f. OrMemory f (NameFails message.now at f)) }
+{
+    let spelled = spelled_at(message, at)?;
+    append_lowered(out, spelled.octets.as_slice())?;
+    Ok(spelled.end)
+}
+
 // The parts at a place, with each name in full, and where they end.
 fn read_parts<A: Allocator + Clone>(
-    alloc: A,
+    alloc: &A,
     message: &[u8],
     parts: &[Part],
     offset: usize,
@@ -63,40 +92,31 @@ fn read_parts<A: Allocator + Clone>(
                 octets.extend_from_slice(plain_at(message, at, *count)?)?;
                 at += *count;
             }
-            Part::Name => {
-                let (name, past) = read_name(alloc.clone()?, message, at)?;
-                octets.extend_from_slice(name.octets())?;
-                at = past;
-            }
+            Part::Name => at = append_name(&mut octets, message, at)?,
         }
     }
     Ok((octets, at))
 }
 
-/// So many octets of RDATA of a type at a place, with each name in full.
+// So many octets of RDATA of a type at a place, with each name in full.
 pub(crate) fn read_rdata<A: Allocator + Clone>(
-    alloc: A,
+    alloc: &A,
     message: &[u8],
     at: usize,
     count: usize,
     rtype: u16,
-) -> Result<Vec<u8, A>, ReadFault>
+) -> Result<Octets<A>, ReadFault>
     requires { at + count ≤ length message.now }
-    ensures found { IfOk result (λ r. ShapeAt message.now at count (shape_of rtype) r.items) }
+    ensures found { IfOk result (λ r. ShapeAt message.now at count (shape_of rtype) r) }
     ensures fault { IfErr result (λ f. OrMemory f (ShapeFails message.now at count (shape_of rtype) f)) }
 {
-    match parts_of(rtype) {
-        None => {
-            let mut octets = Vec::new(alloc);
-            octets.extend_from_slice(plain_at(message, at, count)?)?;
-            Ok(octets)
-        }
-        Some(parts) => {
-            let (octets, end) = read_parts(alloc, message, parts, at)?;
-            if end != at + count {
-                return Err(ReadFault::BadRdata);
-            }
-            Ok(octets)
-        }
+    let Some(parts) = parts_of(rtype) else {
+        let octets = plain_at(message, at, count)?;
+        return Ok(Octets::copy_of(alloc.clone()?, octets)?);
+    };
+    let (octets, end) = read_parts(alloc, message, parts, at)?;
+    if end != at + count {
+        return Err(ReadFault::BadRdata);
     }
+    Ok(Octets::new(octets))
 }

@@ -1,5 +1,5 @@
 use Rattle.std.proofs.Common.{◌++◌, ◌∷◌, [], refl}
-use Rattle.fleet_name.proofs.Spelling.{named_root}
+use Rattle.fleet_wire.proofs.Spelled.{named_root}
 use Rattle.fleet_wire.proofs.PlainNames.{no_name, no_capital, more_whole, more_size, more_named, more_only}
 use Rattle.fleet_wire.proofs.plain.after_name.Goals as goal
 

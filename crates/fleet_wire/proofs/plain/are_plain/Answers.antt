@@ -1,5 +1,5 @@
 use Rattle.std.proofs.Common.{◌≡◌, ◌+◌, ◌∷◌, List, ℕ, drop, refl, sym, subst, arith}
-use Rattle.fleet_wire.specs.Outline.{ArePlain}
+use Rattle.fleet_wire.specs.Shape.{ArePlain}
 use Rattle.fleet_wire.specs.declared.shape.Part.{Part}
 use Rattle.fleet_wire.specs.declared.shape.Part.TheVariants.{Plain, Name}
 use Rattle.fleet_wire.proofs.Parts.{part_at}

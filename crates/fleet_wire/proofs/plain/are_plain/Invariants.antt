@@ -1,5 +1,5 @@
 use Rattle.std.proofs.Common.{drop}
-use Rattle.fleet_wire.specs.Outline.{ArePlain}
+use Rattle.fleet_wire.specs.Shape.{ArePlain}
 use Rattle.fleet_wire.proofs.plain.are_plain.Given as goal
 
 abbrev pub invariant-loop-part : goal.invariant-loop-part

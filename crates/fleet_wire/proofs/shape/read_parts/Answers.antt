@@ -4,7 +4,7 @@ use Rattle.fleet_wire.specs.declared.shape.Part.TheVariants.{Plain, Name}
 use Rattle.fleet_wire.proofs.Parts.{reads_within, part_at, plain_found, plain_fails, name_found, name_fails, no_more}
 use mathlib.Core.Logic.{inr}
 use Rattle.fleet_wire.proofs.shape.read_parts.Goals as goal
-use Rattle.fleet_wire.proofs.shape.read_parts.Goals.{in-Plain+in_ok-plain_at-in-Plain+in_ok-extend_from_slice-in-Plain, in-Name+in_ok-clone-in-Name+in_ok-name-in-Name+in_ok-extend_from_slice-in-Name}
+use Rattle.fleet_wire.proofs.shape.read_parts.Goals.{in-Plain+in_ok-plain_at-in-Plain+in_ok-extend_from_slice-in-Plain, in-Name+in_ok-at-in-Name}
 
 pub loop-part-preserved : goal.loop-part-preserved
 loop-part-preserved g c =
@@ -20,15 +20,15 @@ loop-part-preserved g c =
             found = plain_found m parts (drop k parts) (drop (k + 1) parts) c.args.offset l.at l.octets.items c.match-part.octets.items i.found i.fails n rest read.0 wrote c.match-part.at w.at-is;
             fails = λ f h. plain_fails m parts (drop k parts) (drop (k + 1) parts) c.args.offset l.at l.octets.items c.match-part.octets.items i.found i.fails n rest f (inr (read.0, rw w.at-is at h));
           }
-      | in-Name+in_ok-clone-in-Name+in_ok-name-in-Name+in_ok-extend_from_slice-in-Name w ↦
+      | in-Name+in_ok-at-in-Name w ↦
           let rest : drop k parts ≡ Name ∷ drop (k + 1) parts = part_at parts k _ _ (omega arith) w.in-Name.is in
-          let named = w.in_ok-name-in-Name in
-          let read = named.ensures.found in
-          let wrote : c.match-part.octets.items ≡ l.octets.items ++ wire named.name = rw w.octets-is (w.in_ok-extend_from_slice-in-Name.ensures.items ∙ ap (λ (x : List ℕ). l.octets.items ++ x) w.octets.ensures.octets) in
+          let named = w.in_ok-at-in-Name.ensures.found in
+          let name = named.0 in let past = w.in_ok-at-in-Name.at in let read = named.1 in
+          let wrote : c.match-part.octets.items ≡ l.octets.items ++ wire name = rw w.octets-is named.2 in
           record {
             within = rw w.at-is (reads_within _ _ _ _ read);
-            found = λ o e r. name_found m parts (drop k parts) (drop (k + 1) parts) c.args.offset l.at l.octets.items c.match-part.octets.items i.found i.fails rest named.name named.past read wrote o e (rw w.at-is at r);
-            fails = λ f h. name_fails m parts (drop k parts) (drop (k + 1) parts) c.args.offset l.at l.octets.items c.match-part.octets.items i.found i.fails rest f (inr (named.name, named.past, read, rw w.at-is at h));
+            found = λ o e r. name_found m parts (drop k parts) (drop (k + 1) parts) c.args.offset l.at l.octets.items c.match-part.octets.items i.found i.fails rest name past read wrote o e (rw w.at-is at r);
+            fails = λ f h. name_fails m parts (drop k parts) (drop (k + 1) parts) c.args.offset l.at l.octets.items c.match-part.octets.items i.found i.fails rest f (inr (name, past, read, rw w.at-is at h));
           }
     ]
 

@@ -1,0 +1,5 @@
+use Rattle.fleet_pending.proofs.Refused.{refuses_exactly}
+use Rattle.fleet_pending.proofs.laws.refusals_are_exact.Goals as goal
+
+pub returns : goal.returns
+returns c = refuses_exactly

@@ -1,0 +1,5 @@
+use Rattle.fleet_pending.proofs.Kept.{each_as_often}
+use Rattle.fleet_pending.proofs.laws.waiters_kept.Goals as goal
+
+pub returns : goal.returns
+returns c = each_as_often

@@ -1,0 +1,27 @@
+-- What is to be done first at a moment.
+use Rattle.std.specs.Prelude.{◌≡◌, ℕ, ◌+◌, ◌<◌, ◌≤◌, ◌⊎◌, List, Option, Some, None}
+use Rattle.fleet_pending.specs.Entry.{opened}
+use Rattle.fleet_pending.specs.Outstanding.{Open, Outstanding}
+use Rattle.fleet_pending.specs.Places.{At, NoneIs}
+use Rattle.fleet_pending.specs.declared.answer.Due.{Due}
+use Rattle.fleet_pending.specs.declared.answer.Due.TheVariants.{Retry, Failed}
+
+-- an earlier deadline, or the same and an id not greater
+abbrev pub NotAfter : Open → Open → Type 0
+NotAfter a b = (a.deadline < b.deadline) ⊎ ((a.deadline ≡ b.deadline) × (a.id ≤ b.id))
+
+-- e is the entry to be served first at this moment
+pub record IsFirstDue (es : List Open) (moment : ℕ) (e : Open) : Type 0 where
+  pub place : ℕ
+  pub there : At es place e
+  pub due : e.deadline ≤ moment
+  pub first : (j : ℕ) (f : Open) → At es j f → f.deadline ≤ moment → NotAfter e f
+
+abbrev pub NoneDue : List Open → ℕ → Type 0
+NoneDue es moment = NoneIs (λ e. e.deadline ≤ moment) es
+
+-- nothing, the next upstream for the first due entry, or its failure after the last
+abbrev pub Dues : {A : Type 0} → Outstanding → ℕ → Option (Due A) → Type 0
+Dues o moment None = NoneDue o.entries moment
+Dues o moment (Some (Retry upstream id e)) = IsFirstDue o.entries moment (opened e.now) × (id ≡ e.now.id) × (upstream ≡ e.now.upstream + 1) × (upstream < o.upstreams)
+Dues o moment (Some (Failed id e)) = IsFirstDue o.entries moment (opened e.now) × (id ≡ e.now.id) × (o.upstreams ≤ e.now.upstream + 1)

@@ -1,0 +1,11 @@
+pub mod Places
+pub mod Asker
+pub mod Waiter
+pub mod Outstanding
+pub mod Entry
+pub mod FreeId
+pub mod Asking
+pub mod Due
+pub mod Calls
+pub mod Refusal
+pub mod Undone

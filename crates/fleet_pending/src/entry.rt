@@ -1,0 +1,98 @@
+//! Open questions.
+
+ghost use Rattle.std.specs.Prelude.{◌≡◌, ◌≤◌, ◌^◌, IfErr, IfOk, MatchResult};
+ghost use Rattle.fleet_pending.specs.Asking.{Joins, asked_or_fault, new_entry};
+ghost use Rattle.fleet_pending.specs.Entry.{opened};
+ghost use Rattle.fleet_pending.specs.Waiter.{asker};
+
+use crate::answer::{Asked, PendingFault, Unasked};
+use crate::waiter::Waiter;
+use crate::waiters::Waiters;
+use fleet_name::Name;
+use std::alloc::{AllocError, Allocator, Global};
+
+/// How many may wait for one question.
+const MOST_WAITERS: usize = 32;
+
+/// How many seconds an upstream has for its answer.
+pub(crate) const TRY_SECONDS: u64 = 2;
+
+/// An open question: what it asks, whom, and who waits for the answer.
+#[derive(Drop)]
+pub struct Entry<A: Allocator = Global> {
+    /// The name that is asked for.
+    pub name: Name<A>,
+    /// The type that is asked for.
+    pub rtype: u16,
+    /// The id of the query.
+    pub id: u16,
+    /// The place of the upstream that is asked now, from 0.
+    pub upstream: u8,
+    /// When its time is over, in seconds; up to 2 past the greatest moment.
+    pub deadline: u64,
+    /// Who waits, in order of joining: at least one.
+    pub waiters: Waiters<A>,
+}
+
+/// An entry for one waiter, and the first upstream.
+pub(crate) fn make_entry<A: Allocator + Clone>(
+    alloc: &A,
+    waiter: Waiter<A>,
+    moment: u64,
+    id: u16,
+) -> Result<Entry<A>, Waiter<A>>
+    requires { moment ≤ 2 ^ 40 }
+    ensures { MatchResult result (λ e. opened e ≡ new_entry (asker waiter) moment id) (λ w. w ≡ waiter) }
+{
+    let (name, alloc) = match make_parts(alloc, &waiter) {
+        Ok(parts) => parts,
+        Err(_) => return Err(waiter),
+    };
+    let rtype = waiter.question.rtype;
+    match Waiters::of_one(alloc, waiter) {
+        Ok(waiters) => Ok(Entry {
+            name,
+            rtype,
+            id,
+            upstream: 0,
+            deadline: moment + TRY_SECONDS,
+            waiters,
+        }),
+        Err(waiter) => Err(waiter),
+    }
+}
+
+/// The name of a waiter's question, and an allocator for its entry.
+fn make_parts<A: Allocator + Clone>(
+    alloc: &A,
+    waiter: &Waiter<A>,
+) -> Result<(Name<A>, A), AllocError>
+    ensures { IfOk result (λ p. p.0 ≡ waiter.now.question.name) }
+{
+    let name = waiter.question.name.try_clone()?;
+    Ok((name, alloc.clone()?))
+}
+
+/// The waiter meets an entry for its question.
+pub(crate) fn join<A: Allocator>(
+    entry: &mut Entry<A>,
+    waiter: Waiter<A>,
+) -> Result<Asked, Unasked<A>>
+    ensures joins { Joins (opened entry.old) (asker waiter) (asked_or_fault result) (opened entry.new) }
+    ensures back { IfErr result (λ u. u.waiter ≡ waiter) }
+{
+    if entry.waiters.has(&waiter) {
+        return Ok(Asked::Again);
+    }
+    if entry.waiters.len() >= MOST_WAITERS {
+        let fault = PendingFault::WaitersFull;
+        return Err(Unasked { fault, waiter });
+    }
+    match entry.waiters.push(waiter) {
+        Ok(()) => Ok(Asked::Joined),
+        Err(failed) => Err(Unasked {
+            fault: PendingFault::OutOfMemory,
+            waiter: failed.value,
+        }),
+    }
+}

@@ -1,0 +1,204 @@
+//! The table of open questions.
+
+ghost use Rattle.std.specs.Prelude.{◌≡◌, ◌<◌, ◌≤◌, [], IfErr, IfSome, map, option_copied, IsTrue, ◌↔◌};
+ghost use Rattle.fleet_wire.specs.Question.{asked};
+ghost use Rattle.fleet_pending.specs.Asking.{Asks, Opens, Settles, Advances, asked_or_fault, moved_on};
+ghost use Rattle.fleet_pending.specs.Due.{Dues};
+ghost use Rattle.fleet_pending.specs.Entry.{opened, opened_in};
+ghost use Rattle.fleet_pending.specs.Outstanding.{UsesId, AsksFor, Matches, IsOpen, IsOutstanding};
+ghost use Rattle.fleet_pending.specs.Places.{Finds};
+ghost use Rattle.fleet_pending.specs.Waiter.{asker};
+
+use crate::answer::{Asked, Due, PendingFault, Unasked};
+use crate::entry::{Entry, TRY_SECONDS, join, make_entry};
+use crate::search::{asks_for, first_due, first_free, place_of_id, place_of_question};
+use crate::waiter::Waiter;
+use fleet_observe::Moment;
+use fleet_wire::Question;
+use std::alloc::{Allocator, Global};
+use std::marker::Model;
+
+/// How many questions may be open.
+const MOST_ENTRIES: usize = 256;
+
+/// The open questions.
+#[derive(Drop)]
+pub struct Pending<A: Allocator = Global> {
+    upstreams: u8,
+    entries: Vec<Entry<A>, A>,
+}
+
+impl<A: Allocator> Model for Pending<A> {
+    ghost use Rattle.fleet_pending.specs.Outstanding.{Outstanding, IsOutstanding};
+    ghost use Rattle.fleet_pending.specs.Entry.{table};
+
+    ghost Value = { Outstanding };
+
+    ghost view = { λ p. table p.upstreams p.entries.items };
+
+    ghost invariant = { λ p. IsOutstanding (table p.upstreams p.entries.items) };
+}
+
+impl<A: Allocator> Pending<A> {
+    /// A table without questions, each of which will be asked of this many upstreams (1 to 4) one
+    /// after the other.
+    pub fn new(alloc: A, upstreams: u8) -> Pending<A>
+        requires some { 1 ≤ upstreams }
+        requires few { upstreams ≤ 4 }
+        ensures empty { result ≡ record { upstreams = upstreams; entries = [] } }
+        ensures outstanding { IsOutstanding result }
+    {
+        Pending {
+            upstreams,
+            entries: Vec::new(alloc),
+        }
+    }
+
+    /// A waiter asks, at a moment; `word` is where the search for an id begins. The question is of
+    /// class 1 (IN).
+    ///
+    /// An entry with the same name and type, where the same address waits under the same id:
+    /// `Again`; where 32 others wait: `WaitersFull`; else `Joined`. No such entry: where 256 are
+    /// open, `Full`; else a new one at the first upstream, whose time is over 2 seconds later, with
+    /// the first id that no entry has, from `word` upwards modulo 65536: `Send`. Where a new entry
+    /// or waiter finds no memory: `OutOfMemory`. A fault changes nothing, and hands the waiter back.
+    pub fn ask(&mut self, waiter: Waiter<A>, moment: Moment, word: u16) -> Result<Asked, Unasked<A>>
+    where
+        A: Clone,
+        requires class_one { waiter.question.class ≡ 1 }
+        ensures asks { Asks self.old (asker waiter) moment word (asked_or_fault result) self.new }
+        ensures back { IfErr result (λ u. u.waiter ≡ waiter) }
+        ensures outstanding { IsOutstanding self.new }
+    {
+        match place_of_question(self.entries.as_slice(), &waiter.question) {
+            Some(i) => join(&mut self.entries[i], waiter),
+            None => add_entry(&mut self.entries, waiter, moment, word),
+        }
+    }
+
+    /// The entry with an id.
+    pub fn entry(&self, id: u16) -> Option<&Entry<A>>
+        ensures finds { Finds (UsesId id) self.now.entries (opened_in (option_copied result)) }
+        ensures is_open { IfSome result (λ e. IsOpen (opened e.now)) }
+        ensures outstanding { IsOutstanding self.now }
+    {
+        let i = place_of_id(self.entries.as_slice(), id)?;
+        Some(&self.entries[i])
+    }
+
+    /// The entry that a reply is for: it asks this upstream now, under this id, for this name and
+    /// type, and the reply's question is of class 1 (IN).
+    pub fn find(&self, upstream: u8, id: u16, question: &Question<A>) -> Option<&Entry<A>>
+        ensures finds { Finds (Matches upstream id (asked question.now)) self.now.entries
+            (opened_in (option_copied result)) }
+        ensures is_open { IfSome result (λ e. IsOpen (opened e.now)) }
+        ensures outstanding { IsOutstanding self.now }
+    {
+        let i = place_of_id(self.entries.as_slice(), id)?;
+        let entry = &self.entries[i];
+        if matches(entry, upstream, question) {
+            Some(entry)
+        } else {
+            None
+        }
+    }
+
+    /// Gives the entry with an id back, and removes it.
+    pub fn settle(&mut self, id: u16) -> Option<Entry<A>>
+        ensures settles { Settles self.old id (opened_in result) self.new }
+        ensures is_open { IfSome result (λ e. IsOpen (opened e)) }
+        ensures outstanding { IsOutstanding self.new }
+    {
+        let i = place_of_id(self.entries.as_slice(), id)?;
+        Some(self.entries.remove(i))
+    }
+
+    /// What is to be done first at a moment: of the entries whose deadline is not after it, the one
+    /// with the least deadline, and of those the one with the least id, is to be asked of the next
+    /// upstream, or has failed after the last.
+    pub fn due(&self, moment: Moment) -> Option<Due<'_, A>>
+        ensures dues { Dues self.now moment result }
+        ensures outstanding { IsOutstanding self.now }
+    {
+        let entry = first_due(self.entries.as_slice(), moment.value())?;
+        let id = entry.id;
+        let upstream = entry.upstream + 1;
+        if upstream < self.upstreams {
+            Some(Due::Retry {
+                upstream,
+                id,
+                entry,
+            })
+        } else {
+            Some(Due::Failed { id, entry })
+        }
+    }
+
+    /// Moves the entry with an id to the next upstream; its time is over 2 seconds after the moment.
+    /// False, where there is no such entry or no further upstream: then nothing changes.
+    pub fn advance(&mut self, id: u16, moment: Moment) -> bool
+        ensures advances { Advances self.old id moment result self.new }
+        ensures outstanding { IsOutstanding self.new }
+    {
+        match place_of_id(self.entries.as_slice(), id) {
+            Some(i) => {
+                let next = self.entries[i].upstream + 1;
+                if next < self.upstreams {
+                    move_on(&mut self.entries[i], moment);
+                    true
+                } else {
+                    false
+                }
+            }
+            None => false,
+        }
+    }
+}
+
+/// The entry goes on to the next upstream.
+fn move_on<A: Allocator>(entry: &mut Entry<A>, moment: Moment)
+    requires { entry.old.upstream < 4 }
+    ensures { opened entry.new ≡ moved_on (opened entry.old) moment }
+{
+    entry.upstream += 1;
+    entry.deadline = moment.value() + TRY_SECONDS;
+}
+
+/// Whether a reply from an upstream with this question is for the entry.
+fn matches<A: Allocator>(entry: &Entry<A>, upstream: u8, question: &Question<A>) -> bool
+    ensures { IsTrue result
+        ↔ ((entry.now.upstream ≡ upstream)
+        × AsksFor (asked question.now) (opened entry.now)
+        × (question.now.class ≡ 1)) }
+{
+    entry.upstream == upstream && question.class == 1 && asks_for(entry, question)
+}
+
+/// The waiter's question is new.
+fn add_entry<A: Allocator + Clone>(
+    entries: &mut Vec<Entry<A>, A>,
+    waiter: Waiter<A>,
+    moment: Moment,
+    word: u16,
+) -> Result<Asked, Unasked<A>>
+    ensures opens { Opens (map opened entries.old.items) (asker waiter) moment word (asked_or_fault result)
+        (map opened entries.new.items) }
+    ensures back { IfErr result (λ u. u.waiter ≡ waiter) }
+{
+    if entries.len() >= MOST_ENTRIES {
+        let fault = PendingFault::Full;
+        return Err(Unasked { fault, waiter });
+    }
+    let fault = PendingFault::OutOfMemory;
+    if let Err(_) = entries.reserve(1) {
+        return Err(Unasked { fault, waiter });
+    }
+    let id = first_free(entries.as_slice(), word);
+    match make_entry(entries.allocator(), waiter, moment.value(), id) {
+        Ok(entry) => {
+            entries.push_reserved(entry);
+            Ok(Asked::Send { upstream: 0, id })
+        }
+        Err(waiter) => Err(Unasked { fault, waiter }),
+    }
+}

@@ -1,0 +1,119 @@
+//! Where the entries of a table are.
+
+ghost use Rattle.std.specs.Prelude.{◌≡◌, ◌<◌, ◌≤◌, ◌⊎◌, ◌↔◌, IsTrue, MatchOption, true, false, length, map};
+ghost use Rattle.fleet_wire.specs.Question.{asked};
+ghost use Rattle.fleet_pending.specs.Entry.{opened};
+ghost use Rattle.fleet_pending.specs.FreeId.{AreTaken, IsFirstFree};
+ghost use Rattle.fleet_pending.specs.Due.{IsFirstDue, NoneDue, NotAfter};
+ghost use Rattle.fleet_pending.specs.Outstanding.{UsesId, AsksFor};
+ghost use Rattle.fleet_pending.specs.Places.{IsPlace};
+
+use crate::entry::Entry;
+use fleet_wire::Question;
+use std::alloc::Allocator;
+
+/// The place of the entry with an id.
+pub(crate) fn place_of_id<A: Allocator>(entries: &[Entry<A>], id: u16) -> Option<usize>
+    ensures { IsPlace (UsesId id) (map opened entries.now) result }
+{
+    for (i, entry) in entries.iter().enumerate() {
+        if entry.id == id {
+            return Some(i);
+        }
+    }
+    None
+}
+
+/// The place of the entry for a question.
+pub(crate) fn place_of_question<A: Allocator>(
+    entries: &[Entry<A>],
+    question: &Question<A>,
+) -> Option<usize>
+    ensures { IsPlace (AsksFor (asked question.now)) (map opened entries.now) result }
+{
+    for (i, entry) in entries.iter().enumerate() {
+        if asks_for(entry, question) {
+            return Some(i);
+        }
+    }
+    None
+}
+
+/// Whether the entry is for a question of this name and type.
+pub(crate) fn asks_for<A: Allocator>(entry: &Entry<A>, question: &Question<A>) -> bool
+    ensures { IsTrue result ↔ AsksFor (asked question.now) (opened entry.now) }
+{
+    entry.rtype == question.rtype && entry.name.same(&question.name)
+}
+
+/// The first id from `word` upwards, modulo 65536, that no entry has.
+pub(crate) fn first_free<A: Allocator>(entries: &[Entry<A>], word: u16) -> u16
+    requires { length entries.now < 256 }
+    ensures { IsFirstFree word (map opened entries.now) result }
+{
+    let taken = taken_from(entries, word);
+    for passed in 0..256u16 {
+        if !taken[passed as usize] {
+            return word.wrapping_add(passed);
+        }
+    }
+    unreachable!()
+}
+
+/// Which of the 256 ids from `word` upwards an entry has.
+fn taken_from<A: Allocator>(entries: &[Entry<A>], word: u16) -> [bool; 256]
+    ensures { AreTaken word (map opened entries.now) result }
+{
+    let mut taken = [false; 256];
+    for entry in entries {
+        let passed = entry.id.wrapping_sub(word) as usize;
+        if passed < taken.len() {
+            taken[passed] = true;
+        }
+    }
+    taken
+}
+
+/// The entry that is to be served first.
+pub(crate) fn first_due<A: Allocator>(entries: &[Entry<A>], moment: u64) -> Option<&Entry<A>>
+    ensures { MatchOption result (NoneDue (map opened entries.now) moment)
+        (λ e. IsFirstDue (map opened entries.now) moment (opened e.now)) }
+{
+    let mut first: Option<&Entry<A>> = None;
+    for entry in entries {
+        if replaces(first, entry, moment) {
+            first = Some(entry);
+        }
+    }
+    first
+}
+
+/// Whether this entry is due, and before the first one so far.
+fn replaces<A: Allocator>(first: Option<&Entry<A>>, entry: &Entry<A>, moment: u64) -> bool
+    ensures yes { result ≡ true
+        → (entry.now.deadline ≤ moment)
+        × MatchOption first.entry (Unit {0}) (λ o. NotAfter (opened entry.now) (opened o.now)) }
+    ensures no { result ≡ false
+        → (moment < entry.now.deadline)
+        ⊎ MatchOption first.entry ⊥ (λ o. NotAfter (opened o.now) (opened entry.now)) }
+{
+    if entry.deadline > moment {
+        return false;
+    }
+    match first {
+        None => true,
+        Some(other) => is_before(entry, other),
+    }
+}
+
+/// Whether one entry is served before another.
+fn is_before<A: Allocator>(entry: &Entry<A>, other: &Entry<A>) -> bool
+    ensures yes { result ≡ true → NotAfter (opened entry.now) (opened other.now) }
+    ensures no { result ≡ false → NotAfter (opened other.now) (opened entry.now) }
+{
+    if entry.deadline == other.deadline {
+        entry.id < other.id
+    } else {
+        entry.deadline < other.deadline
+    }
+}

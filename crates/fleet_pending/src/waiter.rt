@@ -1,0 +1,24 @@
+//! Who waits for an answer.
+
+use fleet_wire::Question;
+use std::alloc::{Allocator, Global};
+
+/// Where a datagram comes from or goes to.
+#[derive(Clone, Copy, Debug, PartialEq, Eq, PartialOrd, Ord)]
+pub struct Addr {
+    /// The address (IPv4), its first octet highest.
+    pub host: u32,
+    /// The port (UDP).
+    pub port: u16,
+}
+
+/// Who waits, and for the answer to which question.
+#[derive(Drop)]
+pub struct Waiter<A: Allocator = Global> {
+    /// Where the question came from, and its answer goes to.
+    pub from: Addr,
+    /// The id of the question's message.
+    pub id: u16,
+    /// The question, in its own spelling.
+    pub question: Question<A>,
+}

@@ -1,0 +1,91 @@
+//! Waiters in order of joining.
+
+ghost use Rattle.std.specs.Prelude.{◌≡◌, ◌++◌, ◌∷◌, [], ◌↔◌, IsTrue, IfErr, OnErr, OnOk, MatchResult, length, map};
+ghost use Rattle.fleet_pending.specs.Asker.{SameAsker, Waits};
+ghost use Rattle.fleet_pending.specs.Waiter.{asker};
+
+use crate::waiter::Waiter;
+use std::alloc::{AllocFailed, Allocator, Global};
+use std::marker::Model;
+
+/// Waiters in order of joining, seen by contracts as the list of what they are.
+#[derive(Drop)]
+pub struct Waiters<A: Allocator = Global> {
+    items: Vec<Waiter<A>, A>,
+}
+
+impl<A: Allocator> Model for Waiters<A> {
+    ghost use Rattle.std.specs.Prelude.{List, map};
+    ghost use Rattle.fleet_pending.specs.Asker.{Asker};
+
+    ghost Value = { List Asker };
+
+    ghost use Rattle.fleet_pending.specs.Waiter.{asker};
+
+    ghost view = { λ w. map asker w.items.items };
+}
+
+impl<A: Allocator> Waiters<A> {
+    /// One waiter; where there is no memory, the waiter comes back.
+    pub(crate) fn of_one(alloc: A, waiter: Waiter<A>) -> Result<Waiters<A>, Waiter<A>>
+        ensures { MatchResult result (λ w. w ≡ asker waiter ∷ []) (λ w. w ≡ waiter) }
+    {
+        match Vec::with_capacity(alloc, 1) {
+            Ok(mut items) => {
+                items.push_reserved(waiter);
+                Ok(Waiters { items })
+            }
+            Err(_) => Err(waiter),
+        }
+    }
+
+    /// The waiters in order of joining.
+    pub fn as_slice(&self) -> &[Waiter<A>]
+        ensures value { map asker result.now ≡ self.now }
+        ensures len { length result.now ≡ length self.now }
+    {
+        self.items.as_slice()
+    }
+
+    /// How many wait.
+    pub(crate) fn len(&self) -> usize
+        ensures { result ≡ length self.now }
+    {
+        self.items.len()
+    }
+
+    /// Adds a waiter after the others; where there is no memory, it comes back.
+    pub(crate) fn push(&mut self, waiter: Waiter<A>) -> Result<(), AllocFailed<Waiter<A>>>
+        ensures ok { OnOk result (self.new ≡ self.old ++ asker waiter ∷ []) }
+        ensures err { OnErr result (self.new ≡ self.old) }
+        ensures back { IfErr result (λ f. f.value ≡ waiter) }
+    {
+        self.items.push(waiter)
+    }
+
+    /// Whether one from the same address waits under the same id.
+    pub(crate) fn has(&self, waiter: &Waiter<A>) -> bool
+        ensures { IsTrue result ↔ Waits (asker waiter.now) self.now }
+    {
+        is_among(waiter, self.as_slice())
+    }
+}
+
+/// Whether the same asker is among these.
+fn is_among<A: Allocator>(waiter: &Waiter<A>, waiters: &[Waiter<A>]) -> bool
+    ensures { IsTrue result ↔ Waits (asker waiter.now) (map asker waiters.now) }
+{
+    for other in waiters {
+        if is_same_asker(other, waiter) {
+            return true;
+        }
+    }
+    false
+}
+
+/// Whether the two wait at the same address, under the same id.
+fn is_same_asker<A: Allocator>(one: &Waiter<A>, other: &Waiter<A>) -> bool
+    ensures { IsTrue result ↔ SameAsker (asker one.now) (asker other.now) }
+{
+    one.from == other.from && one.id == other.id
+}

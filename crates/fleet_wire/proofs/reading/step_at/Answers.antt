@@ -1,4 +1,0 @@
-use Rattle.fleet_wire.proofs.reading.step_at.Goals as goal
-
-pub returns-then-first-lt64 : goal.returns-then-first-lt64
-returns-then-first-lt64 c = c.label_at.ensures c.args.start

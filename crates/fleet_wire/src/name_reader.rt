@@ -1,0 +1,153 @@
+//! Reading a name (RFC 1035 3.1, 4.1.4).
+
+ghost use Rattle.std.specs.Prelude.{◌≡◌, ℕ, ◌+◌, ◌-◌, ◌<◌, ◌≤◌, List, ◌++◌, length, slice_index, IfOk, IfErr, MatchResult};
+ghost use Rattle.fleet_name.specs.Name.{frame, lower_all, labels_of, IsSpelling};
+ghost use Rattle.fleet_wire.specs.NameAt.{NameAt, ReadsName};
+ghost use Rattle.fleet_wire.specs.Fault.{FaultAt, NameFails, OrMemory};
+ghost use Rattle.fleet_wire.specs.Step.{IsStep};
+
+use crate::fault::ReadFault;
+use arrayvec::ArrayVec;
+use fleet_name::Name;
+use std::alloc::{AllocError, Allocator};
+
+// What stands at a place where a label may begin.
+pub(crate) enum Step<'a> {
+    End,
+    Label(&'a [u8]),
+    Pointer(usize),
+}
+
+// A name as it was read.
+#[derive(Drop)]
+pub(crate) struct Spelled {
+    // The name in full, without pointers, in its own case.
+    pub(crate) octets: ArrayVec<u8, 255>,
+    // How many labels it has.
+    pub(crate) labels: usize,
+    // Where it ends in the message.
+    pub(crate) end: usize,
+}
+
+// The step at `at`, in a run of labels begun at `start`, where the name so far has `used` octets in full.
+pub(crate) fn step_at(
+    message: &[u8],
+    at: usize,
+    start: usize,
+    used: usize,
+) -> Result<Step<'_>, ReadFault>
+    requires { used ≤ 255 }
+    ensures { MatchResult result (IsStep message.now at start used) (FaultAt message.now at start used) }
+{
+    if at >= message.len() {
+        return Err(ReadFault::Truncated);
+    }
+    let first = message[at];
+    if first == 0 {
+        return Ok(Step::End);
+    }
+    if first < 64 {
+        return label_at(message, at, first as usize, used);
+    }
+    if first < 192 {
+        return Err(ReadFault::BadLabel);
+    }
+    if at + 1 >= message.len() {
+        return Err(ReadFault::Truncated);
+    }
+    let target = (first as usize - 192) * 256 + message[at + 1] as usize;
+    if target >= start {
+        return Err(ReadFault::BadPointer);
+    }
+    Ok(Step::Pointer(target))
+}
+
+// The label whose length octet stands at `at`.
+fn label_at(message: &[u8], at: usize, count: usize, used: usize) -> Result<Step<'_>, ReadFault>
+    requires begins { at < length message.now }
+    requires counted { slice_index message.now at ≡ count }
+    requires some { 0 < count }
+    requires short { count < 64 }
+    requires used { used ≤ 255 }
+    ensures { (s : ℕ) → MatchResult result (IsStep message.now at s used) (FaultAt message.now at s used) }
+{
+    if used + count + 1 > 255 {
+        return Err(ReadFault::LongName);
+    }
+    let (_, rest) = message.split_at(at + 1);
+    if rest.len() < count {
+        return Err(ReadFault::Truncated);
+    }
+    let (octets, _) = rest.split_at(count);
+    Ok(Step::Label(octets))
+}
+
+// Adds a label in its own case.
+fn append_label(octets: &mut ArrayVec<u8, 255>, label: &[u8])
+    requires short { length label.now < 64 }
+    requires room { length octets.old.items + length label.now < 255 }
+    ensures { octets.new.items ≡ octets.old.items ++ frame label.now }
+{
+    octets.push(label.len() as u8);
+    let _ = octets.try_extend_from_slice(label);
+}
+
+// The name at a place of a message.
+pub(crate) fn spelled_at(message: &[u8], offset: usize) -> Result<Spelled, ReadFault>
+    ensures found { IfOk result (λ r. NameAt message.now offset offset (labels_of r.octets.items) r.end) }
+    ensures spelled { IfOk result (λ r. IsSpelling r.octets.items) }
+    ensures counted { IfOk result (λ r. r.labels ≡ length (labels_of r.octets.items)) }
+    ensures fault { IfErr result (λ f. NameFails message.now offset f) }
+{
+    let mut octets = ArrayVec::new();
+    let mut labels = 0;
+    let mut at = offset;
+    let mut start = offset;
+    let mut end = None;
+    loop {
+        match step_at(message, at, start, octets.len() + 1)? {
+            Step::End => {
+                octets.push(0);
+                return Ok(Spelled {
+                    octets,
+                    labels,
+                    end: end.unwrap_or(at + 1),
+                });
+            }
+            Step::Label(label) => {
+                append_label(&mut octets, label);
+                labels += 1;
+                at += 1 + label.len();
+            }
+            Step::Pointer(target) => {
+                end = Some(end.unwrap_or(at + 2));
+                at = target;
+                start = target;
+            }
+        }
+    }
+}
+
+// The name that was spelled, in lower case.
+pub(crate) fn name_of<A: Allocator>(alloc: A, spelled: &Spelled) -> Result<Name<A>, AllocError>
+    requires spelled { IsSpelling spelled.now.octets.items }
+    requires counted { spelled.now.labels ≡ length (labels_of spelled.now.octets.items) }
+    ensures { IfOk result (λ n. n ≡ lower_all (labels_of spelled.now.octets.items)) }
+{
+    let octets = Vec::from_slice(alloc, spelled.octets.as_slice())?;
+    Ok(Name::from_spelled(octets, spelled.labels))
+}
+
+// The name at a place of a message, and where it ends there.
+pub(crate) fn read_name<A: Allocator + Clone>(
+    alloc: &A,
+    message: &[u8],
+    offset: usize,
+) -> Result<(Name<A>, usize), ReadFault>
+    ensures found { IfOk result (λ r. ReadsName message.now offset r.0 r.1) }
+    ensures fault { IfErr result (λ f. OrMemory f (NameFails message.now offset f)) }
+{
+    let spelled = spelled_at(message, offset)?;
+    let name = name_of(alloc.clone()?, &spelled)?;
+    Ok((name, spelled.end))
+}

@@ -1,0 +1,176 @@
+//! Writing a reply (RFC 1035 4.1).
+
+ghost use Rattle.std.specs.Prelude.{◌≡◌, ℕ, ◌+◌, ◌<◌, ◌≤◌, ◌++◌, List, length, IfOk, OnOk, MatchOption, IsTrue, IsFalse};
+ghost use Rattle.fleet_wire.specs.Number.{u16_octets, u32_octets};
+ghost use Rattle.fleet_wire.specs.Question.{Asked, asked_in};
+ghost use Rattle.fleet_wire.specs.Record.{told, all_told};
+ghost use Rattle.fleet_wire.specs.Message.{IsReply};
+ghost use Rattle.fleet_wire.specs.Outline.{record_octets, question_octets, rows, body_size, header_octets, octets_of_outline, IsWhole, reply_sketched};
+
+use crate::number::{push_long, push_short};
+use crate::outline::Outline;
+use crate::question::Question;
+use crate::record::Record;
+use std::alloc::{AllocError, Allocator};
+
+// Adds a question in its own spelling, if there is one.
+fn push_question<A: Allocator, B: Allocator>(
+    out: &mut Vec<u8, A>,
+    question: &Option<Question<B>>,
+) -> Result<(), AllocError>
+    ensures { OnOk result (out.new.items ≡ out.old.items ++ question_octets (asked_in question.now)) }
+{
+    match question {
+        None => Ok(()),
+        Some(asked) => {
+            out.extend_from_slice(asked.spelled.as_slice())?;
+            push_short(out, asked.rtype)?;
+            push_short(out, asked.class)
+        }
+    }
+}
+
+// How many octets a question has.
+fn question_size<A: Allocator>(question: &Option<Question<A>>) -> usize
+    ensures { result ≡ length (question_octets (asked_in question.now)) }
+{
+    match question {
+        None => 0,
+        Some(asked) => asked.spelled.as_slice().len() + 4,
+    }
+}
+
+// Adds the octets between the name and the RDATA.
+fn push_fixed<A: Allocator>(
+    out: &mut Vec<u8, A>,
+    rtype: u16,
+    class: u16,
+    ttl: u32,
+    count: u16,
+) -> Result<(), AllocError>
+    ensures { OnOk result (out.new.items ≡ out.old.items ++ (u16_octets rtype ++ (u16_octets class ++ (u32_octets ttl ++ u16_octets count)))) }
+{
+    push_short(out, rtype)?;
+    push_short(out, class)?;
+    push_long(out, ttl)?;
+    push_short(out, count)
+}
+
+// Adds a record.
+fn push_record<A: Allocator, B: Allocator>(
+    out: &mut Vec<u8, A>,
+    row: &Record<B>,
+) -> Result<(), AllocError>
+    requires { length row.now.rdata < 65536 }
+    ensures { OnOk result (out.new.items ≡ out.old.items ++ record_octets (told row.now)) }
+{
+    out.extend_from_slice(row.name.octets())?;
+    let rdata = row.rdata.as_slice();
+    let count = rdata.len() as u16;
+    push_fixed(out, row.rtype, row.class, row.ttl, count)?;
+    out.extend_from_slice(rdata)
+}
+
+// Adds records.
+fn push_records<A: Allocator, B: Allocator>(
+    out: &mut Vec<u8, A>,
+    records: &[Record<B>],
+) -> Result<(), AllocError>
+    requires { length (rows (all_told records.now)) ≤ 512 }
+    ensures { OnOk result (out.new.items ≡ out.old.items ++ rows (all_told records.now)) }
+{
+    for record in records {
+        push_record(out, record)?;
+    }
+    Ok(())
+}
+
+// How much of the room is left behind the octets of the records, if they fit.
+fn room_after<A: Allocator>(records: &[Record<A>], room: usize) -> Option<usize>
+    ensures { MatchOption result (room < length (rows (all_told records.now))) (λ left. left + length (rows (all_told records.now)) ≡ room) }
+{
+    let mut left = room;
+    for record in records {
+        let fixed = record.name.octets().len() + 10;
+        if left < fixed {
+            return None;
+        }
+        left -= fixed;
+        let count = record.rdata.as_slice().len();
+        if left < count {
+            return None;
+        }
+        left -= count;
+    }
+    Some(left)
+}
+
+// Whether header, question and records fit a message.
+fn is_short<A: Allocator>(
+    question: &Option<Question<A>>,
+    answer: &[Record<A>],
+    authority: &[Record<A>],
+) -> bool
+    ensures short { IsTrue result → 12 + body_size (asked_in question.now) (all_told answer.now) (all_told authority.now) ≤ 512 }
+    ensures long { IsFalse result → 512 < 12 + body_size (asked_in question.now) (all_told answer.now) (all_told authority.now) }
+{
+    let size = question_size(question);
+    if size > 500 {
+        return false;
+    }
+    let Some(room) = room_after(answer, 500 - size) else {
+        return false;
+    };
+    let Some(_) = room_after(authority, room) else {
+        return false;
+    };
+    true
+}
+
+// Adds the header.
+fn push_header<A: Allocator, B: Allocator>(
+    out: &mut Vec<u8, A>,
+    outline: &Outline<B>,
+    tc: bool,
+    answer: u16,
+    authority: u16,
+) -> Result<(), AllocError>
+    ensures { OnOk result (out.new.items ≡ out.old.items ++ header_octets outline.now tc answer authority) }
+{
+    push_short(out, outline.id)?;
+    let cut = if tc { 2 } else { 0 };
+    let wanted = if outline.rd { 1 } else { 0 };
+    out.push(128 + outline.opcode * 8 + cut + wanted)?;
+    out.push(128 + outline.rcode)?;
+    let questions = if outline.question.is_some() { 1 } else { 0 };
+    push_short(out, questions)?;
+    push_short(out, answer)?;
+    push_short(out, authority)?;
+    push_short(out, 0)
+}
+
+/// The octets of a reply (RFC 1035 4.1): header, question and records, every name in full. QR and RA
+/// are set, AA is clear. Where all of it passes 512 octets: header and question alone, with TC set.
+/// `Err` where there is no memory for them.
+pub fn write_reply<A: Allocator, B: Allocator>(
+    alloc: A,
+    outline: &Outline<B>,
+) -> Result<Vec<u8, A>, AllocError>
+    ensures octets { IfOk result (λ v. v.items ≡ octets_of_outline outline.now) }
+    // Where it has a question, plain RDATA, TC clear, and fits a message, it is read again.
+    ensures reads_back { IfOk result (λ v. (q : Asked) → IsWhole outline.now q → IsReply v.items (reply_sketched outline.now q)) }
+{
+    let mut octets = Vec::new(alloc);
+    if is_short(&outline.question, &outline.answer, &outline.authority) {
+        let answers = outline.answer.len() as u16;
+        let authorities = outline.authority.len() as u16;
+        push_header(&mut octets, outline, outline.tc, answers, authorities)?;
+        push_question(&mut octets, &outline.question)?;
+        push_records(&mut octets, &outline.answer)?;
+        push_records(&mut octets, &outline.authority)?;
+        return Ok(octets);
+    }
+    push_header(&mut octets, outline, true, 0, 0)?;
+    push_question(&mut octets, &outline.question)?;
+    Ok(octets)
+}
