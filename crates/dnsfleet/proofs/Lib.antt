@@ -1,0 +1,5 @@
+mod Numbers
+mod Octets
+mod Rows
+mod AnswerKinds
+mod Readings

@@ -1,0 +1,39 @@
+//! A reader that is called so often at most.
+
+ghost use Rattle.std.specs.Prelude.{◌≡◌, ◌+◌, ◌<◌, ◌≤◌, length, IfOk};
+
+use std::io;
+use std::io::Read;
+
+/// A reader, and how often it may still be called.
+#[derive(Drop)]
+pub struct Calls<'a, R> {
+    reader: &'a mut R,
+    left: u32,
+}
+
+impl<'a, R: Read> Calls<'a, R> {
+    /// A reader that may be called so often.
+    pub fn new(reader: &'a mut R, left: u32) -> Calls<'a, R>
+        ensures { result.left ≡ left }
+    {
+        Calls { reader, left }
+    }
+
+    /// How often it may still be called.
+    pub fn left(&self) -> u32
+        ensures { result ≡ self.now.left }
+    {
+        self.left
+    }
+
+    /// Calls the reader once.
+    pub fn read(&mut self, buffer: &mut [u8]) -> io::Result<usize>
+        requires { 0 < self.old.left }
+        ensures called { self.new.left + 1 ≡ self.old.left }
+        ensures within { IfOk result (λ count. count ≤ length buffer.new) }
+    {
+        self.left -= 1;
+        self.reader.read(buffer)
+    }
+}

@@ -1,0 +1,250 @@
+-- How the items of a cache follow the set.
+use Rattle.std.proofs.Common.{ℕ, ◌≡◌, ◌<◌, ◌≤◌, true, false, not, List, [], ◌∷◌, ◌++◌, ◌⊎◌, inl, inr, length, take, drop, Result, Ok, Err, OnOk, OnErr, sym, ap, refl, ◌∙◌, subst, arith, length-append}
+use mathlib.Core.Bool.{false≢true}
+use Rattle.std.proofs.Math.Seq.{take-append_seam}
+use Rattle.std.specs.List.{insert}
+use Rattle.std.specs.Result.{is_ok, is_err}
+use Rattle.std.specs.declared.cmp.Ordering.TheVariants.{Greater}
+use Rattle.std.proofs.lemmas.Bool.Decides.{nat_tests}
+use Rattle.std.proofs.lemmas.List.{take-append-drop}
+use Rattle.fleet_observe.specs.Members.{Has}
+use Rattle.fleet_observe.specs.Fact.{Fact, IsFact, AreFacts, expires}
+use Rattle.fleet_cache.specs.Front.{IsDescending, IsUndominated, IsFront, shown}
+use Rattle.fleet_cache.specs.Live.{hidden}
+use Rattle.fleet_cache.specs.Dominates.{prunes}
+use Rattle.fleet_cache.specs.Cached.{place, Held, IsCached, IsKept, IsGapFor, IsSameSet}
+use Rattle.fleet_cache.proofs.Fronts.{bool_cases, climb, front_itself, front_shown, front_same, not_true, Has-append, Has-left, Has-right, Has-filter, Has-in_filter, IsDescending-append, IsDescending-parts}
+use Rattle.fleet_cache.proofs.Orders.{place_laws}
+
+-- what is shown later was shown before
+shown_twice : (f m : ℕ) (s : List Fact) → f ≤ m → shown hidden m (shown hidden f s) ≡ shown hidden m s
+shown_twice f m [] le = refl
+shown_twice f m (x ∷ s) le = elim (bool_cases (hidden f x)) [
+  | inl e ↦
+      let later : hidden m x ≡ true = grind (arith, nat_tests, e) in
+      rw (e, later) (shown_twice f m s le)
+  | inr e ↦ rw e (elim (bool_cases (hidden m x)) [
+    | inl h ↦ rw h (shown_twice f m s le)
+    | inr h ↦ rw h (ap (λ t. x ∷ t) (shown_twice f m s le))
+  ])
+]
+
+-- nothing of it has ended
+pub all_shown : (m : ℕ) (s : List Fact) → ((x : Fact) → Has s x → hidden m x ≡ false) → shown hidden m s ≡ s
+all_shown m [] h = refl
+all_shown m (x ∷ s) h = rw (h x (inl refl)) (ap (λ t. x ∷ t) (all_shown m s (λ y k. h y (inr k))))
+
+-- the members of a list with one more at a place
+module _ (items : List Fact) (at : ℕ) (x y : Fact) where
+  among : Has (insert items at x) y → (x ≡ y) ⊎ Has items y
+  among h = elim (Has-append (take at items) (x ∷ drop at items) y h) [
+    | inl l ↦ inr (subst (λ v. Has v y) (take-append-drop at items) (Has-left (take at items) (drop at items) y l))
+    | inr m ↦ elim m [
+      | inl same ↦ inl same
+      | inr r ↦ inr (subst (λ v. Has v y) (take-append-drop at items) (Has-right (take at items) (drop at items) y r))
+    ]
+  ]
+
+  inserted : (x ≡ y) ⊎ Has items y → Has (insert items at x) y
+  inserted h = elim h [
+    | inl same ↦ Has-right (take at items) (x ∷ drop at items) y (inl same)
+    | inr old ↦ elim (Has-append (take at items) (drop at items) y (subst (λ v. Has v y) (sym (take-append-drop at items)) old)) [
+      | inl l ↦ Has-left (take at items) (x ∷ drop at items) y l
+      | inr r ↦ Has-right (take at items) (x ∷ drop at items) y (inr r)
+    ]
+  ]
+
+-- one more, in the gap for it
+front_inserted : (s items : List Fact) (at : ℕ) (x : Fact) → IsGapFor x at items → IsFront place prunes s items → IsFront place prunes (x ∷ s) (insert items at x)
+front_inserted s items at x gap front = record {
+  descending =
+      let p = IsDescending-parts place (take at items) (drop at items) (subst (IsDescending place) (sym (take-append-drop at items)) front.descending) in
+      IsDescending-append place (take at items) (x ∷ drop at items) p.0 (gap.behind, p.1) (λ y z h k. elim k [
+        | inl same ↦ subst (λ v. place y v ≡ Greater) same (gap.before y h)
+        | inr r ↦ p.2 y z h r
+      ]);
+  of_set = λ y h. elim (among items at x y h) [ inl same ↦ inl same | inr old ↦ inr (front.of_set y old) ];
+  undominated = λ y h w m. refl;
+  whole = λ y m free. inserted items at x y (elim m [ inl same ↦ inl same | inr old ↦ inr (front.whole y old (λ w k. refl)) ]);
+}
+
+-- one that is there
+front_there : (s items : List Fact) (x : Fact) → Has items x → IsFront place prunes s items → IsFront place prunes (x ∷ s) items
+front_there s items x there front = record {
+  descending = front.descending;
+  of_set = λ y h. inr (front.of_set y h);
+  undominated = λ y h w m. refl;
+  whole = λ y m free. elim m [ inl same ↦ subst (Has items) same there | inr old ↦ front.whole y old (λ w k. refl) ];
+}
+
+more_lawful : (s : List Fact) (x : Fact) → IsFact x → AreFacts s → AreFacts (x ∷ s)
+more_lawful s x one all o h = elim h [ inl same ↦ subst IsFact same one | inr old ↦ all o old ]
+
+module _ (s items : List Fact) (f : ℕ) (x : Fact) (lawful : IsFact x) (cached : IsCached s f items) where
+  -- an observation that has ended at the floor
+  pub cached_ended : hidden f x ≡ true → IsCached (x ∷ s) f items
+  cached_ended e = record { lawful = more_lawful s x lawful cached.lawful; front = rw e cached.front }
+
+  -- one that is there
+  pub cached_there : hidden f x ≡ false → Has items x → IsCached (x ∷ s) f items
+  cached_there e there = record { lawful = more_lawful s x lawful cached.lawful; front = rw e (front_there (shown hidden f s) items x there cached.front) }
+
+  -- a new one
+  pub cached_put : (at : ℕ) → hidden f x ≡ false → IsGapFor x at items → IsCached (x ∷ s) f (insert items at x)
+  cached_put at e gap = record { lawful = more_lawful s x lawful cached.lawful; front = rw e (front_inserted (shown hidden f s) items at x gap cached.front) }
+
+-- each item is of the set, and has not ended
+pub item_of_set : (s items : List Fact) (f : ℕ) → IsCached s f items → (x : Fact) → Has items x → Has s x × (hidden f x ≡ false)
+item_of_set s items f cached x h = let k = Has-filter (λ o. not (hidden f o)) s x (cached.front.of_set x h) in (k.0, not_true (hidden f x) k.1)
+
+-- the items are those of their own set
+pub cached_itself : (s items : List Fact) (f : ℕ) → IsCached s f items → IsCached items f items
+cached_itself s items f cached = record {
+  lawful = λ o h. cached.lawful o (item_of_set s items f cached o h).0;
+  front = subst (λ v. IsFront place prunes v items) (sym (all_shown f items (λ o h. (item_of_set s items f cached o h).1))) (front_itself place_laws (shown hidden f s) items cached.front);
+}
+
+pub cached_purged : (s items : List Fact) (f m : ℕ) → f ≤ m → IsCached s f items → IsCached s m (shown hidden m items)
+cached_purged s items f m le cached = record {
+  lawful = cached.lawful;
+  front = subst (λ v. IsFront place prunes v (shown hidden m items)) (shown_twice f m s le) (front_shown place_laws m (shown hidden f s) items cached.front);
+}
+
+-- the same set at a later floor, where no item has ended by then
+pub cached_later : (s items : List Fact) (f m : ℕ) → f ≤ m → ((x : Fact) → Has items x → hidden m x ≡ false) → IsCached s f items → IsCached s m items
+cached_later s items f m le live cached = subst (IsCached s m) (all_shown m items live) (cached_purged s items f m le cached)
+
+-- the items of a cache stand for its set: taken into another at no lower floor, they give the cache of both
+pub cached_both : (s u theirs items : List Fact) (f g : ℕ) → g ≤ f → IsCached u g theirs → IsCached (theirs ++ s) f items → IsCached (u ++ s) f items
+cached_both s u theirs items f g le from cached = record {
+  lawful = λ o h. elim (Has-append u s o h) [ inl l ↦ from.lawful o l | inr r ↦ cached.lawful o (Has-right theirs s o r) ];
+  front = record {
+    descending = cached.front.descending;
+    of_set = λ x h. widen x (cached.front.of_set x h);
+    undominated = λ x h w m. elim (bool_cases (prunes w x)) [
+      | inr nay ↦ nay
+      | inl over ↦ absurd (false≢true (sym (cached.front.undominated x h (peak w m).0 (peak w m).1) ∙ elim (peak w m).2 [
+        | inl same ↦ ap (λ v. prunes v x) same ∙ over
+        | inr far ↦ place_laws.chained (peak w m).0 w x far over
+      ]))
+    ];
+    whole = λ x m free. cached.front.whole x (narrow x m free) (λ w h. free w (widen w h));
+  };
+}
+  where
+    later : (x : Fact) → hidden f x ≡ false → hidden g x ≡ false
+    later x e = elim (bool_cases (hidden g x)) [ inr no_end ↦ no_end | inl end ↦ absurd (false≢true (sym e ∙ grind (arith, nat_tests, end))) ]
+
+    widen : (x : Fact) → Has (shown hidden f (theirs ++ s)) x → Has (shown hidden f (u ++ s)) x
+    widen x h = let k = Has-filter (λ o. not (hidden f o)) (theirs ++ s) x h in elim (Has-append theirs s x k.0) [
+      | inl l ↦ Has-in_filter (λ o. not (hidden f o)) (u ++ s) x (Has-left u s x (Has-filter (λ o. not (hidden g o)) u x (from.front.of_set x l)).0) k.1
+      | inr r ↦ Has-in_filter (λ o. not (hidden f o)) (u ++ s) x (Has-right u s x r) k.1
+    ]
+
+    -- what prunes w, or w itself, among what is shown of theirs and s
+    peak : (w : Fact) → Has (shown hidden f (u ++ s)) w → (p : Fact) × Has (shown hidden f (theirs ++ s)) p × ((p ≡ w) ⊎ (prunes p w ≡ true))
+    peak w m = let k = Has-filter (λ o. not (hidden f o)) (u ++ s) w m in elim (Has-append u s w k.0) [
+      | inr r ↦ (w, Has-in_filter (λ o. not (hidden f o)) (theirs ++ s) w (Has-right theirs s w r) k.1, inl refl)
+      | inl l ↦
+          let there : Has (shown hidden g u) w = Has-in_filter (λ o. not (hidden g o)) u w l (ap not (later w (not_true _ k.1))) in
+          let c = climb place_laws (shown hidden g u) w in
+          let member : Has (shown hidden g u) c.0 = elim c.1 [ inl same ↦ subst (Has (shown hidden g u)) (sym same) there | inr far ↦ far.0 ] in
+          let seen : hidden f c.0 ≡ false = elim c.1 [
+            | inl same ↦ ap (hidden f) same ∙ not_true _ k.1
+            | inr far ↦ elim (bool_cases (hidden f c.0)) [ inr nay ↦ nay | inl end ↦ absurd (false≢true (sym (not_true _ k.1) ∙ place_laws.hides_below f c.0 w end far.1)) ]
+          ] in
+          (c.0, Has-in_filter (λ o. not (hidden f o)) (theirs ++ s) c.0 (Has-left theirs s c.0 (from.front.whole c.0 member c.2)) (ap not seen), elim c.1 [ inl same ↦ inl same | inr far ↦ inr far.1 ])
+    ]
+
+    narrow : (x : Fact) → Has (shown hidden f (u ++ s)) x → IsUndominated prunes (shown hidden f (u ++ s)) x → Has (shown hidden f (theirs ++ s)) x
+    narrow x m free = let k = Has-filter (λ o. not (hidden f o)) (u ++ s) x m in elim (Has-append u s x k.0) [
+      | inr r ↦ Has-in_filter (λ o. not (hidden f o)) (theirs ++ s) x (Has-right theirs s x r) k.1
+      | inl l ↦ Has-in_filter (λ o. not (hidden f o)) (theirs ++ s) x (Has-left theirs s x (from.front.whole x (Has-in_filter (λ o. not (hidden g o)) u x l (ap not (later x (not_true _ k.1)))) (λ w h. elim (bool_cases (prunes w x)) [
+        | inr nay ↦ nay
+        | inl over ↦ elim (bool_cases (hidden f w)) [
+          | inl end ↦ absurd (false≢true (sym (not_true _ k.1) ∙ place_laws.hides_below f w x end over))
+          | inr seen ↦ free w (Has-in_filter (λ o. not (hidden f o)) (u ++ s) w (Has-left u s w (Has-filter (λ o. not (hidden g o)) u w h).0) (ap not seen))
+        ]
+      ]))) k.1
+    ]
+
+-- equal sets at equal floors are held alike
+pub cached_same : (s t xs ys : List Fact) (f : ℕ) → IsCached s f xs → IsCached t f ys → IsSameSet s t → xs ≡ ys
+cached_same s t xs ys f a b same = front_same place_laws (shown hidden f s) (shown hidden f t) xs ys a.front b.front
+    (λ z h. let k = Has-filter (λ o. not (hidden f o)) s z h in Has-in_filter (λ o. not (hidden f o)) t z (same.into z k.0) k.1)
+    (λ z h. let k = Has-filter (λ o. not (hidden f o)) t z h in Has-in_filter (λ o. not (hidden f o)) s z (same.back z k.0) k.1)
+
+-- the order in which a set is listed does not count
+pub cached_listed : (s t items : List Fact) (f : ℕ) → IsCached s f items → IsSameSet s t → IsCached t f items
+cached_listed s t items f a same = record {
+  lawful = λ o h. a.lawful o (same.back o h);
+  front = record {
+    descending = a.front.descending;
+    of_set = λ z h. let k = Has-filter (λ o. not (hidden f o)) s z (a.front.of_set z h) in Has-in_filter (λ o. not (hidden f o)) t z (same.into z k.0) k.1;
+    undominated = λ z h w m. let k = Has-filter (λ o. not (hidden f o)) t w m in a.front.undominated z h w (Has-in_filter (λ o. not (hidden f o)) s w (same.back w k.0) k.1);
+    whole = λ z m free. let k = Has-filter (λ o. not (hidden f o)) t z m in a.front.whole z (Has-in_filter (λ o. not (hidden f o)) s z (same.back z k.0) k.1) (λ w h. let j = Has-filter (λ o. not (hidden f o)) s w h in free w (Has-in_filter (λ o. not (hidden f o)) t w (same.into w j.0) j.1));
+  };
+}
+
+-- one more of a list was taken
+more_same : (ys s : List Fact) (x : Fact) → IsSameSet (x ∷ (ys ++ s)) ((ys ++ x ∷ []) ++ s)
+more_same ys s x = record {
+  into = λ z h. elim h [
+    | inl e ↦ Has-left (ys ++ x ∷ []) s z (Has-right ys (x ∷ []) z (inl e))
+    | inr m ↦ elim (Has-append ys s z m) [ inl l ↦ Has-left (ys ++ x ∷ []) s z (Has-left ys (x ∷ []) z l) | inr r ↦ Has-right (ys ++ x ∷ []) s z r ]
+  ];
+  back = λ z h. elim (Has-append (ys ++ x ∷ []) s z h) [
+    | inl l ↦ elim (Has-append ys (x ∷ []) z l) [ inl a ↦ inr (Has-left ys s z a) | inr b ↦ elim b [ inl e ↦ inl e | inr none ↦ absurd none ] ]
+    | inr r ↦ inr (Has-right ys s z r)
+  ];
+}
+
+pub cached_more : (ys s items : List Fact) (f : ℕ) (x : Fact) → IsCached (x ∷ (ys ++ s)) f items → IsCached ((ys ++ x ∷ []) ++ s) f items
+cached_more ys s items f x cached = cached_listed (x ∷ (ys ++ s)) ((ys ++ x ∷ []) ++ s) items f cached (more_same ys s x)
+
+-- what was kept stays kept
+pub kept_put : (f earliest : ℕ) (items : List Fact) (at : ℕ) (x : Fact) → IsKept f earliest items → IsFact x → hidden f x ≡ false → IsGapFor x at items → (least : ℕ) → least ≤ earliest → least ≤ expires x → IsKept f least (insert items at x)
+kept_put f earliest items at x kept lawful e gap least le lx = record {
+  own = cached_itself (x ∷ items) (insert items at x) f (cached_put items items f x lawful kept.own at e gap);
+  bound = λ y h. elim (among items at x y h) [ inl same ↦ subst (λ v. least ≤ expires v) same lx | inr old ↦ let b = kept.bound y old in omega arith ];
+}
+
+pub kept_purged : (f m earliest least : ℕ) (items : List Fact) → f ≤ m → IsKept f earliest items → ((y : Fact) → Has (shown hidden m items) y → least ≤ expires y) → IsKept m least (shown hidden m items)
+kept_purged f m earliest least items le kept bound = record {
+  own = cached_itself items (shown hidden m items) m (cached_purged items items f m le kept.own);
+  bound = bound;
+}
+
+pub kept_later : (f m earliest : ℕ) (items : List Fact) → f ≤ m → ((x : Fact) → Has items x → hidden m x ≡ false) → IsKept f earliest items → IsKept m earliest items
+kept_later f m earliest items le live kept = record { own = cached_later items items f m le live kept.own; bound = kept.bound }
+
+-- a cache took a list in, and its floor stayed
+pub record HasTaken (before after : Held) (list : List Fact) : Type 0 where
+  pub cached : (s : List Fact) → IsCached s before.floor before.items → IsCached (list ++ s) after.floor after.items
+  pub floor : after.floor ≡ before.floor
+
+pub taken_none : (held : Held) → HasTaken held held []
+taken_none held = record { cached = λ s cached. cached; floor = refl }
+
+-- and one more
+pub taken_more : (before mid after : Held) (list : List Fact) (x : Fact) → HasTaken before mid list → ((s : List Fact) → IsCached s mid.floor mid.items → IsCached (x ∷ s) after.floor after.items) → after.floor ≡ mid.floor → HasTaken before after (list ++ x ∷ [])
+taken_more before mid after list x taken one same = record {
+  cached = λ s cached. cached_more list s after.items after.floor x (one (list ++ s) (taken.cached s cached));
+  floor = same ∙ taken.floor;
+}
+
+-- where a list begins with what was taken, its front part of that length is what was taken
+pub taken_is : (ys rest all : List Fact) (n : ℕ) → all ≡ ys ++ rest → n ≡ length ys → take n all ≡ ys
+taken_is ys rest all n e l = rw (e, l) (take-append_seam ys rest)
+
+pub taken_within : (ys rest all : List Fact) (x : Fact) (n : ℕ) → all ≡ ys ++ x ∷ rest → n ≡ length ys → n < length all
+taken_within ys rest all x n e l = let whole = ap length e in let parts = length-append ys (x ∷ rest) in omega (arith, l, whole, parts)
+
+-- a result that is known to be one or the other
+pub at_ok : {T E P : Type 0} (r : Result T E) → is_ok r ≡ true → OnOk r P → P
+at_ok (Ok x) e p = p
+at_ok (Err y) e p = absurd (false≢true e)
+
+pub at_err : {T E P : Type 0} (r : Result T E) → true ≡ is_err r → OnErr r P → P
+at_err (Ok x) e p = absurd (false≢true (sym e))
+at_err (Err y) e p = p

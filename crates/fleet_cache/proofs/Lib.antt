@@ -1,0 +1,14 @@
+mod Fronts
+mod Orders
+mod Keys
+mod Names
+mod Lawful
+mod Caches
+mod Sorted
+mod Best
+mod Answers
+mod Follow
+mod Paths
+mod Relevance
+mod Worked
+mod Dominated

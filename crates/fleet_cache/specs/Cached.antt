@@ -1,0 +1,54 @@
+-- What a cache holds of a set of observations.
+use Rattle.std.specs.Prelude.{◌≡◌, ℕ, ◌/◌, ◌%◌, ◌≤◌, true, ◌⊎◌, List, [], ◌∷◌, ◌++◌, length, take, drop}
+use Rattle.std.specs.declared.cmp.Ordering.{Ordering}
+use Rattle.std.specs.declared.cmp.Ordering.TheVariants.{Greater}
+use Rattle.std.specs.Ordering.{nat_cmp, ordering_then}
+use Rattle.std.specs.Cmp.Lexicographic.{slice_cmp}
+use Rattle.fleet_observe.specs.Members.{Has}
+use Rattle.fleet_observe.specs.Fact.{Fact, AreFacts, expires, key_of}
+use Rattle.fleet_observe.specs.Preference.{preference}
+use Rattle.fleet_cache.specs.Front.{IsFront, shown}
+use Rattle.fleet_cache.specs.Live.{hidden}
+use Rattle.fleet_cache.specs.Dominates.{prunes}
+
+-- octets in the order of a dictionary
+abbrev pub key_cmp : List ℕ → List ℕ → Ordering
+key_cmp = slice_cmp nat_cmp
+
+-- the octets of a key, by those of its name
+abbrev pub key_with : List ℕ → ℕ → ℕ → List ℕ
+key_with name kind rtype = name ++ kind ∷ rtype / 256 ∷ rtype % 256 ∷ []
+
+-- by key, and the preferred first within a key: what is greater comes first
+abbrev pub place : Fact → Fact → Ordering
+place x y = ordering_then (key_cmp (key_of y) (key_of x)) (preference x y)
+
+-- the items are the observations of s that end after the floor and are not pruned, in order
+pub record IsCached (s : List Fact) (floor : ℕ) (items : List Fact) : Type 0 where
+  pub lawful : AreFacts s
+  pub front : IsFront place prunes (shown hidden floor s) items
+
+-- what a cache holds: its floor, and its items in order
+pub record Held : Type 0 where
+  pub floor : ℕ
+  pub items : List Fact
+
+-- what a cache keeps: its items are those of their own set, and none of them ends before the earliest
+pub record IsKept (floor earliest : ℕ) (items : List Fact) : Type 0 where
+  pub own : IsCached items floor items
+  pub bound : (x : Fact) → Has items x → earliest ≤ expires x
+
+-- a cache need not take o in: it has ended at the floor, or is there already, or would be pruned
+abbrev pub IsNeedless : ℕ → List Fact → Fact → Type 0
+IsNeedless floor items o = (expires o ≤ floor) ⊎ ((p : Fact) × Has items p × ((p ≡ o) ⊎ (prunes p o ≡ true)))
+
+-- two lists have the same members
+pub record IsSameSet (s t : List Fact) : Type 0 where
+  pub into : (x : Fact) → Has s x → Has t x
+  pub back : (x : Fact) → Has t x → Has s x
+
+-- all before the place stand before x, and all others behind it
+pub record IsGapFor (x : Fact) (at : ℕ) (items : List Fact) : Type 0 where
+  pub within : at ≤ length items
+  pub before : (y : Fact) → Has (take at items) y → place y x ≡ Greater
+  pub behind : (y : Fact) → Has (drop at items) y → place x y ≡ Greater

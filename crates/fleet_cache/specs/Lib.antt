@@ -1,0 +1,13 @@
+pub mod Front
+pub mod Live
+pub mod Dominates
+pub mod Cached
+pub mod Relevant
+pub mod Answer
+pub mod Shown
+pub mod Told
+pub mod Best
+pub mod Underway
+pub mod Path
+pub mod Laws
+pub mod Rows

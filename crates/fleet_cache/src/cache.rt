@@ -1,0 +1,242 @@
+//! What a site holds.
+
+ghost use Rattle.std.specs.Prelude.{◌≡◌, ℕ, ◌<◌, ◌≤◌, max, false, not, List, [], ◌∷◌, ◌++◌, ◌↔◌, length, take, IsTrue, IfOk, IfErr, OnOk, OnErr};
+ghost use Rattle.fleet_observe.specs.Members.{Has};
+ghost use Rattle.fleet_observe.specs.Fact.{Fact, expires as end_of};
+ghost use Rattle.fleet_cache.specs.Front.{IsDescending, shown};
+ghost use Rattle.fleet_cache.specs.Live.{hidden};
+ghost use Rattle.fleet_cache.specs.Cached.{place, IsCached, IsNeedless, IsSameSet, IsGapFor};
+ghost use Rattle.fleet_cache.specs.Answer.{answer_of};
+ghost use Rattle.fleet_cache.specs.Told.{told};
+
+use crate::answer::{Answer, follow};
+use crate::items::Items;
+use crate::order::place_order;
+use fleet_observe::{Moment, Observation};
+use fleet_wire::Question;
+use std::alloc::{AllocError, Allocator, Global};
+use std::cmp::Ordering;
+use std::marker::Model;
+
+/// There was no memory for an observation; those before it were taken, and the floor stayed.
+#[derive(Clone, Copy, Debug, PartialEq, Eq)]
+pub struct Stopped {
+    /// How many were taken: just the first ones, in their order.
+    pub taken: usize,
+}
+
+/// The observations of a set that end after a floor, in one list: by key (the octets of the name,
+/// the kind, the type), and the preferred first within a key.
+///
+/// `earliest` is a moment before which none of them ends, so that a purge up to an earlier one
+/// looks at none.
+#[derive(Drop)]
+pub struct Cache<A: Allocator = Global> {
+    floor: Moment,
+    earliest: u64,
+    items: Vec<Observation<A>, A>,
+}
+
+impl<A: Allocator> Model for Cache<A> {
+    ghost use Rattle.fleet_cache.specs.Cached.{Held, IsKept};
+
+    ghost Value = { Held };
+
+    ghost view = { λ c. record { floor = c.floor; items = c.items.items } };
+
+    ghost invariant = { λ c. IsKept c.floor c.earliest c.items.items };
+}
+
+impl<A: Allocator> Cache<A> {
+    /// No items, at floor 0: the cache of no observations.
+    pub fn new(alloc: A) -> Cache<A>
+        ensures held { result ≡ record { floor = 0; items = [] } }
+        ensures cached { IsCached [] result.floor result.items }
+    {
+        Cache {
+            floor: Moment::new(0).unwrap(),
+            earliest: u64::MAX,
+            items: Vec::new(alloc),
+        }
+    }
+
+    /// Takes an observation in; `false` where it had ended at the floor or was there already, and
+    /// nothing changed. Without memory for it nothing changes.
+    pub fn take(&mut self, observation: Observation<A>) -> Result<bool, AllocError>
+        ensures taken { (s : List Fact) → IsCached s self.old.floor self.old.items → OnOk result (IsCached (observation ∷ s) self.new.floor self.new.items) }
+        ensures kept { IfOk result (λ kept. (kept ≡ false) ↔ IsNeedless self.old.floor self.old.items observation) }
+        ensures floor { self.new.floor ≡ self.old.floor }
+        ensures err { OnErr result (self.new ≡ self.old) }
+    {
+        let expires = observation.expires();
+        if expires <= self.floor.value() {
+            return Ok(false);
+        }
+        match place_of(&self.items, &observation) {
+            Ok(_) => Ok(false),
+            Err(at) => {
+                self.items.insert(at, observation)?;
+                self.earliest = self.earliest.min(expires);
+                Ok(true)
+            }
+        }
+    }
+
+    /// Takes observations in, one after the other, as `take` does.
+    pub fn take_list(&mut self, observations: Vec<Observation<A>, A>) -> Result<(), Stopped>
+        ensures taken { (s : List Fact) → IsCached s self.old.floor self.old.items → OnOk result (IsCached (observations.items ++ s) self.new.floor self.new.items) }
+        ensures stopped { (s : List Fact) → IsCached s self.old.floor self.old.items → IfErr result (λ e. IsCached (take e.taken observations.items ++ s) self.new.floor self.new.items) }
+        ensures within { IfErr result (λ e. e.taken < length observations.items) }
+        ensures floor { self.new.floor ≡ self.old.floor }
+    {
+        let mut taken = 0;
+        for observation in observations {
+            if self.take(observation).is_err() {
+                return Err(Stopped { taken });
+            }
+            taken += 1;
+        }
+        Ok(())
+    }
+
+    /// Takes copies of the other's items in, in their order, and then purges to its floor: it is
+    /// then the cache of both sets, at the later floor.
+    pub fn merge(&mut self, other: &Cache<A>) -> Result<(), Stopped>
+    where
+        A: Clone,
+        ensures both { (s u : List Fact) → IsCached s self.old.floor self.old.items → IsCached u other.now.floor other.now.items → OnOk result (IsCached (u ++ s) self.new.floor self.new.items) }
+        ensures floor { OnOk result (self.new.floor ≡ max self.old.floor other.now.floor) }
+        ensures stopped { (s : List Fact) → IsCached s self.old.floor self.old.items → IfErr result (λ e. IsCached (take e.taken other.now.items ++ s) self.new.floor self.new.items) }
+        ensures within { IfErr result (λ e. e.taken < length other.now.items) }
+        ensures floor_stopped { OnErr result (self.new.floor ≡ self.old.floor) }
+    {
+        for (taken, item) in other.items.iter().enumerate() {
+            if self.take_copy(item).is_err() {
+                return Err(Stopped { taken });
+            }
+        }
+        self.purge(other.floor);
+        Ok(())
+    }
+
+    // Takes a copy of an observation in.
+    fn take_copy(&mut self, observation: &Observation<A>) -> Result<bool, AllocError>
+    where
+        A: Clone,
+        ensures taken { (s : List Fact) → IsCached s self.old.floor self.old.items → OnOk result (IsCached (observation.now ∷ s) self.new.floor self.new.items) }
+        ensures floor { self.new.floor ≡ self.old.floor }
+        ensures err { OnErr result (self.new ≡ self.old) }
+    {
+        self.take(observation.try_clone()?)
+    }
+
+    /// Raises the floor to the moment, if that is later, and drops what has ended by then.
+    pub fn purge(&mut self, moment: Moment)
+        ensures purged { (s : List Fact) → IsCached s self.old.floor self.old.items → IsCached s self.new.floor self.new.items }
+        ensures floor { self.new.floor ≡ max self.old.floor moment }
+    {
+        if moment.value() <= self.floor.value() {
+            return;
+        }
+        self.floor = moment;
+        if moment.value() < self.earliest {
+            return;
+        }
+        expire(&mut self.items, moment.value());
+        self.earliest = earliest_end(&self.items);
+    }
+
+    /// The moment up to which the cache was purged: what has ended by then is not held.
+    pub fn floor(&self) -> Moment
+        ensures { result ≡ self.now.floor }
+    {
+        self.floor
+    }
+
+    /// Whether floor and items are the other's.
+    pub fn same(&self, other: &Cache<A>) -> bool
+        ensures same { IsTrue result ↔ (self.now ≡ other.now) }
+        ensures alike { (s t : List Fact) → IsCached s self.now.floor self.now.items → IsCached t other.now.floor other.now.items → IsSameSet s t → self.now.floor ≡ other.now.floor → IsTrue result }
+    {
+        self.floor == other.floor && same_items(&self.items, &other.items)
+    }
+
+    /// The items, by key (the octets of the name, the kind, the type), and the preferred first
+    /// within a key.
+    pub fn items(&self) -> Items<'_, A>
+        ensures items { result ≡ self.now.items }
+        ensures own { IsCached self.now.items self.now.floor self.now.items }
+    {
+        Items::new(&self.items)
+    }
+
+    /// What the set answers to a question at a moment, or at the floor where the moment is before
+    /// it. The most preferred observation that is live then and relevant decides; an alias is
+    /// followed where another type is asked for, at most 8 of them. Records of two observations
+    /// are never merged (RFC 2181 5.4). The question's class is not looked at. The parts are
+    /// copies: without memory for them there is no answer.
+    pub fn answer(
+        &self,
+        alloc: A,
+        question: &Question<A>,
+        moment: Moment,
+    ) -> Result<Answer<A>, AllocError>
+    where
+        A: Clone,
+        ensures { (s : List Fact) → IsCached s self.now.floor self.now.items → IfOk result (λ a. told a ≡ answer_of s (max self.now.floor moment) question.now.name question.now.rtype) }
+    {
+        let at = self.floor.value().max(moment.value());
+        follow(
+            alloc,
+            &self.items,
+            question.name.octets(),
+            question.rtype,
+            at,
+        )
+    }
+}
+
+// Where an observation is in a list, or where it would go.
+fn place_of<A: Allocator>(
+    items: &[Observation<A>],
+    observation: &Observation<A>,
+) -> Result<usize, usize>
+    requires { IsDescending place items.now }
+    ensures found { IfOk result (λ _. Has items.now observation.now) }
+    ensures absent { IfErr result (λ at. IsGapFor observation.now at items.now) }
+{
+    items.binary_search_by(
+        |item: &Observation<A>| -> Ordering
+            ensures { result ≡ place observation.entry.now item.now }
+        { place_order(item, observation) },
+    )
+}
+
+// Drops what has ended at the moment.
+fn expire<A: Allocator>(items: &mut Vec<Observation<A>, A>, moment: u64)
+    ensures { items.new.items ≡ shown hidden moment items.old.items }
+{
+    items.retain(
+        |item: &Observation<A>| -> bool
+            ensures { result ≡ not (hidden moment item.now) }
+        { item.expires() > moment },
+    );
+}
+
+// A lower bound of the ends: the least of them, if there is one.
+fn earliest_end<A: Allocator>(items: &[Observation<A>]) -> u64
+    ensures { (x : Fact) → Has items.now x → result ≤ end_of x }
+{
+    let mut earliest = u64::MAX;
+    for item in items {
+        earliest = earliest.min(item.expires());
+    }
+    earliest
+}
+
+// Whether both lists have the same items.
+fn same_items<A: Allocator>(ours: &[Observation<A>], theirs: &[Observation<A>]) -> bool
+    ensures { IsTrue result ↔ (ours.now ≡ theirs.now) }
+{
+    ours == theirs
+}

@@ -1,0 +1,15 @@
+pub mod Lists
+pub mod Lawful
+pub mod Orders
+pub mod Preferences
+pub mod Bodies
+pub mod Spelling
+pub mod Sections
+pub mod Sets
+pub mod Soas
+pub mod Walks
+pub mod Owners
+pub mod LawfulMeanings
+pub mod Facts
+pub mod Lines
+pub mod OneMeaning

@@ -1,0 +1,56 @@
+use Rattle.std.proofs.Common.{◌<◌, ◌≤◌, ◌∷◌, ◌∙◌, [], inl, inr, length, take, refl, sym, arith}
+use mathlib.Core.Bool.{false≢true}
+use Rattle.fleet_wire.specs.Record.{all_told, told}
+use Rattle.fleet_observe.specs.RrSet.{set_of, sets_of}
+use Rattle.fleet_observe.specs.Meaning.{owners_of, IsRepeated}
+use Rattle.fleet_observe.proofs.Sections.{told_member, told-item, told-all, sets_of-append}
+use Rattle.fleet_observe.proofs.Owners.{ns_in, owners_of-append, owners_new, owners_same, owner_known, owner_kept, each_more}
+use Rattle.fleet_observe.proofs.authority.ns_sets.Goals as goal
+use Rattle.fleet_observe.proofs.authority.ns_sets.Goals.{then-is_ns+then-not-owns+in_ok-clone-2+in_ok-set+in_ok-push, else-is_ns, else-is_ns-via-then-is_ns+else-not-owns, else-is_ns-via-else-is_ns}
+
+pub loop-record-init : goal.loop-record-init
+loop-record-init g c = rw c.new-sets.ensures.items (record { owners = refl; each = λ x h. absurd h })
+
+pub gather-requires : goal.gather-requires
+gather-requires g c =
+    let xs = c.args.authority.now in let i = c.loop-record.record-index in let item = c.record-item.result in
+    let within : i < length xs = omega arith in
+    (_, ns_in (all_told xs) c.args.name.now (told item) (told_member xs i item within c.record-item.is) (c.is_ns.ensures.0 c.if-is_ns.true))
+
+pub loop-record-preserved : goal.loop-record-preserved
+loop-record-preserved g c =
+    let xs = c.args.authority.now in let i = c.loop-record.record-index in let item = c.record-item.result in
+    let q = c.args.name.now in let sets = c.loop-record.sets.items in let inv = c.loop-record.invariant in
+    let within : i < length xs = omega arith in
+    let e = told-item xs i item within c.record-item.is in
+    let seen = all_told (take i xs) in
+    elim c.if-is_ns.branch [
+      | then-is_ns+then-not-owns+in_ok-clone-2+in_ok-set+in_ok-push w ↦
+          let ns = c.is_ns.ensures.0 w.if-is_ns.true in
+          let new : ¬ IsRepeated q seen (told item) = λ r.
+          elim (owner_kept q [] seen (owners_of (sets_of sets)) r.earlier inv.owners r.member r.ns) [
+            | inl listed ↦ false≢true (sym w.if-not-owns.true ∙ w.owns.ensures.1 (rw (w.deref.ensures.value, ← r.same) listed))
+            | inr before ↦ before.member
+          ] in
+          let more = sets_of-append sets (w.in_ok-set.set ∷ []) in
+          let named = w.in_ok-set.ensures.name in
+          rw (w.sets-is, w.in_ok-push.ensures.items, e, more, owners_of-append (sets_of sets) (set_of w.in_ok-set.set ∷ []))
+          (record { owners = rw named (owners_new q [] seen (owners_of (sets_of sets)) (told item) inv.owners ns new); each = each_more _ (sets_of sets) _ _ inv.each w.in_ok-set.ensures })
+      | else-is_ns w ↦
+          rw (w.sets-is, e)
+          (record {
+            owners = owners_same q [] seen (owners_of (sets_of sets)) (told item) inv.owners
+                (elim w.else-is_ns.branch [
+                  | else-is_ns-via-then-is_ns+else-not-owns w' ↦
+                      let k = owner_known q [] seen (owners_of (sets_of sets)) item.name inv.owners (rw w'.deref.ensures.value at (w'.owns.ensures.0 w'.if-not-owns.false)) in
+                      inr (record { earlier = k.0; member = k.1; ns = k.2; same = k.3 })
+                  | else-is_ns-via-else-is_ns w' ↦ inl (λ h. false≢true (sym w'.if-is_ns.false ∙ c.is_ns.ensures.1 h))
+                ]);
+            each = inv.each;
+          })
+    ]
+
+pub returns : goal.returns
+returns g c =
+    let all : length c.args.authority.now ≤ c.loop-record.record-index = omega arith in
+    record { owners = rw (told-all c.args.authority.now c.loop-record.record-index all) at c.loop-record.invariant.owners; each = c.loop-record.invariant.each }

@@ -1,0 +1,17 @@
+use Rattle.std.proofs.Common.{arith, subst, ◌∙◌, sym}
+use Rattle.fleet_observe.specs.Body.{IsDenial}
+use Rattle.fleet_observe.specs.Checks.{MakesNegative}
+use Rattle.fleet_observe.proofs.Lawful.{negative_lawful, denied_not_positive}
+use Rattle.fleet_observe.proofs.observation.Observation.negative.Goals as goal
+
+pub invariant_of-result : goal.invariant_of-result
+invariant_of-result g c =
+    let denial : IsDenial c.args.name c.args.soa.owner c.as_slice.result.now = c.is_denial.ensures.0 c.if-not-is_denial.false in
+    let body : IsDenial c.args.name c.args.soa.owner c.args.soa.rdata = subst (IsDenial c.args.name c.args.soa.owner) c.as_slice.ensures denial in
+    let made : MakesNegative c.args.name c.args.rtype c.args.rank c.args.life c.args.soa.owner c.args.soa.rdata = record {
+      ranked = c.is_negative_rank.ensures.0 c.if-not-is_negative_rank.false;
+      lasts = c.is_life.ensures.0 c.if-not-is_life.false;
+      typed = c.is_denied_type.ensures.0 c.if-not-is_denied_type.false;
+      body = body;
+    } in
+    (rw (c.kind_of_denial.ensures, c.unwrap_or.ensures) (negative_lawful c.args.name c.args.rtype c.args.rank c.args.stamp c.args.life c.args.soa.owner c.args.soa.rdata c.octets.ensures.named (omega arith) made), (λ k. denied_not_positive c.args.rtype (sym c.kind_of_denial.ensures ∙ k), body))

@@ -1,0 +1,23 @@
+use Rattle.std.proofs.Common.{◌<◌, ◌≤◌, length, take, arith, refl, append_assoc}
+use Rattle.fleet_observe.specs.RrSet.{set_of, sets_of}
+use Rattle.fleet_observe.proofs.Sections.{sets_item, sets_all, set_member}
+use Rattle.fleet_observe.proofs.Facts.{link_facts-push}
+use Rattle.fleet_observe.proofs.observed.put_links.Goals as goal
+
+pub put_set-requires-clause-lawful : goal.put_set-requires-clause-lawful
+put_set-requires-clause-lawful g c =
+    let xs = c.chain-link-items.result.now in let i = c.loop-link.link-index in let item = c.link-item.result in
+    let within : i < length xs = omega arith in
+    let is = c.chain-link-items.ensures in
+    (is.lawful.chain (set_of item) (rw (← is.chain) (set_member xs i item within c.link-item.is))).set
+
+pub loop-link-preserved : goal.loop-link-preserved
+loop-link-preserved g c =
+    let xs = c.chain-link-items.result.now in let i = c.loop-link.link-index in let item = c.link-item.result in
+    let within : i < length xs = omega arith in
+    rw (sets_item xs i item within c.link-item.is, link_facts-push c.args.digest.now.aa c.args.digest.now.name c.args.stamp (sets_of (take i xs)) (set_of item), c.in_ok-put_set.ensures, c.rank_of-rank.ensures.rank, c.name-name.ensures.name, c.aa-aa.ensures.aa, c.loop-link.invariant, append_assoc) refl
+
+pub returns : goal.returns
+returns g c =
+    let all : length c.chain-link-items.result.now ≤ c.loop-link.link-index = omega arith in
+    rw (sets_all c.chain-link-items.result.now c.loop-link.link-index all, c.chain-link-items.ensures.chain) at c.loop-link.invariant

@@ -1,0 +1,47 @@
+-- The octets of bodies, and which of them are lawful. All numbers have two octets, the high one first.
+use Rattle.std.specs.Prelude.{◌≡◌, ◌≢◌, ℕ, ◌≤◌, List, [], ◌++◌, length}
+use Rattle.std.specs.List.{flat_map}
+use Rattle.fleet_name.specs.Name.{wire, IsName, IsUnder}
+use Rattle.fleet_wire.specs.Number.{u16_octets}
+use Rattle.fleet_wire.specs.Shape.{IsPlain}
+use Rattle.fleet_observe.specs.Members.{Has, IsAscending}
+
+-- octets behind their number
+abbrev pub sized : List ℕ → List ℕ
+sized octets = u16_octets (length octets) ++ octets
+
+-- RDATAs: how many, and each behind its length
+abbrev pub positive_body : List (List ℕ) → List ℕ
+positive_body rdatas = u16_octets (length rdatas) ++ flat_map sized rdatas
+
+-- the SOA of a denial: its owner in full, and its RDATA behind its length
+abbrev pub negative_body : List (List ℕ) → List ℕ → List ℕ
+negative_body owner rdata = wire owner ++ sized rdata
+
+-- RDATAs that an observation may hold: at least one, ascending, each of the type's shape with its names in full and in
+-- lower case, one alone for an alias (CNAME, 5; RFC 2181 10.1), and of at most 8192 octets together
+pub record AreRdatas (rtype : ℕ) (rdatas : List (List ℕ)) : Type 0 where
+  pub some : rdatas ≢ []
+  pub ascending : IsAscending rdatas
+  pub plain : (rdata : List ℕ) → Has rdatas rdata → IsPlain rtype rdata
+  pub alone : rtype ≡ 5 → length rdatas ≡ 1
+  pub short : length (positive_body rdatas) ≤ 8192
+
+-- the SOA record (6) that stands for a denial of the name: its owner is the name or an ancestor (RFC 2308 5)
+pub record IsDenial (name owner : List (List ℕ)) (rdata : List ℕ) : Type 0 where
+  pub named : IsName owner
+  pub under : IsUnder name owner
+  pub plain : IsPlain 6 rdata
+
+-- octets that are a positive body
+pub record IsPositiveBody (rtype : ℕ) (body : List ℕ) : Type 0 where
+  pub rdatas : List (List ℕ)
+  pub lawful : AreRdatas rtype rdatas
+  pub octets : body ≡ positive_body rdatas
+
+-- octets that are the body of a denial of the name
+pub record IsNegativeBody (name : List (List ℕ)) (body : List ℕ) : Type 0 where
+  pub owner : List (List ℕ)
+  pub rdata : List ℕ
+  pub lawful : IsDenial name owner rdata
+  pub octets : body ≡ negative_body owner rdata

@@ -1,0 +1,36 @@
+-- The parts of a body, as they are held.
+use Rattle.std.specs.Prelude.{◌≡◌, ◌≢◌, ℕ, List}
+use Rattle.fleet_observe.specs.Body.{positive_body, negative_body, AreRdatas, IsDenial}
+use Rattle.fleet_observe.specs.Fact.{Fact, kind_number}
+use Rattle.fleet_observe.specs.declared.kind.Kind.{Kind}
+use Rattle.fleet_observe.specs.declared.body.Body.{Body}
+use Rattle.fleet_observe.specs.declared.body.Body.TheVariants.{Records, Authority}
+
+-- the octets that the parts are
+abbrev pub octets_of : {A : Type 0} → Body A → List ℕ
+octets_of (Records rdatas) = positive_body rdatas.items
+octets_of (Authority owner rdata) = negative_body owner rdata
+
+-- the fact that is held in these parts
+abbrev pub fact_held : {A : Type 0} → Kind → List (List ℕ) → ℕ → ℕ → ℕ → ℕ → Body A → Fact
+fact_held kind name rtype rank stamp life body = record {
+  kind = kind_number kind;
+  name = name;
+  rtype = rtype;
+  body = octets_of body;
+  rank = rank;
+  stamp = stamp;
+  life = life;
+}
+
+-- the parts are those of the kind, and lawful
+abbrev pub IsBodyOf : {A : Type 0} → ℕ → List (List ℕ) → ℕ → Body A → Type 0
+IsBodyOf kind name rtype (Records rdatas) = (kind ≡ 3) × AreRdatas rtype rdatas.items
+IsBodyOf kind name rtype (Authority owner rdata) = (kind ≢ 3) × IsDenial name owner rdata
+
+-- the bodies hold the same parts
+abbrev pub AreSameParts : {A : Type 0} → Body A → Body A → Type 0
+AreSameParts (Records rdatas) (Records others) = rdatas.items ≡ others.items
+AreSameParts (Records rdatas) (Authority owner rdata) = ⊥
+AreSameParts (Authority owner rdata) (Records others) = ⊥
+AreSameParts (Authority owner rdata) (Authority other_owner other_rdata) = (owner ≡ other_owner) × (rdata ≡ other_rdata)

@@ -1,0 +1,12 @@
+pub mod Members
+pub mod Body
+pub mod Fact
+pub mod Preference
+pub mod Checks
+pub mod Held
+pub mod RrSet
+pub mod Walk
+pub mod Digest
+pub mod Meaning
+pub mod Observed
+pub mod Relayed

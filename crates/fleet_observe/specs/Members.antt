@@ -1,0 +1,15 @@
+-- What lists have in them, and lists of octets in ascending order.
+use Rattle.std.specs.Prelude.{◌≡◌, ℕ, ◌⊎◌, List, [], ◌∷◌}
+use Rattle.std.specs.declared.cmp.Ordering.TheVariants.{Less}
+use Rattle.std.specs.Ordering.{nat_cmp}
+use Rattle.std.specs.Cmp.Lexicographic.{slice_cmp}
+
+-- x is one of the values
+abbrev pub Has : {X : Type 0} → List X → X → Type 0
+Has [] x = ⊥
+Has (y ∷ ys) x = (y ≡ x) ⊎ Has ys x
+
+-- each stands before all greater ones and none stands twice: as octets, a proper prefix first
+abbrev pub IsAscending : List (List ℕ) → Type 0
+IsAscending [] = Unit {0}
+IsAscending (x ∷ xs) = ((y : List ℕ) → Has xs y → slice_cmp nat_cmp x y ≡ Less) × IsAscending xs

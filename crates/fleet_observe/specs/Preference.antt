@@ -1,0 +1,39 @@
+-- Which of two observations is preferred.
+use Rattle.std.specs.Prelude.{ℕ, List}
+use Rattle.std.specs.declared.cmp.Ordering.{Ordering}
+use Rattle.std.specs.Ordering.{nat_cmp, ordering_then}
+use Rattle.std.specs.Cmp.{IsTotalOrder}
+use Rattle.std.specs.Cmp.Lexicographic.{slice_cmp}
+use Rattle.std.proofs.lemmas.Cmp.{on_total, then_total, nat_cmp_total, nat_list_cmp_total}
+use Rattle.fleet_name.specs.Name.{wire}
+use Rattle.fleet_observe.specs.Fact.{Fact, expires}
+
+-- octets in order, a proper prefix first
+abbrev pub octets_cmp : List ℕ → List ℕ → Ordering
+octets_cmp = slice_cmp nat_cmp
+
+-- names by their octets in full
+abbrev pub name_cmp : List (List ℕ) → List (List ℕ) → Ordering
+name_cmp a b = octets_cmp (wire a) (wire b)
+
+-- by rank, stamp, end, kind, type, name octets and body octets, one after the other: the greater is preferred
+abbrev pub preference : Fact → Fact → Ordering
+preference x y =
+    ordering_then (nat_cmp x.rank y.rank)
+    (ordering_then (nat_cmp x.stamp y.stamp)
+    (ordering_then (nat_cmp (expires x) (expires y))
+    (ordering_then (nat_cmp x.kind y.kind)
+    (ordering_then (nat_cmp x.rtype y.rtype)
+    (ordering_then (name_cmp x.name y.name)
+    (octets_cmp x.body y.body))))))
+
+-- it is a total order
+pub preference_total : IsTotalOrder preference
+preference_total =
+    then_total (on_total (λ (x : Fact). x.rank) nat_cmp_total)
+    (then_total (on_total (λ (x : Fact). x.stamp) nat_cmp_total)
+    (then_total (on_total (λ (x : Fact). expires x) nat_cmp_total)
+    (then_total (on_total (λ (x : Fact). x.kind) nat_cmp_total)
+    (then_total (on_total (λ (x : Fact). x.rtype) nat_cmp_total)
+    (then_total (on_total (λ (x : Fact). wire x.name) nat_list_cmp_total)
+    (on_total (λ (x : Fact). x.body) nat_list_cmp_total))))))

@@ -1,0 +1,73 @@
+//! The NS RRsets that a reply is an authority for.
+
+ghost use Rattle.std.specs.Prelude.{◌≡◌, ℕ, List, IfOk, IsTrue, ◌↔◌};
+ghost use Rattle.fleet_wire.specs.Record.{told, all_told};
+ghost use Rattle.fleet_wire.specs.Message.{IsRead};
+ghost use Rattle.fleet_observe.specs.Members.{Has};
+ghost use Rattle.fleet_observe.specs.RrSet.{sets_of};
+ghost use Rattle.fleet_observe.specs.Meaning.{IsNs, owners_of, AreNsSets, HasAuthority, IsAuthority};
+
+use crate::rrset::{RrSet, gather};
+use fleet_name::Name;
+use fleet_wire::{Header, Message, Record};
+use std::alloc::{AllocError, Allocator};
+
+// The type of a name server.
+const NS: u16 = 2;
+
+// Whether the record is an NS record at the name or an ancestor of it.
+fn is_ns<A: Allocator>(record: &Record<A>, name: &Name<A>) -> bool
+    ensures { IsTrue result ↔ IsNs name.now (told record.now) }
+{
+    if record.class != 1 {
+        return false;
+    }
+    if record.rtype != NS {
+        return false;
+    }
+    name.is_under(&record.name)
+}
+
+// Whether one of the RRsets has this owner.
+fn owns<A: Allocator>(sets: &[RrSet<A>], owner: &Name<A>) -> bool
+    ensures { IsTrue result ↔ Has (owners_of (sets_of sets.now)) owner.now }
+{
+    for set in sets {
+        if set.name.same(owner) {
+            return true;
+        }
+    }
+    false
+}
+
+// The NS RRsets at the name and its ancestors, in order of first appearance.
+fn ns_sets<A: Allocator + Clone>(
+    alloc: A,
+    authority: &[Record<A>],
+    name: &Name<A>,
+) -> Result<Vec<RrSet<A>, A>, AllocError>
+    ensures { IfOk result (λ v. AreNsSets name.now (all_told authority.now) (sets_of v.items)) }
+{
+    let mut sets = Vec::new(alloc.clone()?);
+    for record in authority {
+        if is_ns(record, name) && !owns(&sets, &record.name) {
+            let set = gather(alloc.clone()?, authority, &record.name, NS)?;
+            sets.push(set)?;
+        }
+    }
+    Ok(sets)
+}
+
+/// The NS RRsets that the reply is an authority for.
+pub(crate) fn authority_sets<A: Allocator + Clone>(
+    alloc: A,
+    message: &Message<A>,
+) -> Result<Vec<RrSet<A>, A>, AllocError>
+    ensures { IfOk result (λ v. IsAuthority message.now (sets_of v.items)) }
+{
+    let header = message.header();
+    if header.tc || !header.aa || header.rcode != 0 {
+        return Ok(Vec::new(alloc));
+    }
+    ns_sets(alloc, message.authority(), &message.question().name)
+}

@@ -1,0 +1,122 @@
+//! The parts of bodies, and their octets.
+
+ghost use Rattle.std.specs.Prelude.{◌≡◌, ◌<◌, ◌≤◌, ◌++◌, length, IfOk, OnOk};
+ghost use Rattle.fleet_wire.specs.Number.{u16_octets};
+ghost use Rattle.fleet_observe.specs.Body.{positive_body, sized};
+
+use fleet_name::{Name, Octets};
+use std::alloc::{AllocError, Allocator};
+
+/// The parts of a body.
+#[derive(Drop)]
+pub(crate) enum Body<A: Allocator> {
+    /// The RDATAs of a positive observation, ascending.
+    Records(Vec<Octets<A>, A>),
+    /// The SOA of a negative one: its owner and its RDATA.
+    Authority(Name<A>, Octets<A>),
+}
+
+impl<A: Allocator> Body<A> {
+    ghost use Rattle.fleet_observe.specs.Held.{octets_of, AreSameParts};
+
+    /// How many octets it has.
+    pub(crate) fn len(&self) -> usize
+        requires { length (octets_of self.now) ≤ 8192 }
+        ensures { result ≡ length (octets_of self.now) }
+    {
+        match self {
+            Body::Records(rdatas) => rdatas_len(rdatas),
+            Body::Authority(owner, rdata) => owner.octets().len() + 2 + rdata.as_slice().len(),
+        }
+    }
+
+    /// Adds its octets to others.
+    pub(crate) fn push_to<B: Allocator>(&self, octets: &mut Vec<u8, B>) -> Result<(), AllocError>
+        requires { length (octets_of self.now) ≤ 8192 }
+        ensures { OnOk result (octets.new.items ≡ octets.old.items ++ octets_of self.now) }
+    {
+        match self {
+            Body::Records(rdatas) => push_rdatas(octets, rdatas),
+            Body::Authority(owner, rdata) => {
+                octets.extend_from_slice(owner.octets())?;
+                push_sized(octets, rdata.as_slice())
+            }
+        }
+    }
+
+    /// A copy.
+    pub(crate) fn try_clone(&self) -> Result<Body<A>, AllocError>
+    where
+        A: Clone,
+        ensures { IfOk result (AreSameParts self.now) }
+    {
+        match self {
+            Body::Records(rdatas) => {
+                let copies = copy_of(rdatas)?;
+                Ok(Body::Records(copies))
+            }
+            Body::Authority(owner, rdata) => {
+                let owner = owner.try_clone()?;
+                let rdata = rdata.try_clone()?;
+                Ok(Body::Authority(owner, rdata))
+            }
+        }
+    }
+}
+
+// How many octets a positive body has.
+fn rdatas_len<A: Allocator>(rdatas: &[Octets<A>]) -> usize
+    requires { length (positive_body rdatas.now) ≤ 8192 }
+    ensures { result ≡ length (positive_body rdatas.now) }
+{
+    let mut len = 2;
+    for rdata in rdatas {
+        len += 2 + rdata.as_slice().len();
+    }
+    len
+}
+
+// Adds a number of two octets.
+fn push_short<B: Allocator>(octets: &mut Vec<u8, B>, number: usize) -> Result<(), AllocError>
+    requires { number < 65536 }
+    ensures { OnOk result (octets.new.items ≡ octets.old.items ++ u16_octets number) }
+{
+    octets.extend_from_slice(&[(number / 256) as u8, (number % 256) as u8])
+}
+
+// Adds octets behind their number.
+fn push_sized<B: Allocator>(octets: &mut Vec<u8, B>, part: &[u8]) -> Result<(), AllocError>
+    requires { length part.now < 65536 }
+    ensures { OnOk result (octets.new.items ≡ octets.old.items ++ sized part.now) }
+{
+    push_short(octets, part.len())?;
+    octets.extend_from_slice(part)
+}
+
+// Adds a positive body.
+fn push_rdatas<A: Allocator, B: Allocator>(
+    octets: &mut Vec<u8, B>,
+    rdatas: &[Octets<A>],
+) -> Result<(), AllocError>
+    requires { length (positive_body rdatas.now) ≤ 8192 }
+    ensures { OnOk result (octets.new.items ≡ octets.old.items ++ positive_body rdatas.now) }
+{
+    push_short(octets, rdatas.len())?;
+    for rdata in rdatas {
+        push_sized(octets, rdata.as_slice())?;
+    }
+    Ok(())
+}
+
+// A copy of RDATAs.
+fn copy_of<A: Allocator + Clone>(
+    rdatas: &Vec<Octets<A>, A>,
+) -> Result<Vec<Octets<A>, A>, AllocError>
+    ensures { IfOk result (λ v. v.items ≡ rdatas.now.items) }
+{
+    let mut copies = Vec::with_capacity(rdatas.allocator().clone()?, rdatas.len())?;
+    for rdata in rdatas {
+        copies.push(rdata.try_clone()?)?;
+    }
+    Ok(copies)
+}

@@ -1,0 +1,63 @@
+//! Which SOA a denial has (RFC 2308 3, 5).
+
+ghost use Rattle.std.specs.Prelude.{◌≡◌, ℕ, ◌≤◌, List, length, IfOk, MatchOption};
+ghost use Rattle.fleet_wire.specs.Record.{Told, told, all_told};
+ghost use Rattle.fleet_observe.specs.Members.{Has};
+ghost use Rattle.fleet_observe.specs.Walk.{ArePlainRecords};
+ghost use Rattle.fleet_observe.specs.Digest.{soa_in};
+ghost use Rattle.fleet_observe.specs.Meaning.{IsSoaRecord, IsFirstSoa, IsSoa, minimum_of};
+
+use crate::checks::SOA;
+use crate::rrset::bounded;
+use crate::soa::Soa;
+use fleet_name::Name;
+use fleet_wire::Record;
+use std::alloc::{AllocError, Allocator};
+
+// The first SOA of a section.
+fn first_soa<A: Allocator>(authority: &[Record<A>]) -> Option<&Record<A>>
+    ensures { MatchOption result ((r : Told) → Has (all_told authority.now) r → ¬ IsSoaRecord r) (λ r. IsFirstSoa (all_told authority.now) (told r.now)) }
+{
+    for record in authority {
+        if record.class == 1 && record.rtype == SOA {
+            return Some(record);
+        }
+    }
+    None
+}
+
+// The last number of an SOA.
+fn minimum(rdata: &[u8]) -> u32
+    requires { 4 ≤ length rdata.now }
+    ensures { result ≡ minimum_of rdata.now }
+{
+    let at = rdata.len() - 4;
+    u32::from(rdata[at]) * 16777216
+        + u32::from(rdata[at + 1]) * 65536
+        + u32::from(rdata[at + 2]) * 256
+        + u32::from(rdata[at + 3])
+}
+
+/// The SOA that counts for a denied name, if any.
+pub(crate) fn soa_for<A: Allocator + Clone>(
+    alloc: A,
+    authority: &[Record<A>],
+    denied: &Name<A>,
+) -> Result<Option<Soa<A>>, AllocError>
+    requires { ArePlainRecords (all_told authority.now) }
+    ensures { IfOk result (λ o. IsSoa (all_told authority.now) denied.now (soa_in o)) }
+{
+    let Some(record) = first_soa(authority) else {
+        return Ok(None);
+    };
+    if !denied.is_under(&record.name) {
+        return Ok(None);
+    }
+    let own = bounded(record.ttl);
+    let least = bounded(minimum(record.rdata.as_slice()));
+    Ok(Some(Soa {
+        owner: record.name.try_clone()?,
+        ttl: own.min(least).min(10800),
+        rdata: record.rdata.try_clone()?,
+    }))
+}

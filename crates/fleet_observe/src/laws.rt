@@ -1,0 +1,15 @@
+//! Laws of what replies tell. These functions do nothing when run.
+
+ghost use Rattle.fleet_observe.specs.Walk.{OneWalk};
+ghost use Rattle.fleet_observe.specs.Observed.{OneMeaning, OneObserved};
+
+/// There is one walk at most.
+pub fn one_walk()
+    ensures { OneWalk }
+{}
+
+/// A reply has one meaning at most, and one list of observations at a moment.
+pub fn one_meaning()
+    ensures meaning { OneMeaning }
+    ensures observed { OneObserved }
+{}

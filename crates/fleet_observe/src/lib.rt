@@ -1,0 +1,42 @@
+//! What replies tell: the walk along aliases, how it ends, and observations of names, their order, and the octets of
+//! their bodies.
+#![tactic(auto)]
+
+mod authority;
+mod body;
+mod checks;
+mod denial;
+mod fault;
+mod kind;
+mod laws;
+mod moment;
+mod names;
+mod observation;
+mod observed;
+mod order;
+mod rdatas;
+mod relayed;
+#[cfg(test)]
+mod replies;
+mod reply;
+mod rrset;
+mod soa;
+mod summary;
+mod told;
+mod walk;
+
+pub use checks::is_data_type;
+pub use fault::ObservationFault;
+pub use kind::Kind;
+pub use laws::{one_meaning, one_walk};
+pub use moment::Moment;
+pub use observation::Observation;
+pub use observed::observations;
+pub use order::preference_laws;
+pub use rdatas::Rdatas;
+pub use relayed::relay;
+pub use reply::digest;
+pub use rrset::RrSet;
+pub use soa::Soa;
+pub use summary::Digest;
+pub use told::{DigestFault, End};

@@ -1,0 +1,329 @@
+//! Observations.
+
+ghost use Rattle.std.specs.Prelude.{◌≡◌, ◌≢◌, ℕ, ◌+◌, ◌≤◌, [], length, MatchOption, MatchResult, IfOk, IfSome};
+ghost use Rattle.fleet_observe.specs.Body.{positive_body, negative_body, AreRdatas, IsDenial};
+ghost use Rattle.fleet_observe.specs.Fact.{kind_number, expires as end_of, IsFact};
+ghost use Rattle.fleet_observe.specs.Checks.{denied_kind, denied_type, MakesPositive, IsPositiveFault, MakesNegative, IsNegativeFault};
+
+use crate::body::Body;
+use crate::checks::{
+    LONGEST_DENIAL, LONGEST_LIFE, are_rdatas, is_data_type, is_denial, is_denied_type, is_life,
+    is_negative_rank, is_rank,
+};
+use crate::fault::ObservationFault;
+use crate::kind::Kind;
+use crate::moment::Moment;
+use crate::soa::Soa;
+use fleet_name::{Name, Octets};
+use std::alloc::{AllocError, Allocator, Global};
+use std::marker::Model;
+
+/// What was observed of a name at a moment. Contracts see it as a `Fact`.
+#[derive(Drop)]
+pub struct Observation<A: Allocator = Global> {
+    kind: Kind,
+    name: Name<A>,
+    rtype: u16,
+    rank: u8,
+    stamp: Moment,
+    life: u32,
+    body: Body<A>,
+}
+
+impl<A: Allocator> Model for Observation<A> {
+    ghost use Rattle.fleet_observe.specs.Fact.{Fact, kind_number, IsFact};
+    ghost use Rattle.fleet_observe.specs.Held.{fact_held, IsBodyOf};
+
+    ghost Value = { Fact };
+
+    ghost view = { λ o. fact_held o.kind o.name o.rtype o.rank o.stamp o.life o.body };
+
+    ghost invariant = { λ o. IsFact (fact_held o.kind o.name o.rtype o.rank o.stamp o.life o.body) × IsBodyOf (kind_number o.kind) o.name o.rtype o.body };
+}
+
+impl<A: Allocator> Observation<A> {
+    /// The RDATAs that a name has of a type.
+    ///
+    /// The rank is 1, 2 or 3, the life 1 to 86400 seconds, and the RDATAs stand in strictly ascending order, as octets, a
+    /// proper prefix first. The errors come in the order of `ObservationFault`, and what was handed in is then dropped.
+    /// This takes no memory.
+    pub fn positive(
+        name: Name<A>,
+        rtype: u16,
+        rank: u8,
+        stamp: Moment,
+        life: u32,
+        rdatas: Vec<Octets<A>, A>,
+    ) -> Result<Observation<A>, ObservationFault>
+        ensures value { IfOk result (λ o. o ≡ record {
+          kind = 3;
+          name = name;
+          rtype = rtype;
+          body = positive_body rdatas.items;
+          rank = rank;
+          stamp = stamp;
+          life = life;
+        }) }
+        ensures checks { MatchResult result
+            (λ _. MakesPositive rtype rank life rdatas.items)
+            (IsPositiveFault rtype rank life rdatas.items) }
+    {
+        if !is_rank(rank) {
+            return Err(ObservationFault::BadRank);
+        }
+        if !is_life(LONGEST_LIFE, life) {
+            return Err(ObservationFault::BadLife);
+        }
+        if !is_data_type(rtype) {
+            return Err(ObservationFault::BadKind);
+        }
+        if !are_rdatas(rtype, &rdatas) {
+            return Err(ObservationFault::BadBody);
+        }
+        // What the proof needs to know of the name and the moment.
+        prove!(!name.octets().is_empty());
+        prove!(stamp.value() <= Moment::LATEST);
+        Ok(Observation {
+            kind: Kind::Positive,
+            name,
+            rtype,
+            rank,
+            stamp,
+            life,
+            body: Body::Records(rdatas),
+        })
+    }
+
+    /// That a name has no data of a type, or for `None` that there is no such name, on the word of an SOA.
+    ///
+    /// The rank is 1 or 3 and the life 1 to 10800 seconds (RFC 2308 5). The SOA's TTL is not kept. The errors come in the
+    /// order of `ObservationFault`, and what was handed in is then dropped. This takes no memory.
+    pub fn negative(
+        name: Name<A>,
+        rtype: Option<u16>,
+        rank: u8,
+        stamp: Moment,
+        life: u32,
+        soa: Soa<A>,
+    ) -> Result<Observation<A>, ObservationFault>
+        ensures value { IfOk result (λ o. o ≡ record {
+          kind = denied_kind rtype;
+          name = name;
+          rtype = denied_type rtype;
+          body = negative_body soa.owner soa.rdata;
+          rank = rank;
+          stamp = stamp;
+          life = life;
+        }) }
+        ensures checks { MatchResult result
+            (λ _. MakesNegative name rtype rank life soa.owner soa.rdata)
+            (IsNegativeFault name rtype rank life soa.owner soa.rdata) }
+    {
+        if !is_negative_rank(rank) {
+            return Err(ObservationFault::BadRank);
+        }
+        if !is_life(LONGEST_DENIAL, life) {
+            return Err(ObservationFault::BadLife);
+        }
+        if !is_denied_type(rtype) {
+            return Err(ObservationFault::BadKind);
+        }
+        let Soa { owner, rdata, .. } = soa;
+        if !is_denial(&name, &owner, rdata.as_slice()) {
+            return Err(ObservationFault::BadBody);
+        }
+        // What the proof needs to know of the name and the moment.
+        prove!(!name.octets().is_empty());
+        prove!(stamp.value() <= Moment::LATEST);
+        Ok(Observation {
+            kind: kind_of_denial(rtype),
+            name,
+            rtype: rtype.unwrap_or(0),
+            rank,
+            stamp,
+            life,
+            body: Body::Authority(owner, rdata),
+        })
+    }
+
+    /// The name that was observed.
+    pub fn name(&self) -> &Name<A>
+        ensures value { result.now ≡ self.now.name }
+        ensures lawful { IsFact self.now }
+    {
+        &self.name
+    }
+
+    /// What it tells of the name.
+    pub fn kind(&self) -> Kind
+        ensures value { kind_number result ≡ self.now.kind }
+        ensures lawful { IsFact self.now }
+    {
+        self.kind
+    }
+
+    /// The type of the data that are there or not there, 0 for a name error.
+    pub fn rtype(&self) -> u16
+        ensures value { result ≡ self.now.rtype }
+        ensures lawful { IsFact self.now }
+    {
+        self.rtype
+    }
+
+    /// How far it is to be trusted: 1, 2 or 3 (after RFC 2181 5.4.1).
+    pub fn rank(&self) -> u8
+        ensures value { result ≡ self.now.rank }
+        ensures lawful { IsFact self.now }
+    {
+        self.rank
+    }
+
+    /// The moment at which it was observed.
+    pub fn stamp(&self) -> Moment
+        ensures value { result ≡ self.now.stamp }
+        ensures lawful { IsFact self.now }
+    {
+        self.stamp
+    }
+
+    /// For how long it holds, in seconds.
+    pub fn life(&self) -> u32
+        ensures value { result ≡ self.now.life }
+        ensures lawful { IsFact self.now }
+    {
+        self.life
+    }
+
+    /// The second at which it ends: its stamp and its life. It may pass the latest moment.
+    pub fn expires(&self) -> u64
+        ensures value { result ≡ end_of self.now }
+        ensures lawful { IsFact self.now }
+    {
+        self.stamp.value() + self.life as u64
+    }
+
+    /// The RDATAs of a positive observation, ascending; none of another.
+    pub fn rdatas(&self) -> &[Octets<A>]
+        ensures body { self.now.kind ≡ 3 → self.now.body ≡ positive_body result.now }
+        ensures rdatas { self.now.kind ≡ 3 → AreRdatas self.now.rtype result.now }
+        ensures none { self.now.kind ≢ 3 → result.now ≡ [] }
+        ensures lawful { IsFact self.now }
+    {
+        match &self.body {
+            Body::Records(rdatas) => rdatas,
+            Body::Authority(..) => &[],
+        }
+    }
+
+    /// The owner and the RDATA of the SOA that a negative observation rests on; `None` of a positive one.
+    pub fn soa(&self) -> Option<(&Name<A>, &[u8])>
+        ensures cases { MatchOption result (self.now.kind ≡ 3) (λ p. self.now.kind ≢ 3) }
+        ensures body { IfSome result (λ p. self.now.body ≡ negative_body p.0.now p.1.now) }
+        ensures denial { IfSome result (λ p. IsDenial self.now.name p.0.now p.1.now) }
+        ensures lawful { IsFact self.now }
+    {
+        match &self.body {
+            Body::Records(_) => None,
+            Body::Authority(owner, rdata) => Some((owner, rdata.as_slice())),
+        }
+    }
+
+    /// How many octets its body has, at most 8192.
+    pub fn body_len(&self) -> usize
+        ensures value { result ≡ length self.now.body }
+        ensures bounded { result ≤ 8192 }
+    {
+        self.body.len()
+    }
+
+    /// The octets of its body, of a positive observation the RDATAs: their count, then each behind its length; of a
+    /// negative one the SOA: its owner in full, then its RDATA behind its length. Counts and lengths have two octets, the
+    /// high one first.
+    pub fn write_body<B: Allocator>(&self, alloc: B) -> Result<Vec<u8, B>, AllocError>
+        ensures { IfOk result (λ v. v.items ≡ self.now.body) }
+    {
+        let mut octets = Vec::with_capacity(alloc, self.body.len())?;
+        self.body.push_to(&mut octets)?;
+        Ok(octets)
+    }
+
+    /// A copy of it.
+    pub fn try_clone(&self) -> Result<Observation<A>, AllocError>
+    where
+        A: Clone,
+        ensures { IfOk result (λ o. o ≡ self.now) }
+    {
+        let name = self.name.try_clone()?;
+        let body = self.body.try_clone()?;
+        Ok(Observation {
+            kind: self.kind,
+            name,
+            rtype: self.rtype,
+            rank: self.rank,
+            stamp: self.stamp,
+            life: self.life,
+            body,
+        })
+    }
+}
+
+// The kind of a denial of a type, or of all of them.
+fn kind_of_denial(rtype: Option<u16>) -> Kind
+    ensures { kind_number result ≡ denied_kind rtype }
+{
+    match rtype {
+        None => Kind::NameError,
+        Some(_) => Kind::NoData,
+    }
+}
+
+#[cfg(test)]
+mod tests {
+    use super::*;
+    use std::test::Fail;
+
+    fn named(alloc: Global, label: &[u8], parent: &[u8]) -> Result<Name, Fail> {
+        let mut name = Name::root(alloc)?;
+        name.push(label)?;
+        name.push(parent)?;
+        Ok(name)
+    }
+
+    #[test]
+    fn writes_and_copies_an_address(rt: HostRuntime) -> Result<(), Fail> {
+        let name = named(rt.alloc(), b"example", b"com")?;
+        let stamp = Moment::new(100).ok_or("a moment")?;
+        let mut rdatas = Vec::new(rt.alloc());
+        rdatas.push(Octets::copy_of(rt.alloc(), &[192, 0, 2, 1])?)?;
+        let address = Observation::positive(name, 1, 3, stamp, 300, rdatas)?;
+        let copy = address.try_clone()?;
+        let body = copy.write_body(rt.alloc())?;
+        assert_eq!(rt; body.as_slice(), b"\0\x01\0\x04\xc0\0\x02\x01".as_slice());
+        assert!(rt; copy == address);
+        Ok(())
+    }
+
+    #[test]
+    fn writes_and_copies_a_denial(rt: HostRuntime) -> Result<(), Fail> {
+        let rdata =
+            b"\x02ns\x07example\0\0\0\0\0\x01\0\0\x0e\x10\0\0\x02\x58\0\x01\x51\x80\0\0\x01\x2c";
+        let mut owner = Name::root(rt.alloc())?;
+        owner.push(b"example")?;
+        let soa = Soa {
+            owner,
+            ttl: 3600,
+            rdata: Octets::copy_of(rt.alloc(), rdata)?,
+        };
+        let name = named(rt.alloc(), b"b", b"example")?;
+        let stamp = Moment::new(100).ok_or("a moment")?;
+        let denial = Observation::negative(name, None, 1, stamp, 300, soa)?;
+        let copy = denial.try_clone()?;
+        let body = copy.write_body(rt.alloc())?;
+        assert_eq!(rt;
+            body.as_slice(),
+            b"\x07example\0\0\x21\x02ns\x07example\0\0\0\0\0\x01\0\0\x0e\x10\0\0\x02\x58\0\x01\x51\x80\0\0\x01\x2c".as_slice()
+        );
+        assert!(rt; copy == denial);
+        Ok(())
+    }
+}

@@ -1,0 +1,211 @@
+//! The observations of a digest.
+
+ghost use Rattle.std.specs.Prelude.{◌≡◌, ℕ, ◌++◌, List, IfOk, OnOk, Option, Some};
+ghost use Rattle.fleet_name.specs.Name.{labels_of};
+ghost use Rattle.fleet_observe.specs.Members.{Has};
+ghost use Rattle.fleet_observe.specs.Fact.{IsRank, IsNegativeRank, AreFacts};
+ghost use Rattle.fleet_observe.specs.Checks.{IsDeniedType, denied_kind, denied_type};
+ghost use Rattle.fleet_observe.specs.RrSet.{Set, set_of, sets_of, SpellsName};
+ghost use Rattle.fleet_observe.specs.Digest.{soa_in, soa_of, ending_of, denied_by, first_or, IsLawfulSet, IsLawfulLink, IsLawfulSoa, IsLawful};
+ghost use Rattle.fleet_observe.specs.Observed.{positive_facts, negative_facts, answer_rank, negative_rank, link_facts, end_facts, ns_facts, observed_facts};
+
+use crate::moment::Moment;
+use crate::names::name_of;
+use crate::observation::Observation;
+use crate::rrset::RrSet;
+use crate::soa::Soa;
+use crate::summary::Digest;
+use crate::told::End;
+use fleet_name::{Name, Octets};
+use std::alloc::{AllocError, Allocator};
+
+// Copies of the RDATAs.
+fn copies<A: Allocator + Clone>(
+    alloc: A,
+    rdatas: &[Octets<A>],
+) -> Result<Vec<Octets<A>, A>, AllocError>
+    ensures { IfOk result (λ v. v.items ≡ rdatas.now) }
+{
+    let mut all = Vec::new(alloc);
+    for rdata in rdatas {
+        all.push(rdata.try_clone()?)?;
+    }
+    Ok(all)
+}
+
+// Adds the observation of an RRset, unless its TTL is zero or its body too long.
+fn put_set<A: Allocator + Clone>(
+    alloc: A,
+    set: &RrSet<A>,
+    rank: u8,
+    stamp: Moment,
+    out: &mut Vec<Observation<A>, A>,
+) -> Result<(), AllocError>
+    requires lawful { IsLawfulSet (set_of set.now) }
+    requires ranked { IsRank rank }
+    ensures { OnOk result (out.new.items ≡ out.old.items ++ positive_facts (set_of set.now) rank stamp) }
+{
+    let rdatas = copies(alloc, set.rdatas.as_slice())?;
+    let name = set.name.try_clone()?;
+    match Observation::positive(name, set.rtype, rank, stamp, set.ttl, rdatas) {
+        Ok(observation) => {
+            out.push(observation)?;
+            Ok(())
+        }
+        Err(_) => Ok(()),
+    }
+}
+
+// Adds the observation of a denial, unless the SOA's TTL is zero.
+fn put_denial<A: Allocator + Clone>(
+    alloc: A,
+    denied: &[u8],
+    rtype: Option<u16>,
+    rank: u8,
+    stamp: Moment,
+    soa: &Soa<A>,
+    out: &mut Vec<Observation<A>, A>,
+) -> Result<(), AllocError>
+    requires spelled { SpellsName denied.now }
+    requires typed { IsDeniedType rtype }
+    requires ranked { IsNegativeRank rank }
+    requires lawful { IsLawfulSoa (labels_of denied.now) (soa_of soa.now) }
+    ensures { OnOk result (out.new.items ≡ out.old.items ++ negative_facts (denied_kind rtype) (labels_of denied.now) (denied_type rtype) rank stamp (Some (soa_of soa.now))) }
+{
+    let name = name_of(alloc, denied)?;
+    let copy = Soa {
+        owner: soa.owner.try_clone()?,
+        ttl: soa.ttl,
+        rdata: soa.rdata.try_clone()?,
+    };
+    match Observation::negative(name, rtype, rank, stamp, soa.ttl, copy) {
+        Ok(observation) => {
+            out.push(observation)?;
+            Ok(())
+        }
+        Err(_) => Ok(()),
+    }
+}
+
+// The rank of an answer RRset.
+fn rank_of<A: Allocator>(aa: bool, name: &Name<A>, owner: &Name<A>) -> u8
+    ensures rank { result ≡ answer_rank aa name.now owner.now }
+    ensures ranked { IsRank result }
+{
+    if aa && owner.octets() == name.octets() {
+        3
+    } else {
+        1
+    }
+}
+
+// The rank of a denial.
+fn rank_denied<A: Allocator>(aa: bool, chain: &[RrSet<A>]) -> u8
+    ensures rank { result ≡ negative_rank aa (sets_of chain.now) }
+    ensures ranked { IsNegativeRank result }
+{
+    match chain {
+        [] => { if aa { 3 } else { 1 } }
+        [_, ..] => 1,
+    }
+}
+
+// The first of the RDATAs, or else these octets.
+fn first_of<'a, A: Allocator>(octets: &'a [u8], rdatas: &'a [Octets<A>]) -> &'a [u8]
+    ensures { result.now ≡ first_or octets.now rdatas.now }
+{
+    match rdatas {
+        [] => octets,
+        [first, ..] => first.as_slice(),
+    }
+}
+
+// The name where the walk ended, in full.
+fn denied_at<'a, A: Allocator>(name: &'a Name<A>, chain: &'a [RrSet<A>]) -> &'a [u8]
+    requires { (x : Set) → Has (sets_of chain.now) x → IsLawfulLink x }
+    ensures name { labels_of result.now ≡ denied_by name.now (sets_of chain.now) }
+    ensures spelled { SpellsName result.now }
+{
+    let mut at = name.octets();
+    for link in chain {
+        at = first_of(at, link.rdatas.as_slice());
+    }
+    at
+}
+
+// Adds the observations of the links.
+fn put_links<A: Allocator + Clone>(
+    alloc: A,
+    digest: &Digest<A>,
+    stamp: Moment,
+    out: &mut Vec<Observation<A>, A>,
+) -> Result<(), AllocError>
+    ensures { OnOk result (out.new.items ≡ out.old.items ++ link_facts digest.now.aa digest.now.name stamp digest.now.chain) }
+{
+    let name = digest.name();
+    let aa = digest.aa();
+    for link in digest.chain() {
+        let rank = rank_of(aa, name, &link.name);
+        put_set(alloc.clone()?, link, rank, stamp, out)?;
+    }
+    Ok(())
+}
+
+// Adds the observation of the end.
+fn put_end<A: Allocator + Clone>(
+    alloc: A,
+    digest: &Digest<A>,
+    stamp: Moment,
+    out: &mut Vec<Observation<A>, A>,
+) -> Result<(), AllocError>
+    ensures { OnOk result (out.new.items ≡ out.old.items ++ end_facts digest.now stamp digest.now.end) }
+{
+    let name = digest.name();
+    let aa = digest.aa();
+    let denied = denied_at(name, digest.chain());
+    let rank = rank_denied(aa, digest.chain());
+    let rtype = digest.rtype();
+    match digest.end() {
+        End::Records(set) => put_set(alloc, set, rank_of(aa, name, &set.name), stamp, out),
+        End::NoData(None) => Ok(()),
+        End::NoData(Some(soa)) => put_denial(alloc, denied, Some(rtype), rank, stamp, soa, out),
+        End::NxDomain(None) => Ok(()),
+        End::NxDomain(Some(soa)) => put_denial(alloc, denied, None, rank, stamp, soa, out),
+        End::Code(_) => Ok(()),
+        End::Truncated => Ok(()),
+    }
+}
+
+// Adds the observations of the NS RRsets.
+fn put_ns<A: Allocator + Clone>(
+    alloc: A,
+    digest: &Digest<A>,
+    stamp: Moment,
+    out: &mut Vec<Observation<A>, A>,
+) -> Result<(), AllocError>
+    ensures added { OnOk result (out.new.items ≡ out.old.items ++ ns_facts stamp digest.now.ns) }
+    ensures lawful { IsLawful digest.now }
+{
+    for set in digest.ns() {
+        put_set(alloc.clone()?, set, 2, stamp, out)?;
+    }
+    Ok(())
+}
+
+/// The observations of a reply at a moment, in this order: the links, the records or the denial with its SOA, the NS
+/// RRsets. Left out are those of a TTL of zero, RRsets whose body has more than 8192 octets, and a denial without SOA.
+pub fn observations<A: Allocator + Clone>(
+    alloc: A,
+    digest: &Digest<A>,
+    stamp: Moment,
+) -> Result<Vec<Observation<A>, A>, AllocError>
+    ensures observed { IfOk result (λ os. os.items ≡ observed_facts digest.now stamp) }
+    ensures lawful { IfOk result (λ os. AreFacts os.items) }
+{
+    let mut out = Vec::new(alloc.clone()?);
+    put_links(alloc.clone()?, digest, stamp, &mut out)?;
+    put_end(alloc.clone()?, digest, stamp, &mut out)?;
+    put_ns(alloc, digest, stamp, &mut out)?;
+    prove!(stamp.value() <= Moment::LATEST);
+    Ok(out)
+}

@@ -1,0 +1,116 @@
+//! Replies made of a digest.
+
+ghost use Rattle.std.specs.Prelude.{◌≡◌, ℕ, ◌<◌, IfOk, OnOk};
+ghost use Rattle.fleet_wire.specs.Question.{asked};
+ghost use Rattle.fleet_wire.specs.Outline.{octets_of_outline};
+ghost use Rattle.fleet_observe.specs.RrSet.{set_of};
+ghost use Rattle.fleet_observe.specs.Digest.{ending_of, soa_in};
+ghost use Rattle.fleet_observe.specs.Relayed.{code_of, is_cut, set_lines, soa_lines, relayed, with_answers, with_authorities, with_end};
+
+use crate::checks::SOA;
+use crate::rrset::RrSet;
+use crate::soa::Soa;
+use crate::summary::Digest;
+use crate::told::End;
+use fleet_wire::{Outline, Question, write_reply};
+use std::alloc::{AllocError, Allocator};
+
+// The RCODE of an end.
+fn code_of_end<A: Allocator>(end: &End<A>) -> u8
+    ensures { result ≡ code_of (ending_of end.now) }
+{
+    match end {
+        End::Records(_) => 0,
+        End::NoData(_) => 0,
+        End::NxDomain(_) => 3,
+        End::Code(code) => *code,
+        End::Truncated => 0,
+    }
+}
+
+// Whether a reply with this end is cut off.
+fn is_cut_off<A: Allocator>(end: &End<A>) -> bool
+    ensures { result ≡ is_cut (ending_of end.now) }
+{
+    match end {
+        End::Records(_) => false,
+        End::NoData(_) => false,
+        End::NxDomain(_) => false,
+        End::Code(_) => false,
+        End::Truncated => true,
+    }
+}
+
+// Adds the records of an RRset to the answer section.
+fn put_set<A: Allocator + Clone>(outline: &mut Outline<A>, set: &RrSet<A>) -> Result<(), AllocError>
+    ensures { OnOk result (outline.new ≡ with_answers outline.old (set_lines (set_of set.now))) }
+{
+    for rdata in set.rdatas.as_slice() {
+        outline.answer(&set.name, set.rtype, set.ttl, rdata.as_slice())?;
+    }
+    Ok(())
+}
+
+// Adds an SOA, if there is one, to the authority section.
+fn put_soa<A: Allocator + Clone>(
+    outline: &mut Outline<A>,
+    soa: &Option<Soa<A>>,
+) -> Result<(), AllocError>
+    ensures { OnOk result (outline.new ≡ with_authorities outline.old (soa_lines (soa_in soa.now))) }
+{
+    match soa {
+        None => Ok(()),
+        Some(soa) => outline.authority(&soa.owner, SOA, soa.ttl, soa.rdata.as_slice()),
+    }
+}
+
+// Adds the records of an end.
+fn put_end<A: Allocator + Clone>(outline: &mut Outline<A>, end: &End<A>) -> Result<(), AllocError>
+    ensures { OnOk result (outline.new ≡ with_end outline.old (ending_of end.now)) }
+{
+    match end {
+        End::Records(set) => put_set(outline, set),
+        End::NoData(soa) => put_soa(outline, soa),
+        End::NxDomain(soa) => put_soa(outline, soa),
+        End::Code(_) => Ok(()),
+        End::Truncated => Ok(()),
+    }
+}
+
+// An outline that says what the digest says.
+fn outline_of<A: Allocator + Clone>(
+    alloc: A,
+    digest: &Digest<A>,
+    question: &Question<A>,
+    id: u16,
+    rd: bool,
+) -> Result<Outline<A>, AllocError>
+    ensures { IfOk result (λ o. o ≡ relayed digest.now (asked question.now) id rd) }
+{
+    let end = digest.end();
+    let rcode = code_of_end(end);
+    let tc = is_cut_off(end);
+    let mut outline = Outline::new(alloc, id, 0, rd, rcode, tc, Some(question))?;
+    for link in digest.chain() {
+        put_set(&mut outline, link)?;
+    }
+    put_end(&mut outline, end)?;
+    Ok(outline)
+}
+
+/// The reply that tells a client with this question, identifier and RD what the digest tells: the question in its own
+/// spelling, the links, and then the records, or the SOA of a denial in the authority section (RFC 1035 4.1). TTLs are
+/// the digest's. A reply of another RCODE has that code and the question alone, one that was cut off RCODE 0, TC and
+/// the question. Where all of it would have more than 512 octets, it is header and question with TC.
+pub fn relay<A: Allocator + Clone>(
+    alloc: A,
+    digest: &Digest<A>,
+    question: &Question<A>,
+    id: u16,
+    rd: bool,
+) -> Result<Vec<u8, A>, AllocError>
+    ensures { IfOk result (λ v. v.items ≡ octets_of_outline (relayed digest.now (asked question.now) id rd)) }
+{
+    let outline = outline_of(alloc.clone()?, digest, question, id, rd)?;
+    write_reply(alloc, &outline)
+}

@@ -1,0 +1,70 @@
+//! The digest of a reply.
+
+ghost use Rattle.std.specs.Prelude.{◌≡◌, ℕ, ◌⊎◌, MatchResult};
+ghost use Rattle.std.specs.Bool.{MatchBool};
+ghost use Rattle.fleet_observe.specs.Meaning.{IsServed, IsFault, IsMeaning};
+
+use crate::checks::is_data_type;
+use crate::summary::{Digest, short, walked};
+use crate::told::{DigestFault, End};
+use crate::walk::has_walk;
+use fleet_wire::Message;
+use std::alloc::Allocator;
+
+// Whether the message is a reply to a question that is served.
+fn is_served<A: Allocator>(message: &Message<A>) -> bool
+    ensures { MatchBool result (IsServed message.now) (¬ IsServed message.now) }
+{
+    let header = message.header();
+    if !header.response {
+        return false;
+    }
+    if header.opcode != 0 {
+        return false;
+    }
+    let question = message.question();
+    if question.class != 1 {
+        return false;
+    }
+    is_data_type(question.rtype)
+}
+
+// Whether the code leaves the answer to the walk.
+fn is_answered(rcode: u8) -> bool
+    ensures { MatchBool result ((rcode ≡ 0) ⊎ (rcode ≡ 3)) ((¬ (rcode ≡ 0)) × (¬ (rcode ≡ 3))) }
+{
+    if rcode == 0 {
+        return true;
+    }
+    rcode == 3
+}
+
+/// What a reply tells (RFC 1034 3.6.2, RFC 2308 2): the walk from the question's name along aliases in the answer
+/// section, how it ends, the SOA of a denial, and the NS RRsets that the reply is an authority for.
+///
+/// # Errors
+///
+/// In this order: `NotReply` where it is no reply or one to a question that is not served; `BadChain` where a walk is
+/// asked for (TC clear, RCODE 0 or 3) and there is none: aliases that fork or loop, or a ninth link; `OutOfMemory`.
+pub fn digest<A: Allocator + Clone>(
+    alloc: A,
+    message: &Message<A>,
+) -> Result<Digest<A>, DigestFault>
+    ensures { MatchResult result (IsMeaning message.now) (IsFault message.now) }
+{
+    if !is_served(message) {
+        return Err(DigestFault::NotReply);
+    }
+    let header = message.header();
+    if header.tc {
+        return Ok(short(alloc, message, End::Truncated)?);
+    }
+    if !is_answered(header.rcode) {
+        return Ok(short(alloc, message, End::Code(header.rcode))?);
+    }
+    let question = message.question();
+    if !has_walk(message.answer(), question.name.octets(), question.rtype) {
+        return Err(DigestFault::BadChain);
+    }
+    Ok(walked(alloc, message)?)
+}

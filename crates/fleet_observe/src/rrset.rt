@@ -1,0 +1,136 @@
+//! RRsets (RFC 2181 5).
+
+ghost use Rattle.std.specs.Prelude.{◌≡◌, ℕ, ◌≤◌, ◌⊎◌, ◌↔◌, List, length, IfOk, OnOk, IsTrue};
+ghost use Rattle.fleet_name.specs.Name.{labels_of};
+ghost use Rattle.fleet_wire.specs.Record.{told, all_told};
+ghost use Rattle.fleet_observe.specs.Members.{Has, IsAscending};
+ghost use Rattle.fleet_observe.specs.RrSet.{SpellsName, Belongs, InSet, IsTtl, IsRrSet, read_ttl, set_of, count_below};
+
+use crate::checks::is_data_type;
+use crate::rdatas::Rdatas;
+use fleet_name::{Name, Octets};
+use fleet_wire::Record;
+use std::alloc::{AllocError, Allocator, Global};
+
+/// An RRset of the class IN: the records of one owner and type, equal ones suppressed (RFC 2181 5).
+#[derive(Drop)]
+pub struct RrSet<A: Allocator = Global> {
+    /// The owner of the records.
+    pub name: Name<A>,
+    /// The type of the records.
+    pub rtype: u16,
+    /// The least of their TTLs, in seconds, at most 86400 (RFC 2181 5.2, 8).
+    pub ttl: u32,
+    /// Their RDATAs, ascending as octets, each once.
+    pub rdatas: Rdatas<A>,
+}
+
+/// Whether the record is of the RRset at this name, in full, and type.
+pub(crate) fn belongs<A: Allocator>(record: &Record<A>, name: &[u8], rtype: u16) -> bool
+    requires { SpellsName name.now }
+    ensures { IsTrue result ↔ Belongs (labels_of name.now) rtype (told record.now) }
+{
+    if record.class != 1 {
+        return false;
+    }
+    if record.rtype != rtype {
+        return false;
+    }
+    if !is_data_type(rtype) {
+        return false;
+    }
+    record.name.octets() == name
+}
+
+/// A TTL as it is read: zero with its top bit set (RFC 2181 8), and at most a day.
+pub(crate) fn bounded(ttl: u32) -> u32
+    ensures { result ≡ read_ttl ttl }
+{
+    if ttl >= 0x8000_0000 {
+        0
+    } else {
+        ttl.min(86400)
+    }
+}
+
+// The least TTL of an RRset.
+fn least_ttl<A: Allocator>(section: &[Record<A>], name: &[u8], rtype: u16) -> u32
+    requires spelled { SpellsName name.now }
+    requires some { (d : List ℕ) × InSet (all_told section.now) (labels_of name.now) rtype d }
+    ensures { IsTtl (all_told section.now) (labels_of name.now) rtype result }
+{
+    let mut least = 86400;
+    for record in section {
+        if belongs(record, name, rtype) {
+            least = bounded(record.ttl).min(least);
+        }
+    }
+    least
+}
+
+// Whether these octets are among the RDATAs.
+fn holds<A: Allocator>(rdatas: &[Octets<A>], rdata: &[u8]) -> bool
+    ensures { IsTrue result ↔ Has rdatas.now rdata.now }
+{
+    for held in rdatas {
+        if held.as_slice() == rdata {
+            return true;
+        }
+    }
+    false
+}
+
+// How many RDATAs at the front are less.
+fn place<A: Allocator>(rdatas: &[Octets<A>], rdata: &[u8]) -> usize
+    ensures count { result ≡ count_below rdata.now rdatas.now }
+    ensures within { result ≤ length rdatas.now }
+{
+    let mut at = 0;
+    while at < rdatas.len() && rdatas[at].as_slice().cmp(rdata).is_lt() {
+        at += 1;
+    }
+    at
+}
+
+// Adds an RDATA at its place, if it is not there.
+fn add<A: Allocator + Clone>(
+    alloc: A,
+    rdatas: &mut Vec<Octets<A>, A>,
+    rdata: &[u8],
+) -> Result<(), AllocError>
+    requires { IsAscending rdatas.old.items }
+    ensures ascending { OnOk result (IsAscending rdatas.new.items) }
+    ensures members { OnOk result ((d : List ℕ) → Has rdatas.new.items d ↔ (Has rdatas.old.items d ⊎ (rdata.now ≡ d))) }
+{
+    if holds(rdatas, rdata) {
+        return Ok(());
+    }
+    let at = place(rdatas, rdata);
+    rdatas.insert(at, Octets::copy_of(alloc, rdata)?)?;
+    Ok(())
+}
+
+/// The RRset at this name and type, where there is one.
+pub(crate) fn gather<A: Allocator + Clone>(
+    alloc: A,
+    section: &[Record<A>],
+    owner: &Name<A>,
+    rtype: u16,
+) -> Result<RrSet<A>, AllocError>
+    requires { (d : List ℕ) × InSet (all_told section.now) owner.now rtype d }
+    ensures { IfOk result (λ x. IsRrSet (all_told section.now) owner.now rtype (set_of x)) }
+{
+    let name = owner.octets();
+    let mut rdatas = Vec::new(alloc.clone()?);
+    for record in section {
+        if belongs(record, name, rtype) {
+            add(alloc.clone()?, &mut rdatas, record.rdata.as_slice())?;
+        }
+    }
+    Ok(RrSet {
+        name: owner.try_clone()?,
+        rtype,
+        ttl: least_ttl(section, name, rtype),
+        rdatas: Rdatas::new(rdatas),
+    })
+}

@@ -1,0 +1,197 @@
+//! The digest of a reply.
+
+ghost use Rattle.std.specs.Prelude.{◌≡◌, ℕ, ◌⊎◌, List, [], IfOk};
+ghost use Rattle.fleet_name.specs.Name.{labels_of};
+ghost use Rattle.fleet_wire.specs.Record.{all_told};
+ghost use Rattle.fleet_wire.specs.Message.{IsRead};
+ghost use Rattle.fleet_observe.specs.RrSet.{SpellsName, sets_of};
+ghost use Rattle.fleet_observe.specs.Walk.{ArePlainRecords, HasWalk, IsFollowed, Ends};
+ghost use Rattle.fleet_observe.specs.Digest.{ending_of, IsLawful};
+ghost use Rattle.fleet_observe.specs.Meaning.{IsServed, IsMeaning, IsEnd, Tells, AsksWalk, IsWalkable};
+
+use crate::authority::authority_sets;
+use crate::checks::CNAME;
+use crate::denial::soa_for;
+use crate::names::name_of;
+use crate::rrset::{RrSet, gather};
+use crate::told::End;
+use crate::walk::{Step, found_at, step_at};
+use fleet_name::Name;
+use fleet_wire::{Message, Record};
+use std::alloc::{AllocError, Allocator, Global};
+use std::marker::Model;
+
+/// What a reply tells: the links of the walk from the question's name along aliases, how it ends, and the NS RRsets
+/// that it is an authority for. `digest` alone makes one.
+#[derive(Drop)]
+pub struct Digest<A: Allocator = Global> {
+    name: Name<A>,
+    rtype: u16,
+    aa: bool,
+    chain: Vec<RrSet<A>, A>,
+    end: End<A>,
+    ns: Vec<RrSet<A>, A>,
+}
+
+impl<A: Allocator> Model for Digest<A> {
+    ghost use Rattle.fleet_observe.specs.RrSet.{sets_of};
+    ghost use Rattle.fleet_observe.specs.Digest.{Summary, ending_of, IsLawful};
+
+    ghost Value = { Summary };
+
+    ghost view = { λ d. record { name = d.name; rtype = d.rtype; aa = d.aa; chain = sets_of d.chain.items; end = ending_of d.end; ns = sets_of d.ns.items } };
+
+    ghost invariant = { λ d. IsLawful (record { name = d.name; rtype = d.rtype; aa = d.aa; chain = sets_of d.chain.items; end = ending_of d.end; ns = sets_of d.ns.items }) };
+}
+
+impl<A: Allocator> Digest<A> {
+    /// The name of the question.
+    pub fn name(&self) -> &Name<A>
+        ensures name { result.now ≡ self.now.name }
+        ensures lawful { IsLawful self.now }
+    {
+        &self.name
+    }
+
+    /// The type of the question.
+    pub fn rtype(&self) -> u16
+        ensures rtype { result ≡ self.now.rtype }
+        ensures lawful { IsLawful self.now }
+    {
+        self.rtype
+    }
+
+    /// Whether the reply had AA set.
+    pub fn aa(&self) -> bool
+        ensures aa { result ≡ self.now.aa }
+        ensures lawful { IsLawful self.now }
+    {
+        self.aa
+    }
+
+    /// The links of the walk, in order: at most 8 CNAME RRsets of one RDATA each.
+    pub fn chain(&self) -> &[RrSet<A>]
+        ensures chain { sets_of result.now ≡ self.now.chain }
+        ensures lawful { IsLawful self.now }
+    {
+        &self.chain
+    }
+
+    /// How the reply ends.
+    pub fn end(&self) -> &End<A>
+        ensures end { ending_of result.now ≡ self.now.end }
+        ensures lawful { IsLawful self.now }
+    {
+        &self.end
+    }
+
+    /// The NS RRsets of the authority section that the reply is an authority for, in order of first appearance.
+    pub fn ns(&self) -> &[RrSet<A>]
+        ensures ns { sets_of result.now ≡ self.now.ns }
+        ensures lawful { IsLawful self.now }
+    {
+        &self.ns
+    }
+}
+
+// The links of a walk, and the name where it ends, in full.
+struct Followed<'a, A: Allocator> {
+    chain: Vec<RrSet<A>, A>,
+    at: &'a [u8],
+}
+
+// Follows the walk.
+fn follow<'a, A: Allocator + Clone>(
+    alloc: A,
+    answer: &'a [Record<A>],
+    name: &'a [u8],
+    rtype: u16,
+) -> Result<Followed<'a, A>, AllocError>
+    requires spelled { SpellsName name.now }
+    requires plain { ArePlainRecords (all_told answer.now) }
+    requires walk { HasWalk (all_told answer.now) rtype (labels_of name.now) }
+    ensures { IfOk result (IsFollowed (all_told answer.now) rtype (labels_of name.now)) }
+{
+    let mut chain = Vec::new(alloc.clone()?);
+    let mut at = name;
+    while let Step::Alias(alias) = step_at(answer, at, rtype) {
+        let link = gather(alloc.clone()?, answer, &alias.name, CNAME)?;
+        chain.push(link)?;
+        at = alias.rdata.as_slice();
+    }
+    Ok(Followed { chain, at })
+}
+
+// How a walk ends.
+fn end_of<A: Allocator + Clone>(
+    alloc: A,
+    message: &Message<A>,
+    at: &[u8],
+) -> Result<End<A>, AllocError>
+    requires spelled { SpellsName at.now }
+    requires read { IsRead message.now }
+    requires ends { Ends message.now.answer message.now.question.rtype (labels_of at.now) }
+    requires asks { AsksWalk message.now }
+    ensures { IfOk result (λ e. IsEnd message.now (labels_of at.now) (ending_of e)) }
+{
+    let answer = message.answer();
+    let rtype = message.question().rtype;
+    if let Some(record) = found_at(answer, at, rtype) {
+        let records = gather(alloc, answer, &record.name, rtype)?;
+        return Ok(End::Records(records));
+    }
+    let denied = name_of(alloc.clone()?, at)?;
+    let soa = soa_for(alloc, message.authority(), &denied)?;
+    if message.header().rcode == 0 {
+        return Ok(End::NoData(soa));
+    }
+    Ok(End::NxDomain(soa))
+}
+
+/// What a reply that asks for no walk tells.
+pub(crate) fn short<A: Allocator + Clone>(
+    alloc: A,
+    message: &Message<A>,
+    end: End<A>,
+) -> Result<Digest<A>, AllocError>
+    requires served { IsServed message.now }
+    requires tells { Tells message.now [] (ending_of end) }
+    requires idle { ¬ AsksWalk message.now }
+    ensures { IfOk result (IsMeaning message.now) }
+{
+    let question = message.question();
+    Ok(Digest {
+        name: question.name.try_clone()?,
+        rtype: question.rtype,
+        aa: message.header().aa,
+        chain: Vec::new(alloc.clone()?),
+        end,
+        ns: Vec::new(alloc),
+    })
+}
+
+/// What a reply with a walk tells.
+pub(crate) fn walked<A: Allocator + Clone>(
+    alloc: A,
+    message: &Message<A>,
+) -> Result<Digest<A>, AllocError>
+    requires served { IsServed message.now }
+    requires asks { AsksWalk message.now }
+    requires walk { IsWalkable message.now }
+    ensures { IfOk result (IsMeaning message.now) }
+{
+    let question = message.question();
+    let name = question.name.octets();
+    let rtype = question.rtype;
+    let Followed { chain, at } = follow(alloc.clone()?, message.answer(), name, rtype)?;
+    let end = end_of(alloc.clone()?, message, at)?;
+    let ns = authority_sets(alloc, message)?;
+    Ok(Digest {
+        name: question.name.try_clone()?,
+        rtype,
+        aa: message.header().aa,
+        chain,
+        end,
+        ns,
+    })
+}
