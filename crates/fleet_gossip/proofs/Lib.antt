@@ -1,0 +1,13 @@
+pub mod Numbers
+pub mod Fields
+pub mod Rows
+pub mod Names
+pub mod Bodies
+pub mod Entries
+pub mod Frames
+pub mod Heads
+pub mod BodySteps
+pub mod Packing
+pub mod NameSteps
+pub mod FrameSteps
+pub mod PackSteps

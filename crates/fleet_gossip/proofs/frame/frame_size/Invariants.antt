@@ -1,0 +1,6 @@
+use Rattle.std.proofs.Common.{take}
+use Rattle.fleet_gossip.specs.Steps.{FitsFrame}
+use Rattle.fleet_gossip.proofs.frame.frame_size.Given as goal
+
+abbrev pub invariant-loop-observation : goal.invariant-loop-observation
+invariant-loop-observation g l = FitsFrame (take l.observation-index l.observations) l.size

@@ -1,0 +1,5 @@
+use Rattle.fleet_gossip.proofs.Frames as frames
+use Rattle.fleet_gossip.proofs.laws.list_or_fault.Goals as goal
+
+pub returns : goal.returns
+returns c octets facts f is fails = frames.list_or_fault octets facts f is fails

@@ -1,0 +1,6 @@
+pub mod Entry
+pub mod Frame
+pub mod Faults
+pub mod Packed
+pub mod Steps
+pub mod Packs

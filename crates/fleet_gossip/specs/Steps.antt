@@ -1,0 +1,89 @@
+-- What the steps of reading find.
+use Rattle.std.specs.Prelude.{◌≡◌, ℕ, ◌<◌, ◌≤◌, List, [], ◌∷◌, ◌++◌, length}
+use Rattle.std.specs.declared.cmp.Ordering.TheVariants.{Less}
+use Rattle.std.specs.Ordering.{nat_cmp}
+use Rattle.std.specs.Cmp.Lexicographic.{slice_cmp}
+use Rattle.fleet_name.specs.Name.{frame, wire, lower, IsName}
+use Rattle.fleet_wire.specs.Number.{u16_octets, u32_octets}
+use Rattle.fleet_observe.specs.Fact.{Fact, AreFacts, kind_number}
+use Rattle.fleet_gossip.specs.Entry.{octet, u64_octets, IsRankOf, IsMoment, IsLifeOf}
+use Rattle.fleet_gossip.specs.Frame.{magic, version, entries, frame_octets}
+use Rattle.fleet_gossip.specs.Faults.{FieldFails, IsRoom}
+use Rattle.fleet_gossip.specs.declared.fault.FrameFault.{FrameFault}
+use Rattle.fleet_gossip.specs.declared.fault.FrameFault.TheVariants.{Truncated}
+use Rattle.fleet_gossip.specs.declared.head.Head.{Head}
+
+-- a lawful number stands at the front of octets, and the rest behind it
+pub record IsField (spelled : ℕ → List ℕ) (Lawful : ℕ → Type 0) (octets : List ℕ) (number : ℕ) (rest : List ℕ) : Type 0 where
+  pub whole : octets ≡ spelled number ++ rest
+  pub lawful : Lawful number
+
+abbrev pub Nothing : ℕ → List ℕ → FrameFault → Type 0
+Nothing number rest f = ⊥
+
+-- no such number stands there, by its own fault
+abbrev pub NoField : (ℕ → List ℕ) → ℕ → (ℕ → Type 0) → FrameFault → List ℕ → FrameFault → Type 0
+NoField spelled size Lawful refusal = FieldFails spelled size Lawful refusal Nothing
+
+-- octets are missing
+abbrev pub IsCut : ℕ → List ℕ → FrameFault → Type 0
+IsCut size octets f = (length octets < size) × (f ≡ Truncated)
+
+-- so many octets stand at the front, and the rest behind them
+pub record AreTaken (octets : List ℕ) (size : ℕ) (taken rest : List ℕ) : Type 0 where
+  pub whole : octets ≡ taken ++ rest
+  pub counted : length taken ≡ size
+
+-- an entry may begin with these numbers
+pub record IsLawfulHead (head : Head) : Type 0 where
+  pub rank : IsRankOf (kind_number head.kind) head.rank
+  pub stamp : IsMoment head.stamp
+  pub life : IsLifeOf (kind_number head.kind) head.life
+
+-- the first numbers of an entry stand at the front, and the rest behind them
+pub record IsHead (octets : List ℕ) (head : Head) (rest : List ℕ) : Type 0 where
+  pub whole : octets ≡ octet (kind_number head.kind) ++ (octet head.rank ++ (u64_octets head.stamp ++ (u32_octets head.life ++ rest)))
+  pub lawful : IsLawfulHead head
+
+-- a label stands at the front, or the zero octet that ends a name, and the rest behind it
+pub record IsLabelAt (before : List (List ℕ)) (octets label rest : List ℕ) : Type 0 where
+  pub whole : octets ≡ frame label ++ rest
+  pub room : 0 < length label → IsRoom before (length label)
+  pub low : lower label ≡ label
+
+-- a name stands at the front, and the rest behind it
+pub record IsNameAt (octets : List ℕ) (name : List (List ℕ)) (rest : List ℕ) : Type 0 where
+  pub whole : octets ≡ wire name ++ rest
+  pub named : IsName name
+
+abbrev pub AnyRdata : List ℕ → Type 0
+AnyRdata rdata = Unit {0}
+
+-- this is the observation that an entry's first numbers, name and type begin
+pub record IsBegun (head : Head) (name : List (List ℕ)) (rtype : ℕ) (o : Fact) : Type 0 where
+  pub kind : o.kind ≡ kind_number head.kind
+  pub rank : o.rank ≡ head.rank
+  pub stamp : o.stamp ≡ head.stamp
+  pub life : o.life ≡ head.life
+  pub named : o.name ≡ name
+  pub typed : o.rtype ≡ rtype
+
+-- it stands above the last of them, if there is one
+abbrev pub IsAbove : List (List ℕ) → List ℕ → Type 0
+IsAbove rdatas rdata = (before : List (List ℕ)) (last : List ℕ) → rdatas ≡ before ++ last ∷ [] → slice_cmp nat_cmp last rdata ≡ Less
+
+-- magic, version and a count of entries stand at the front, and the rest behind them
+abbrev pub IsOpened : List ℕ → ℕ → List ℕ → Type 0
+IsOpened octets count rest = octets ≡ u16_octets magic ++ (octet version ++ (u16_octets count ++ rest))
+
+-- so many entries stand at the front, and the rest behind them
+pub record AreEntries (octets : List ℕ) (count : ℕ) (facts : List Fact) (rest : List ℕ) : Type 0 where
+  pub whole : octets ≡ entries facts ++ rest
+  pub lawful : AreFacts facts
+  pub counted : length facts ≡ count
+
+-- the frame of these observations has so many octets, which fit
+pub record FitsFrame (facts : List Fact) (size : ℕ) : Type 0 where
+  pub lawful : AreFacts facts
+  pub counted : size ≡ length (frame_octets facts)
+  pub fits : size ≤ 16384

@@ -1,0 +1,56 @@
+//! Why a frame is refused.
+
+ghost use Rattle.std.specs.Prelude.{◌≡◌};
+ghost use Rattle.fleet_gossip.specs.declared.fault.FrameFault.TheVariants.{OutOfMemory};
+
+use std::alloc::{AllocError, AllocFailed};
+
+/// Why a frame is refused: of several faults the first one that is met, its octets being read in order.
+#[derive(Clone, Copy, Debug, PartialEq, Eq)]
+pub enum FrameFault {
+    /// It doesn't begin with the octets 44 47.
+    BadMagic,
+    /// Its version is not 1.
+    BadVersion,
+    /// It has more than 16384 octets. This is told before all else.
+    TooLong,
+    /// It ends before what it says.
+    Truncated,
+    /// A kind other than 1, 2 or 3, or a type that the kind doesn't have: a name error has 0, the others have none of
+    /// 0, 41 and 128 to 255 (RFC 6895 3.1).
+    BadKind,
+    /// A rank other than 1, 2 or 3, or 2 where the observation is not positive.
+    BadRank,
+    /// A stamp of more than 2^40 seconds.
+    BadMoment,
+    /// A life of 0 seconds, of more than 86400, or of more than 10800 where the observation is not positive.
+    BadLife,
+    /// A label of more than 63 octets, a name of more than 255 with its zero octet, or a capital letter in it
+    /// (RFC 1035 2.3.4).
+    BadName,
+    /// Positive: no RDATA, more than one of an alias (CNAME), a body of more than 8192 octets, RDATA that is not of its
+    /// type's shape with names in full and in lower case, or RDATA that doesn't stand above the one before it.
+    /// Negative: an owner that is no name, or neither the observation's name nor an ancestor of it, or RDATA that is
+    /// not of the shape of an SOA.
+    BadBody,
+    /// Octets behind the last entry.
+    Trailing,
+    /// There was no memory for it.
+    OutOfMemory,
+}
+
+impl From<AllocError> for FrameFault {
+    ghost from_gives = { λ _ e. e ≡ OutOfMemory };
+
+    fn from(_error: AllocError) -> FrameFault {
+        FrameFault::OutOfMemory
+    }
+}
+
+impl<T: Drop> From<AllocFailed<T>> for FrameFault {
+    ghost from_gives = { λ _ e. e ≡ OutOfMemory };
+
+    fn from(_error: AllocFailed<T>) -> FrameFault {
+        FrameFault::OutOfMemory
+    }
+}

@@ -1,0 +1,122 @@
+//! The first numbers of an entry: kind, rank, stamp and life.
+
+ghost use Rattle.std.specs.Prelude.{◌↔◌, MatchResult, IsTrue};
+ghost use Rattle.fleet_wire.specs.Number.{u16_octets, u32_octets};
+ghost use Rattle.fleet_observe.specs.Fact.{kind_number};
+ghost use Rattle.fleet_gossip.specs.Entry.{octet, u64_octets, IsKind, IsRankOf, IsMoment, IsLifeOf, IsTypeOf};
+ghost use Rattle.fleet_gossip.specs.Faults.{EntryFails};
+ghost use Rattle.fleet_gossip.specs.Steps.{IsField, NoField, IsHead};
+ghost use Rattle.fleet_gossip.specs.declared.fault.FrameFault.TheVariants.{BadKind, BadRank, BadMoment, BadLife};
+
+use crate::fault::FrameFault;
+use crate::reader::Reader;
+use fleet_observe::{Kind, Moment, is_data_type};
+
+/// The first numbers of an entry.
+#[derive(Clone, Copy, Drop)]
+pub(crate) struct Head {
+    pub kind: Kind,
+    pub rank: u8,
+    pub stamp: Moment,
+    /// Seconds.
+    pub life: u32,
+}
+
+fn read_kind(reader: &mut Reader<'_>) -> Result<Kind, FrameFault>
+    ensures { MatchResult result (λ r. IsField octet IsKind reader.old (kind_number r) reader.new) (NoField octet 1 IsKind BadKind reader.old) }
+{
+    let number = reader.read_u8()?;
+    match number {
+        1 => Ok(Kind::NameError),
+        2 => Ok(Kind::NoData),
+        3 => Ok(Kind::Positive),
+        _ => Err(FrameFault::BadKind),
+    }
+}
+
+fn is_rank_of(kind: Kind, rank: u8) -> bool
+    ensures { IsTrue result ↔ IsRankOf (kind_number kind) rank }
+{
+    match kind {
+        Kind::Positive => rank >= 1 && rank <= 3,
+        Kind::NoData => rank == 1 || rank == 3,
+        Kind::NameError => rank == 1 || rank == 3,
+    }
+}
+
+fn read_rank(reader: &mut Reader<'_>, kind: Kind) -> Result<u8, FrameFault>
+    ensures { MatchResult result (λ r. IsField octet (IsRankOf (kind_number kind)) reader.old r reader.new) (NoField octet 1 (IsRankOf (kind_number kind)) BadRank reader.old) }
+{
+    let rank = reader.read_u8()?;
+    if !is_rank_of(kind, rank) {
+        return Err(FrameFault::BadRank);
+    }
+    Ok(rank)
+}
+
+fn read_stamp(reader: &mut Reader<'_>) -> Result<Moment, FrameFault>
+    ensures { MatchResult result (λ r. IsField u64_octets IsMoment reader.old r reader.new) (NoField u64_octets 8 IsMoment BadMoment reader.old) }
+{
+    let seconds = reader.read_u64()?;
+    match Moment::new(seconds) {
+        Some(stamp) => Ok(stamp),
+        None => Err(FrameFault::BadMoment),
+    }
+}
+
+fn is_life_of(kind: Kind, life: u32) -> bool
+    ensures { IsTrue result ↔ IsLifeOf (kind_number kind) life }
+{
+    match kind {
+        Kind::Positive => life >= 1 && life <= 86400,
+        Kind::NoData => life >= 1 && life <= 10800,
+        Kind::NameError => life >= 1 && life <= 10800,
+    }
+}
+
+fn read_life(reader: &mut Reader<'_>, kind: Kind) -> Result<u32, FrameFault>
+    ensures { MatchResult result (λ r. IsField u32_octets (IsLifeOf (kind_number kind)) reader.old r reader.new) (NoField u32_octets 4 (IsLifeOf (kind_number kind)) BadLife reader.old) }
+{
+    let life = reader.read_u32()?;
+    if !is_life_of(kind, life) {
+        return Err(FrameFault::BadLife);
+    }
+    Ok(life)
+}
+
+/// Kind, rank, stamp and life of the entry that is read next.
+pub(crate) fn read_head(reader: &mut Reader<'_>) -> Result<Head, FrameFault>
+    ensures { MatchResult result (λ r. IsHead reader.old r reader.new) (EntryFails reader.old) }
+{
+    let kind = read_kind(reader)?;
+    let rank = read_rank(reader, kind)?;
+    let stamp = read_stamp(reader)?;
+    let life = read_life(reader, kind)?;
+    Ok(Head {
+        kind,
+        rank,
+        stamp,
+        life,
+    })
+}
+
+fn is_type_of(kind: Kind, rtype: u16) -> bool
+    ensures { IsTrue result ↔ IsTypeOf (kind_number kind) rtype }
+{
+    match kind {
+        Kind::Positive => is_data_type(rtype),
+        Kind::NoData => is_data_type(rtype),
+        Kind::NameError => rtype == 0,
+    }
+}
+
+/// The type of an entry of the kind.
+pub(crate) fn read_type(reader: &mut Reader<'_>, kind: Kind) -> Result<u16, FrameFault>
+    ensures { MatchResult result (λ r. IsField u16_octets (IsTypeOf (kind_number kind)) reader.old r reader.new) (NoField u16_octets 2 (IsTypeOf (kind_number kind)) BadKind reader.old) }
+{
+    let rtype = reader.read_u16()?;
+    if !is_type_of(kind, rtype) {
+        return Err(FrameFault::BadKind);
+    }
+    Ok(rtype)
+}

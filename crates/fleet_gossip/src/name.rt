@@ -1,0 +1,77 @@
+//! A name in an entry.
+
+ghost use Rattle.std.specs.Prelude.{◌≡◌, ℕ, ◌+◌, ◌≤◌, List, length, IfOk, IfErr, IsTrue, IsFalse, MatchResult};
+ghost use Rattle.fleet_name.specs.Name.{wire, lower};
+ghost use Rattle.fleet_gossip.specs.Faults.{LabelFails, NameFails, OrMemory};
+ghost use Rattle.fleet_gossip.specs.Steps.{IsLabelAt, IsNameAt};
+
+use crate::fault::FrameFault;
+use crate::reader::Reader;
+use fleet_name::Name;
+use std::alloc::Allocator;
+
+// How many octets a label, and a name with its zero octet, have at most (RFC 1035 2.3.4).
+const MAX_LABEL: usize = 63;
+
+const MAX_NAME: usize = 255;
+
+fn is_lower(label: &[u8]) -> bool
+    ensures yes { IsTrue result → lower label.now ≡ label.now }
+    ensures no { IsFalse result → lower label.now ≡ label.now → ⊥ }
+{
+    for octet in label {
+        if octet.to_ascii_lowercase() != *octet {
+            return false;
+        }
+    }
+    true
+}
+
+// The label behind others that have `used` octets with a final zero: none of octets is the end of the name.
+fn read_label<'a>(reader: &mut Reader<'a>, used: usize) -> Result<&'a [u8], FrameFault>
+    requires { used ≤ 255 }
+    ensures { (before : List (List ℕ)) → length (wire before) ≡ used → MatchResult result (λ r. IsLabelAt before reader.old r.now reader.new) (LabelFails before reader.old) }
+{
+    let size = usize::from(reader.read_u8()?);
+    if size == 0 {
+        return Ok(&[]);
+    }
+    if size > MAX_LABEL || used + size + 1 > MAX_NAME {
+        return Err(FrameFault::BadName);
+    }
+    let label = reader.take(size)?;
+    if !is_lower(label) {
+        return Err(FrameFault::BadName);
+    }
+    Ok(label)
+}
+
+// How many octets the name that is read next has.
+fn name_size(octets: &[u8]) -> Result<usize, FrameFault>
+    ensures { MatchResult result (λ size. (name : List (List ℕ)) × (rest : List ℕ) × IsNameAt octets.now name rest × (size ≡ length (wire name))) (NameFails octets.now) }
+{
+    let mut reader = Reader::new(octets);
+    let mut size = 1;
+    loop {
+        let label = read_label(&mut reader, size)?;
+        if label.is_empty() {
+            return Ok(size);
+        }
+        size += 1 + label.len();
+    }
+}
+
+/// The name that is read next.
+pub(crate) fn read_name<A: Allocator>(
+    alloc: A,
+    reader: &mut Reader<'_>,
+) -> Result<Name<A>, FrameFault>
+    ensures found { IfOk result (λ name. IsNameAt reader.old name reader.new) }
+    ensures fault { IfErr result (λ f. OrMemory f (NameFails reader.old f)) }
+{
+    let size = name_size(reader.rest())?;
+    let octets = reader.take(size)?;
+    let name = Name::copy_of(alloc, octets)?;
+    prove!(!name.octets().is_empty());
+    Ok(name)
+}

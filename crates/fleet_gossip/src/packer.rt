@@ -1,0 +1,112 @@
+//! Packing observations into frames.
+
+ghost use Rattle.std.specs.Prelude.{◌≡◌, ◌+◌, ◌<◌, ◌≤◌, ◌++◌, ◌∷◌, [], List, length, IfOk, OnOk};
+ghost use Rattle.fleet_wire.specs.Number.{u16_octets};
+ghost use Rattle.fleet_observe.specs.Fact.{Fact};
+ghost use Rattle.fleet_gossip.specs.Entry.{octet};
+ghost use Rattle.fleet_gossip.specs.Frame.{magic, version};
+ghost use Rattle.fleet_gossip.specs.Packed.{IsPacked};
+ghost use Rattle.fleet_gossip.specs.Packs.{Packs, IsPacking};
+
+use crate::frame::{MAX_FRAME, OPENING};
+use crate::writer::{entry_size, push_entry, push_opening};
+use fleet_cache::Cache;
+use fleet_name::Octets;
+use fleet_observe::Observation;
+use std::alloc::{AllocError, Allocator};
+
+/// Frames in the making.
+#[derive(Drop)]
+pub(crate) struct Packer<A: Allocator> {
+    alloc: A,
+    /// The finished frames.
+    frames: Vec<Octets<A>, A>,
+    /// The entries of the frame that the next one may go into.
+    entries: Vec<u8, A>,
+    /// How many these are.
+    count: u16,
+}
+
+impl<A: Allocator + Clone> Packer<A> {
+    /// Without frames.
+    pub fn new(alloc: A) -> Result<Packer<A>, AllocError>
+        ensures { IfOk result (λ packer. Packs packer []) }
+    {
+        Ok(Packer {
+            frames: Vec::new(alloc.clone()?),
+            entries: Vec::new(alloc.clone()?),
+            count: 0,
+            alloc,
+        })
+    }
+
+    // Finishes the frame in the making.
+    fn close(&mut self) -> Result<(), AllocError>
+        requires { length self.old.entries.items ≤ 16384 }
+        ensures frames { OnOk result (self.new.frames.items ≡ self.old.frames.items ++ (u16_octets magic ++ (octet version ++ (u16_octets self.old.count ++ self.old.entries.items))) ∷ []) }
+        ensures entries { OnOk result (self.new.entries.items ≡ []) }
+        ensures count { OnOk result (self.new.count ≡ 0) }
+    {
+        let mut frame = Vec::with_capacity(self.alloc.clone()?, OPENING + self.entries.len())?;
+        push_opening(&mut frame, self.count)?;
+        frame.extend_from_slice(&self.entries)?;
+        self.frames.push(Octets::new(frame))?;
+        self.entries.clear();
+        self.count = 0;
+        Ok(())
+    }
+
+    /// Adds an observation behind the others.
+    pub fn add(&mut self, observation: &Observation<A>) -> Result<(), AllocError>
+        requires { IsPacking self.old }
+        ensures { OnOk result ((taken : List Fact) → Packs self.old taken → Packs self.new (taken ++ observation.now ∷ [])) }
+    {
+        if OPENING + self.entries.len() + entry_size(observation) > MAX_FRAME {
+            self.close()?;
+        }
+        push_entry(&mut self.entries, observation)?;
+        self.count += 1;
+        Ok(())
+    }
+
+    /// The frames of all that was added.
+    pub fn finish(mut self) -> Result<Vec<Octets<A>, A>, AllocError>
+        requires { IsPacking self }
+        ensures { IfOk result (λ frames. (taken : List Fact) → Packs self taken → IsPacked taken frames.items) }
+    {
+        if self.count == 0 {
+            return Ok(self.frames);
+        }
+        self.close()?;
+        Ok(self.frames)
+    }
+}
+
+/// The frames of observations, in their order: each observation goes into the frame of the one before it where that
+/// then has at most 16384 octets, else it begins a new frame. An empty list has none.
+pub fn pack<A: Allocator + Clone>(
+    alloc: A,
+    observations: &[Observation<A>],
+) -> Result<Vec<Octets<A>, A>, AllocError>
+    ensures { IfOk result (λ frames. IsPacked observations.now frames.items) }
+{
+    let mut packer = Packer::new(alloc)?;
+    for observation in observations {
+        packer.add(observation)?;
+    }
+    packer.finish()
+}
+
+/// The frames of all items of a cache, in their order: what `pack` gives of them.
+pub fn sweep<A: Allocator + Clone>(
+    alloc: A,
+    cache: &Cache<A>,
+) -> Result<Vec<Octets<A>, A>, AllocError>
+    ensures { IfOk result (λ frames. IsPacked cache.now.items frames.items) }
+{
+    let mut packer = Packer::new(alloc)?;
+    for observation in cache.items() {
+        packer.add(observation)?;
+    }
+    packer.finish()
+}

@@ -1,0 +1,91 @@
+//! Reading octets from the front.
+
+ghost use Rattle.std.specs.Prelude.{◌≡◌, ℕ, ◌+◌, ◌<◌, ◌++◌, [], ◌↔◌, MatchResult, IsTrue};
+ghost use Rattle.fleet_wire.specs.Number.{u16_octets, u32_octets};
+ghost use Rattle.fleet_gossip.specs.Entry.{octet, u64_octets};
+ghost use Rattle.fleet_gossip.specs.Steps.{IsCut, AreTaken};
+
+use crate::fault::FrameFault;
+use std::marker::Model;
+
+/// Octets that are left to read, seen by contracts as their list.
+#[derive(Drop)]
+pub(crate) struct Reader<'a> {
+    rest: &'a [u8],
+}
+
+impl<'a> Model for Reader<'a> {
+    ghost use Rattle.std.specs.Prelude.{ℕ, List};
+
+    ghost Value = { List ℕ };
+
+    ghost view = { λ r. r.rest.now };
+}
+
+impl<'a> Reader<'a> {
+    pub fn new(octets: &'a [u8]) -> Reader<'a>
+        ensures { result ≡ octets.now }
+    {
+        Reader { rest: octets }
+    }
+
+    /// All that are left.
+    pub fn rest(&self) -> &'a [u8]
+        ensures { result.now ≡ self.now }
+    {
+        self.rest
+    }
+
+    /// Whether none is left.
+    pub fn is_empty(&self) -> bool
+        ensures { IsTrue result ↔ (self.now ≡ []) }
+    {
+        self.rest.is_empty()
+    }
+
+    /// So many octets.
+    pub fn take(&mut self, count: usize) -> Result<&'a [u8], FrameFault>
+        ensures { MatchResult result (λ r. AreTaken self.old count r.now self.new) (IsCut count self.old) }
+    {
+        if self.rest.len() < count {
+            return Err(FrameFault::Truncated);
+        }
+        let (taken, rest) = self.rest.split_at(count);
+        self.rest = rest;
+        Ok(taken)
+    }
+
+    /// A number of one octet.
+    pub fn read_u8(&mut self) -> Result<u8, FrameFault>
+        ensures { MatchResult result (λ n. self.old ≡ octet n ++ self.new) (IsCut 1 self.old) }
+    {
+        let number = self.take(1)?;
+        Ok(number[0])
+    }
+
+    /// A number of two octets, the high one first.
+    pub fn read_u16(&mut self) -> Result<u16, FrameFault>
+        ensures { MatchResult result (λ n. self.old ≡ u16_octets n ++ self.new) (IsCut 2 self.old) }
+    {
+        let number = self.take(2)?;
+        Ok(u16::from(number[0]) * 256 + u16::from(number[1]))
+    }
+
+    /// A number of four octets.
+    pub fn read_u32(&mut self) -> Result<u32, FrameFault>
+        ensures { MatchResult result (λ n. self.old ≡ u32_octets n ++ self.new) (IsCut 4 self.old) }
+    {
+        let high = self.read_u16()?;
+        let low = self.read_u16()?;
+        Ok(u32::from(high) * 65536 + u32::from(low))
+    }
+
+    /// A number of eight octets.
+    pub fn read_u64(&mut self) -> Result<u64, FrameFault>
+        ensures { MatchResult result (λ n. self.old ≡ u64_octets n ++ self.new) (IsCut 8 self.old) }
+    {
+        let high = self.read_u32()?;
+        let low = self.read_u32()?;
+        Ok(u64::from(high) * 4294967296 + u64::from(low))
+    }
+}
