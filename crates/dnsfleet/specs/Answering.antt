@@ -4,7 +4,7 @@ use Rattle.fleet_wire.specs.Outline.{Sketch, line, octets_of_outline}
 use Rattle.fleet_wire.specs.Question.{Asked}
 use Rattle.fleet_wire.specs.Record.{Told}
 use Rattle.fleet_wire.specs.declared.header.Header.{Header}
-use Rattle.fleet_observe.specs.Body.{positive_body, negative_body}
+use Rattle.fleet_observe.specs.Body.{positive_body, negative_body, IsDenial}
 use Rattle.fleet_cache.specs.Answer.{Part, Answered, Missed, Found, NoData, NxDomain}
 use Rattle.dnsfleet.specs.declared.asking.Looked.{Looked}
 use Rattle.dnsfleet.specs.declared.asking.Looked.TheVariants.{Reply, Miss, Dropped}
@@ -37,7 +37,7 @@ AreChainRows (p ∷ ps) rows = (first : List Told) × (others : List Told) × Ar
 
 -- the SOA record (6) of a part
 abbrev pub IsSoaRow : Part → Told → Type 0
-IsSoaRow p r = (owner : List (List ℕ)) × (rdata : List ℕ) × (p.fact.body ≡ negative_body owner rdata) × (r ≡ line owner 6 p.ttl rdata)
+IsSoaRow p r = (owner : List (List ℕ)) × (rdata : List ℕ) × IsDenial p.fact.name owner rdata × (p.fact.body ≡ negative_body owner rdata) × (r ≡ line owner 6 p.ttl rdata)
 
 -- these octets are the reply
 abbrev pub Replies : {A : Type 0} → Sketch → Looked A → Type 0

@@ -20,8 +20,11 @@ use std::alloc::{AllocError, Allocator};
 /// What asking a question gives.
 #[derive(Drop)]
 pub enum Looked<A: Allocator> {
+    /// The octets of the reply.
     Reply(Octets<A>),
+    /// Nothing that is known answers it.
     Miss,
+    /// It is no question, and gets no reply.
     Dropped,
 }
 

@@ -9,30 +9,43 @@ use thiserror::Error;
 /// What is wrong with a line, in the order in which it is told.
 #[derive(Clone, Copy, Debug, PartialEq, Eq, Error)]
 pub enum What {
+    /// The reader failed, or was called too often.
     #[error("read")]
     Read,
+    /// The line has more than 65536 octets without its line feed.
     #[error("line too long")]
     LineTooLong,
+    /// An octet of the line is not ASCII.
     #[error("not ASCII")]
     NotAscii,
+    /// The first word names no event.
     #[error("unknown event")]
     UnknownEvent,
+    /// The line has too few words, or too many.
     #[error("wrong number of words")]
     WordCount,
+    /// A word is no number of 1 to 13 digits, or one out of range.
     #[error("bad number")]
     BadNumber,
+    /// A word is no address.
     #[error("bad address")]
     BadAddress,
+    /// A word spells no octets.
     #[error("bad hex")]
     BadHex,
+    /// The number of sites is not the first event.
     #[error("sites must come first")]
     SitesNotFirst,
+    /// There is no site of this number.
     #[error("no such site")]
     NoSuchSite,
+    /// There is no frame of this number.
     #[error("no such frame")]
     NoSuchFrame,
+    /// There was no memory for it.
     #[error("out of memory")]
     OutOfMemory,
+    /// The writer failed.
     #[error("write")]
     Write,
 }
@@ -57,6 +70,8 @@ impl<T: Drop> From<AllocFailed<T>> for What {
 #[derive(Clone, Copy, Debug, PartialEq, Eq, Error)]
 #[error("line {line}: {what}")]
 pub struct ScriptFault {
+    /// The line, from 1.
     pub line: u64,
+    /// What is wrong with it.
     pub what: What,
 }

@@ -31,7 +31,9 @@ pub enum Learnt {
 /// Why a reply has no observations.
 #[derive(Clone, Copy, Debug, PartialEq, Eq)]
 pub enum Unlearnt {
+    /// It is no reply that can be learnt.
     Refused(Refusal),
+    /// There was no memory for them.
     NoMemory,
 }
 

@@ -55,8 +55,8 @@ impl<A: Allocator + Clone> Site<A> {
     /// Learns a reply at the moment, or at its clock where that is later: its observations are
     /// stamped so and taken in.
     ///
-    /// What can't be read or isn't a reply that is served changes the clock at most. Without memory
-    /// only the first observations were taken, as many as the fault says.
+    /// What can't be read, isn't a reply that is served or has no walk changes the clock at most.
+    /// Without memory only the first observations were taken, as many as the fault says.
     pub fn learn(&mut self, now: Moment, octets: &[u8]) -> Result<Learnt, Stopped>
         ensures clock { self.new.clock ≡ max self.old.clock now }
         ensures floor { self.new.cache.floor ≡ self.old.cache.floor }

@@ -18,7 +18,7 @@ use fleet_observe::{Kind, Observation};
 use std::alloc::{AllocError, Allocator, Global};
 use std::marker::Model;
 
-/// The links of an answer, in order: aliases, at most 8 of them.
+/// The links of an answer, in order. Those that a cache answers are aliases, and at most 8.
 #[derive(Drop)]
 pub struct Chain<A: Allocator = Global> {
     links: Vec<Shown<A>, A>,
@@ -36,7 +36,7 @@ impl<A: Allocator> Model for Chain<A> {
 
 impl<A: Allocator> Chain<A> {
     /// These links.
-    pub fn new(links: Vec<Shown<A>, A>) -> Chain<A>
+    pub(crate) fn new(links: Vec<Shown<A>, A>) -> Chain<A>
         ensures { result ≡ parts_of links.items }
     {
         Chain { links }

@@ -17,9 +17,11 @@ use fleet_wire::Question;
 use std::alloc::{AllocError, Allocator, Global};
 use std::cmp::Ordering;
 use std::marker::Model;
+use thiserror::Error;
 
 /// There was no memory for an observation; those before it were taken, and the floor stayed.
-#[derive(Clone, Copy, Debug, PartialEq, Eq)]
+#[derive(Clone, Copy, Debug, PartialEq, Eq, Error)]
+#[error("out of memory after {taken} observations")]
 pub struct Stopped {
     /// How many were taken: just the first ones, in their order.
     pub taken: usize,

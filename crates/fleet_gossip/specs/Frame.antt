@@ -25,3 +25,10 @@ pub record SpellsFrame (octets : List ℕ) (facts : List Fact) : Type 0 where
   pub lawful : AreFacts facts
   pub spelled : octets ≡ frame_octets facts
   pub fits : length octets ≤ 16384
+
+-- octets that begin as a frame does: no more than a frame has, with the magic, the version and a count
+pub record HasOpening (octets : List ℕ) : Type 0 where
+  pub short : length octets ≤ 16384
+  pub count : ℕ
+  pub rest : List ℕ
+  pub opening : octets ≡ u16_octets magic ++ (octet version ++ (u16_octets count ++ rest))

@@ -1,8 +1,8 @@
 //! Frames: read and written.
 
-ghost use Rattle.std.specs.Prelude.{◌≡◌, ◌<◌, List, length, IfOk, IfErr, MatchOption, MatchResult, Err};
+ghost use Rattle.std.specs.Prelude.{◌≡◌, ◌≢◌, ◌<◌, List, length, IfOk, IfErr, MatchOption, MatchResult, Err};
 ghost use Rattle.fleet_observe.specs.Fact.{Fact};
-ghost use Rattle.fleet_gossip.specs.Frame.{frame_octets, SpellsFrame};
+ghost use Rattle.fleet_gossip.specs.Frame.{frame_octets, SpellsFrame, HasOpening};
 ghost use Rattle.fleet_gossip.specs.Faults.{EntriesFail, MagicFails, FrameFails, IsTooLong, OrMemory};
 ghost use Rattle.fleet_gossip.specs.Steps.{IsOpened, AreEntries, FitsFrame};
 ghost use Rattle.fleet_gossip.specs.declared.fault.FrameFault.TheVariants.{TooLong, OutOfMemory};
@@ -65,7 +65,8 @@ pub fn encode<A: Allocator>(
 
 // How many entries the frame counts.
 fn read_count(reader: &mut Reader<'_>) -> Result<u16, FrameFault>
-    ensures { MatchResult result (λ count. IsOpened reader.old count reader.new) (MagicFails reader.old) }
+    ensures opened { MatchResult result (λ count. IsOpened reader.old count reader.new) (MagicFails reader.old) }
+    ensures told { IfErr result (λ f. f ≢ OutOfMemory) }
 {
     let magic = reader.read_u16()?;
     if magic != MAGIC {
@@ -102,6 +103,7 @@ fn read_frame<A: Allocator + Clone>(
 ) -> Result<Vec<Observation<A>, A>, FrameFault>
     ensures found { IfOk result (λ v. SpellsFrame octets.now v.items) }
     ensures fault { IfErr result (λ f. OrMemory f (FrameFails octets.now f)) }
+    ensures memory { IfErr result (λ f. f ≡ OutOfMemory → HasOpening octets.now) }
 {
     if octets.len() > MAX_FRAME {
         return Err(FrameFault::TooLong);
@@ -127,6 +129,8 @@ pub fn decode<A: Allocator + Clone>(
     ensures fault { IfErr result (λ f. OrMemory f (FrameFails octets.now f)) }
     // Where a list is spelled, only want of memory keeps it from being read.
     ensures only { (facts : List Fact) → SpellsFrame octets.now facts → IfErr result (λ f. f ≡ OutOfMemory) }
+    // Want of memory is told only behind what a frame begins with.
+    ensures memory { IfErr result (λ f. f ≡ OutOfMemory → HasOpening octets.now) }
 {
     read_frame(alloc, octets)
 }

@@ -2,6 +2,7 @@
 #![tactic(auto)]
 
 mod fault;
+mod laws;
 mod name;
 mod octets;
 #[cfg(test)]
@@ -9,5 +10,6 @@ mod tests;
 mod text;
 
 pub use fault::NameFault;
+pub use laws::one_name;
 pub use name::{Name, suffix_in};
 pub use octets::Octets;

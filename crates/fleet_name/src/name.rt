@@ -1,9 +1,10 @@
 //! A name, as its octets in full (RFC 1035 3.1).
 
-ghost use Rattle.std.specs.Prelude.{◌≡◌, ℕ, ◌+◌, ◌-◌, ◌<◌, ◌≤◌, List, [], ◌∷◌, ◌++◌, ◌↔◌, length, take, drop, IfOk, OnOk, OnErr, IsTrue, MatchOption, MatchResult, None, vec_len, vec_capacity};
+ghost use Rattle.std.specs.Prelude.{◌≡◌, ◌≢◌, ℕ, ◌+◌, ◌-◌, ◌<◌, ◌≤◌, List, [], ◌∷◌, ◌++◌, ◌↔◌, length, take, drop, IfOk, IfErr, OnOk, OnErr, IsTrue, MatchOption, MatchResult, None, vec_len, vec_capacity};
 ghost use Rattle.std.specs.String.{string_bytes};
 ghost use Rattle.fleet_name.specs.Name.{frame, wire, lower, lower_all, labels_of, IsName, IsUnder, IsSpelling, IsWire, IsSuffix};
 ghost use Rattle.fleet_name.specs.Fault.{push_fault, IsFirst};
+ghost use Rattle.fleet_name.specs.declared.fault.NameFault.TheVariants.{OutOfMemory};
 ghost use Rattle.fleet_name.specs.Text.{label_text, text_of};
 ghost use Rattle.std.specs.List.{flat_map};
 
@@ -90,6 +91,7 @@ impl<A: Allocator> Name<A> {
         ensures ok { OnOk result (self.new ≡ self.old ++ lower label.now ∷ []) }
         ensures named { OnOk result (IsName (self.old ++ lower label.now ∷ [])) }
         ensures fault { MatchResult result (λ _. push_fault self.old label.now ≡ None) (λ e. IsFirst e (push_fault self.old label.now)) }
+        ensures refused { IfErr result (λ e. e ≢ OutOfMemory → IsName (self.old ++ lower label.now ∷ []) → ⊥) }
         ensures err { OnErr result (self.new ≡ self.old) }
     {
         if label.is_empty() {

@@ -1,4 +1,4 @@
-//! Replies from the wire, and what they tell.
+//! Replies as octets, and what they tell.
 
 use crate::{DigestFault, Kind, Moment, Observation, digest, observations, relay};
 use fleet_wire::{read_query, read_reply};

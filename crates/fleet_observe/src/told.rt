@@ -6,6 +6,7 @@ ghost use Rattle.fleet_observe.specs.declared.told.DigestFault.TheVariants.{OutO
 use crate::rrset::RrSet;
 use crate::soa::Soa;
 use std::alloc::{AllocError, Allocator, Global};
+use thiserror::Error;
 
 /// How a reply ends.
 #[derive(Drop)]
@@ -23,14 +24,17 @@ pub enum End<A: Allocator = Global> {
 }
 
 /// Why a message has no digest: of several reasons the first one in this order.
-#[derive(Clone, Copy, Debug, PartialEq, Eq)]
+#[derive(Clone, Copy, Debug, PartialEq, Eq, Error)]
 pub enum DigestFault {
     /// QR is clear, the Opcode is not 0, or the question has a class other than 1 or a type that names no data
     /// (0, 41, 128 to 255).
+    #[error("no reply")]
     NotReply,
     /// The aliases fork, loop, or have a ninth link.
+    #[error("bad chain")]
     BadChain,
     /// There was no memory for it.
+    #[error("out of memory")]
     OutOfMemory,
 }
 

@@ -3,6 +3,7 @@
 use crate::entry::Entry;
 use crate::waiter::Waiter;
 use std::alloc::{Allocator, Global};
+use thiserror::Error;
 
 /// What asking did.
 #[derive(Clone, Copy, Debug, PartialEq, Eq)]
@@ -21,14 +22,17 @@ pub enum Asked {
 }
 
 /// Why a waiter was not taken.
-#[derive(Clone, Copy, Debug, PartialEq, Eq)]
+#[derive(Clone, Copy, Debug, PartialEq, Eq, Error)]
 pub enum PendingFault {
     /// The question is new, and 256 are open.
-    Full = 1,
+    #[error("full")]
+    Full,
     /// 32 others wait for the question.
-    WaitersFull = 2,
+    #[error("waiters full")]
+    WaitersFull,
     /// There is no memory for the waiter.
-    OutOfMemory = 3,
+    #[error("out of memory")]
+    OutOfMemory,
 }
 
 /// A waiter that was not taken.

@@ -26,6 +26,13 @@ impl<A: Allocator> Model for Waiters<A> {
 }
 
 impl<A: Allocator> Waiters<A> {
+    /// The waiters of a vector, in its order.
+    pub fn new(items: Vec<Waiter<A>, A>) -> Waiters<A>
+        ensures { result ≡ map asker items.items }
+    {
+        Waiters { items }
+    }
+
     /// One waiter; where there is no memory, the waiter comes back.
     pub(crate) fn of_one(alloc: A, waiter: Waiter<A>) -> Result<Waiters<A>, Waiter<A>>
         ensures { MatchResult result (λ w. w ≡ asker waiter ∷ []) (λ w. w ≡ waiter) }
