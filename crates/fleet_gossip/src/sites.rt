@@ -81,3 +81,23 @@ fn two_observations_of_a_key_are_both_held(rt: HostRuntime) -> Result<(), Fail> 
     assert_eq!(rt; cache.items().count(), 2);
     Ok(())
 }
+
+#[test]
+fn an_item_of_a_frame_has_its_name_and_body(rt: HostRuntime) -> Result<(), Fail> {
+    let alloc = rt.alloc();
+    let mut cache = Cache::new(alloc);
+    let dotted =
+        b"\x44\x47\x01\x00\x01\x03\x01\x00\x00\x00\x00\x00\x00\x00\x00\x00\x00\x00\x01\x03a.b\x01\x5c\x01\x00\x00\x00\x10\x00\x01\x00\x02\x01x";
+    assert_eq!(rt; take(alloc, &mut cache, dotted)?, 1);
+    assert_eq!(rt; cache.floor().value(), 0);
+    for item in cache.items() {
+        assert_eq!(rt;
+            item.name().write_text(alloc)?.as_str(),
+            "a\\.b.\\\\.\\000."
+        );
+        assert!(rt; item.rank() == 1 && item.life() == 1 && item.rtype() == 16);
+        let body = item.write_body(alloc)?;
+        assert_eq!(rt; body.as_slice(), b"\x00\x01\x00\x02\x01x".as_slice());
+    }
+    Ok(())
+}

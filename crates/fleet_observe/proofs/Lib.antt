@@ -13,3 +13,4 @@ pub mod LawfulMeanings
 pub mod Facts
 pub mod Lines
 pub mod OneMeaning
+pub mod Distinct

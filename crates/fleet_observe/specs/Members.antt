@@ -9,6 +9,11 @@ abbrev pub Has : {X : Type 0} → List X → X → Type 0
 Has [] x = ⊥
 Has (y ∷ ys) x = (y ≡ x) ⊎ Has ys x
 
+-- no two of the values are equal
+abbrev pub AllDistinct : {X : Type 0} → List X → Type 0
+AllDistinct [] = Unit {0}
+AllDistinct (x ∷ xs) = (Has xs x → ⊥) × AllDistinct xs
+
 -- each stands before all greater ones and none stands twice: as octets, a proper prefix first
 abbrev pub IsAscending : List (List ℕ) → Type 0
 IsAscending [] = Unit {0}

@@ -3,6 +3,7 @@ use Rattle.std.specs.Prelude.{◌≡◌, ℕ, Bool, ◌&&◌, List, [], ◌∷�
 use Rattle.std.specs.Str.{bytes_eq}
 use Rattle.fleet_name.specs.Name.{wire}
 use Rattle.fleet_wire.specs.Message.{Reply}
+use Rattle.fleet_observe.specs.Members.{AllDistinct}
 use Rattle.fleet_observe.specs.Body.{positive_body, negative_body}
 use Rattle.fleet_observe.specs.Fact.{Fact}
 use Rattle.fleet_observe.specs.RrSet.{Set}
@@ -75,3 +76,7 @@ OneMeaning = (r : Reply) (a b : Summary) → IsMeaning r a → IsMeaning r b →
 -- and one list of observations is its list at a moment
 abbrev pub OneObserved : Type 0
 OneObserved = (r : Reply) (stamp : ℕ) (a b : List Fact) → IsObserved r stamp a → IsObserved r stamp b → a ≡ b
+
+-- and in that list each observation stands once
+abbrev pub EachOnce : Type 0
+EachOnce = (r : Reply) (stamp : ℕ) (facts : List Fact) → IsObserved r stamp facts → AllDistinct facts

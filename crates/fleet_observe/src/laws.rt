@@ -1,7 +1,7 @@
 //! Laws of what replies tell. These functions do nothing when run.
 
 ghost use Rattle.fleet_observe.specs.Walk.{OneWalk};
-ghost use Rattle.fleet_observe.specs.Observed.{OneMeaning, OneObserved};
+ghost use Rattle.fleet_observe.specs.Observed.{OneMeaning, OneObserved, EachOnce};
 
 /// There is one walk at most.
 pub fn one_walk()
@@ -12,4 +12,9 @@ pub fn one_walk()
 pub fn one_meaning()
     ensures meaning { OneMeaning }
     ensures observed { OneObserved }
+{}
+
+/// The observations of a reply at a moment come each once: no two of them are equal.
+pub fn each_once()
+    ensures { EachOnce }
 {}

@@ -28,7 +28,7 @@ mod walk;
 pub use checks::is_data_type;
 pub use fault::ObservationFault;
 pub use kind::Kind;
-pub use laws::{one_meaning, one_walk};
+pub use laws::{each_once, one_meaning, one_walk};
 pub use moment::Moment;
 pub use observation::Observation;
 pub use observed::observations;
