@@ -1,0 +1,172 @@
+//! What a miss makes of the table of open questions.
+
+ghost use Rattle.std.specs.Prelude.{◌≡◌, ◌<◌, ◌≤◌, ℕ, List, length, IfOk};
+ghost use Rattle.fleet_wire.specs.Query.{query_octets};
+ghost use Rattle.fleet_wire.specs.Question.{asked};
+ghost use Rattle.fleet_observe.specs.Fact.{Fact};
+ghost use Rattle.fleet_cache.specs.Cached.{IsCached};
+ghost use Rattle.fleet_pending.specs.Asking.{asked_or_fault};
+ghost use Rattle.fleet_pending.specs.Outstanding.{Open, IsOpen, UsesId};
+ghost use Rattle.fleet_pending.specs.Places.{At};
+ghost use Rattle.fleet_pending.specs.declared.answer.PendingFault.TheVariants.{OutOfMemory as NoRoom};
+ghost use Rattle.fleet_site.specs.Carried.{Keeps, IsAskable, TurnsAway, IsQueryOf};
+ghost use Rattle.fleet_site.specs.Effect.{effect, sending};
+ghost use Rattle.fleet_site.specs.Question.{Reacts, Forwards, Questioned, turned_away};
+ghost use Rattle.fleet_site.specs.Verdict.{verdict};
+
+use crate::config::addr_of;
+use crate::outcome::{Outcome, Refusal, SiteFault};
+use crate::verdict::{Decision, decide};
+use crate::writing::reply_without;
+use fleet_cache::Cache;
+use fleet_name::Octets;
+use fleet_observe::Moment;
+use fleet_pending::{Addr, Asked, Pending, PendingFault, Unasked, Waiter, settling_undoes_asking};
+use fleet_wire::{Header, Question, write_query};
+use std::alloc::{AllocError, Allocator};
+
+/// Octets from an address that is no upstream's and no peer's.
+pub(crate) fn take_question<A: Allocator + Copy>(
+    alloc: A,
+    cache: &Cache<A>,
+    pending: &mut Pending<A>,
+    upstreams: &[Addr],
+    clock: Moment,
+    from: Addr,
+    word: u16,
+    octets: &[u8],
+) -> Result<Outcome<A>, SiteFault>
+    requires reached { cache.now.floor ≤ clock }
+    requires some { 0 < length upstreams.now }
+    ensures questioned { (s : List Fact) → IsCached s cache.now.floor cache.now.items → Keeps (Questioned s upstreams.now pending.old clock from word octets.now) pending.old result pending.new }
+    ensures upstreams { pending.new.upstreams ≡ pending.old.upstreams }
+{
+    match decide(alloc, cache, clock, octets) {
+        Ok(decision) => react(alloc, pending, upstreams, clock, from, word, decision),
+        Err(_) => Err(SiteFault::OutOfMemory { taken: 0 }),
+    }
+}
+
+/// What is done where this was decided.
+fn react<A: Allocator + Copy>(
+    alloc: A,
+    pending: &mut Pending<A>,
+    upstreams: &[Addr],
+    clock: Moment,
+    from: Addr,
+    word: u16,
+    decision: Decision<A>,
+) -> Result<Outcome<A>, SiteFault>
+    requires askable { IsAskable decision }
+    requires some { 0 < length upstreams.now }
+    ensures reacts { Keeps (Reacts upstreams.now pending.old clock from word (verdict decision)) pending.old result pending.new }
+    ensures upstreams { pending.new.upstreams ≡ pending.old.upstreams }
+{
+    match decision {
+        Decision::Dropped => Ok(Outcome::silent(alloc, 0, Some(Refusal::Dropped))),
+        Decision::Reply(octets) => Ok(Outcome::sending(alloc, from, octets, None)?),
+        Decision::Unread(octets, fault) => {
+            Ok(Outcome::sending(alloc, from, octets, Some(Refusal::Read(fault)))?)
+        }
+        Decision::Miss(header, question) => {
+            if header.rd {
+                forward(
+                    alloc, pending, upstreams, clock, from, word, header, question,
+                )
+            } else {
+                let octets = reply_without(alloc, header, 5, &question)?;
+                Ok(Outcome::sending(alloc, from, octets, None)?)
+            }
+        }
+    }
+}
+
+/// A miss goes to the table, and a new entry's query to its upstream.
+fn forward<A: Allocator + Copy>(
+    alloc: A,
+    pending: &mut Pending<A>,
+    upstreams: &[Addr],
+    clock: Moment,
+    from: Addr,
+    word: u16,
+    header: Header,
+    question: Question<A>,
+) -> Result<Outcome<A>, SiteFault>
+    requires opcode { header.opcode < 16 }
+    requires class { question.class ≡ 1 }
+    requires some { 0 < length upstreams.now }
+    ensures forwards { Keeps (Forwards upstreams.now pending.old clock from word header (asked question)) pending.old result pending.new }
+    ensures upstreams { pending.new.upstreams ≡ pending.old.upstreams }
+{
+    let id = header.id;
+    let waiter = Waiter { from, id, question };
+    let asked = match pending.ask(waiter, clock, word) {
+        Ok(asked) => asked,
+        Err(unasked) => return turn_away(alloc, from, header, unasked),
+    };
+    match asked {
+        Asked::Again => Ok(Outcome::silent(alloc, 0, None)),
+        Asked::Joined => Ok(Outcome::silent(alloc, 0, None)),
+        Asked::Send { upstream, id } => {
+            let to = addr_of(upstreams, upstream);
+            match query_for(alloc, pending, to, id) {
+                Ok(outcome) => Ok(outcome),
+                Err(_) => {
+                    let _ = pending.settle(id);
+                    settling_undoes_asking();
+                    Err(SiteFault::OutOfMemory { taken: 0 })
+                }
+            }
+        }
+    }
+}
+
+/// The query for the entry with an id.
+fn query_for<A: Allocator + Copy>(
+    alloc: A,
+    pending: &Pending<A>,
+    to: Addr,
+    id: u16,
+) -> Result<Outcome<A>, AllocError>
+    requires { (i : ℕ) × ((e : Open) × At pending.now.entries i e × UsesId id e) }
+    ensures { IfOk result (λ o. IsQueryOf pending.now to id (effect o)) }
+{
+    match pending.entry(id) {
+        Some(entry) => {
+            let octets = write_query(alloc, id, &entry.waiters.as_slice()[0].question)?;
+            Outcome::sending(alloc, to, Octets::new(octets), None)
+        }
+        None => unreachable!(),
+    }
+}
+
+/// The reply to a waiter that was not taken.
+fn turn_away<A: Allocator + Copy>(
+    alloc: A,
+    from: Addr,
+    header: Header,
+    unasked: Unasked<A>,
+) -> Result<Outcome<A>, SiteFault>
+    requires { header.opcode < 16 }
+    ensures { TurnsAway from header (asked unasked.waiter.question) unasked.fault result }
+{
+    match unasked.fault {
+        PendingFault::OutOfMemory => Err(SiteFault::OutOfMemory { taken: 0 }),
+        PendingFault::Full => Ok(say_full(alloc, from, header, &unasked.waiter.question)?),
+        PendingFault::WaitersFull => Ok(say_full(alloc, from, header, &unasked.waiter.question)?),
+    }
+}
+
+/// Code 2 with the question.
+fn say_full<A: Allocator + Copy>(
+    alloc: A,
+    from: Addr,
+    header: Header,
+    question: &Question<A>,
+) -> Result<Outcome<A>, AllocError>
+    requires { header.opcode < 16 }
+    ensures { IfOk result (λ o. effect o ≡ turned_away from header (asked question.now)) }
+{
+    let octets = reply_without(alloc, header, 2, question)?;
+    Outcome::sending(alloc, from, octets, Some(Refusal::Full))
+}
