@@ -125,6 +125,13 @@ impl<A: Allocator + Copy> Site<A> {
         self.clock
     }
 
+    /// Whom it tells, in this order.
+    pub(crate) fn peers(&self) -> &[Addr]
+        ensures { result.now ≡ self.now.setting.peers }
+    {
+        self.config.peers()
+    }
+
     /// A datagram: from an upstream's address a reply, from a peer's a frame, from any other a question. `word` is where
     /// the search for the id of a new query begins.
     pub fn datagram(

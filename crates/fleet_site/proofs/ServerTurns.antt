@@ -1,0 +1,175 @@
+-- Steps, ticks and turns of a server.
+use Rattle.std.proofs.Common.{◌≡◌, ℕ, suc, zero, ◌+◌, ◌%◌, ◌<◌, ◌≤◌, List, [], ◌∷◌, ◌++◌, Bool, true, false, max, Option, Some, None, Result, Ok, Err, IfSome, is_some, refl, sym, ap, subst, ◌∙◌, append_assoc, length, length-append, arith, add-one, add-zero}
+use Rattle.std.proofs.lemmas.List.{append-nil}
+use Rattle.std.specs.Option.{unwrap_or}
+use Rattle.rand_core.specs.Stream.{Stream, next_u32}
+use Rattle.fleet_pending.specs.declared.waiter.Addr.{Addr}
+use Rattle.fleet_pending.specs.Due.{due_at}
+use Rattle.fleet_site.specs.Effect.{Effect}
+use Rattle.fleet_site.specs.SiteModel.{SiteModel}
+use Rattle.fleet_site.specs.State.{State}
+use Rattle.fleet_site.specs.StandsFor.{StandsFor}
+use Rattle.fleet_site.specs.Step.{datagram, tick}
+use Rattle.fleet_site.specs.PortRecord.{PortCall, Received, NoDatagram, Fault, PacketSent, PacketLost, NotesAll, PortState, Made, failures_of, one_more}
+use Rattle.fleet_site.specs.Sending.{AreSent, outgoing, counting, counting_all, counting_refusal, counting_step, goes_on, CarriesOut}
+use Rattle.fleet_site.specs.Turn.{Deal, calling, sweeping, Deals, Stepped, Act, calls_of, counting_acts, AllSent, Acts, Acted, Given, Ticks, no_tick, next_tick, sweeps, Sweeps, Between, Turn, left_after, word_of, IsMoment, Turns, blank, start_of}
+use Rattle.fleet_site.specs.Served.{Served, FollowsSteps, Turned, Took, Heard, Ticked, SweptOnce, due_by, room, ticks_left, Ticking, Ahead, Serves, CountsFailures}
+use Rattle.fleet_site.specs.declared.outcome.SiteFault.{SiteFault}
+use Rattle.fleet_site.specs.declared.report.Report.{Report}
+use Rattle.fleet_site.proofs.ServerLists.{made_none, made_both, counting-append, failures_of-append}
+
+calls_of-append : (ys bs : List Act) → calls_of (ys ++ bs) ≡ calls_of ys ++ calls_of bs
+calls_of-append [] bs = refl
+calls_of-append (a ∷ ys) bs = ap (λ xs. a.calls ++ xs) (calls_of-append ys bs) ∙ sym (append_assoc a.calls (calls_of ys) (calls_of bs))
+
+counting_acts-append : (ys bs : List Act) (r : Report) → counting_acts (ys ++ bs) r ≡ counting_acts bs (counting_acts ys r)
+counting_acts-append [] bs r = refl
+counting_acts-append (a ∷ ys) bs r = counting_acts-append ys bs (counting_all a.calls (counting_step a.answer r))
+
+all_sent_both : (peers : List Addr) (ys bs : List Act) → AllSent peers ys → AllSent peers bs → AllSent peers (ys ++ bs)
+all_sent_both peers [] bs h k = k
+all_sent_both peers (a ∷ ys) bs h k = (h.0, all_sent_both peers ys bs h.1 k)
+
+pub acts_both : (m k n : SiteModel) (ys bs : List Act) → Acts m ys k → Acts k bs n → Acts m (ys ++ bs) n
+acts_both m k n [] bs h i = subst (λ (x : SiteModel). Acts x bs n) h i
+acts_both m k n (a ∷ ys) bs h i = (h.0, h.1, acts_both h.0 k n ys bs h.2 i)
+
+acted_none : (s : State) → Acted s s []
+acted_none s = record { steps = λ m h. (m, refl, h); setting = refl; sent = tt }
+
+acted_both : (s t u : State) (ys bs : List Act) → Acted s t ys → Acted t u bs → Acted s u (ys ++ bs)
+acted_both s t u ys bs a b = record {
+  steps = λ m h. let x = a.steps m h in let y = b.steps x.0 x.2 in (y.0, acts_both m x.0 y.0 ys bs x.1 y.1, y.2);
+  setting = b.setting ∙ a.setting;
+  sent = all_sent_both s.setting.peers ys bs a.sent (subst (λ (x : _). AllSent x.peers bs) a.setting b.sent);
+}
+
+pub took_none : (old : PortState) (s : State) (r : Report) → Took old old s s r r []
+took_none old s r = record { acted = acted_none s; made = made_none old; report = refl }
+
+took_both : (old mid new : PortState) (s t u : State) (r q p : Report) (ys bs : List Act)
+    → Took old mid s t r q ys → Took mid new t u q p bs → Took old new s u r p (ys ++ bs)
+took_both old mid new s t u r q p ys bs a b = record {
+  acted = acted_both s t u ys bs a.acted b.acted;
+  made = rw (calls_of-append ys bs) (made_both old mid new (calls_of ys) (calls_of bs) a.made b.made);
+  report = b.report ∙ ap (counting_acts bs) a.report ∙ sym (counting_acts-append ys bs r);
+}
+
+-- one step that was carried out
+abbrev pub act_of : Deal → Result Effect SiteFault → List PortCall → Act
+act_of x a calls = record { deal = x; answer = a; calls = calls }
+
+acted_one : (s t : State) (x : Deal) (a : Result Effect SiteFault) (calls : List PortCall)
+    → Stepped x a s t → AreSent (outgoing t.setting.peers a) calls → Acted s t (act_of x a calls ∷ [])
+acted_one s t x a calls h k = record {
+  steps = λ m i. let y = h.step m i in (y.0, (y.0, y.1, refl), y.2);
+  setting = h.setting;
+  sent = (subst (λ (z : _). AreSent (outgoing z.peers a) calls) h.setting k, tt);
+}
+
+took_one : (old new : PortState) (s t : State) (x : Deal) (a : Result Effect SiteFault) (r q : Report)
+    → Stepped x a s t → (c : CarriesOut old new t.setting.peers a r q) → Took old new s t r q (act_of x a c.calls ∷ [])
+took_one old new s t x a r q h c = record {
+  acted = acted_one s t x a c.calls h c.sent;
+  made = rw (append-nil c.calls) c.made;
+  report = c.report;
+}
+
+pub heard_one : (old mid new : PortState) (t w : ℕ) (s u : State) (r q p : Report) (from : Addr) (octets : List ℕ) (a : Result Effect SiteFault)
+    → NotesAll old.told (Received from octets ∷ []) mid.told → mid.failed ≡ old.failed → q ≡ counting (Received from octets) r
+    → Stepped (calling (datagram t from octets w)) a s u → CarriesOut mid new u.setting.peers a q p → Heard old new t w s u r p
+heard_one old mid new t w s u r q p from octets a n i e k c = record {
+  arrival = Received from octets;
+  acts = act_of (calling (datagram t from octets w)) a c.calls ∷ [];
+  given = (act_of (calling (datagram t from octets w)) a c.calls, refl, refl);
+  acted = acted_one s u (calling (datagram t from octets w)) a c.calls k c.sent;
+  made = rw (append-nil c.calls) (made_both old mid new (Received from octets ∷ []) c.calls (record { told = n; failed = i }) c.made);
+  report = c.report ∙ ap (λ (y : Report). counting_all c.calls (counting_step a y)) e;
+}
+
+pub heard_none : (old new : PortState) (t w : ℕ) (s : State) (r q : Report) → NotesAll old.told (NoDatagram ∷ []) new.told → new.failed ≡ old.failed → q ≡ r → Heard old new t w s s r q
+heard_none old new t w s r q n i e = record { arrival = NoDatagram; acts = []; given = refl; acted = acted_none s; made = record { told = n; failed = i }; report = e }
+
+pub heard_fault : (old new : PortState) (t w : ℕ) (s : State) (r q : Report) → NotesAll old.told (Fault ∷ []) new.told → new.failed ≡ one_more old.failed → q ≡ counting Fault r → Heard old new t w s s r q
+heard_fault old new t w s r q n i e = record { arrival = Fault; acts = []; given = refl; acted = acted_none s; made = record { told = n; failed = i }; report = e }
+
+pub swept_now : (old new : PortState) (t since : ℕ) (b : Bool) (s : State) (r q : Report) (peers : List Addr) (a : Result Effect SiteFault)
+    → b ≡ true → peers ≡ s.setting.peers → Stepped sweeping a s s → CarriesOut old new peers a r q → SweptOnce old new b t since t s s r q
+swept_now old new t since b s r q peers a e i k c =
+    let y : CarriesOut old new s.setting.peers a r q = subst (λ (ps : List Addr). CarriesOut old new ps a r q) i c in
+    record {
+      acts = act_of sweeping a y.calls ∷ [];
+      swept = subst (λ (z : Bool). Sweeps z t since (act_of sweeping a y.calls ∷ []) t) (sym e) (act_of sweeping a y.calls, refl, refl, refl);
+      took = took_one old new s s sweeping a r q k y;
+    }
+
+pub swept_not : (old : PortState) (t since : ℕ) (b : Bool) (s : State) (r : Report) → b ≡ false → SweptOnce old old b t since since s s r r
+swept_not old t since b s r e = record { acts = []; swept = subst (λ (z : Bool). Sweeps z t since [] since) (sym e) (refl, refl); took = took_none old s r }
+
+-- ticks
+few_more : (b : Bool) (n d e : ℕ) → n + room true d ≤ 256 → (b ≡ true → (0 < e) × (e < d)) → (n + 1) + room b e ≤ 256
+few_more true n d e h f = let x = f refl in let p : 0 < e = x.0 in let q : e < d = x.1 in omega arith
+few_more false n d e h f = omega arith
+
+pub ticking_none : (old : PortState) (t : ℕ) (s : State) (r : Report) → due_by s t ≤ 256 → Ticking old old t true s s r r
+ticking_none old t s r few = record { acts = []; ticks = no_tick; few = omega arith; took = took_none old s r }
+
+pub ticking_more : (old mid new : PortState) (t : ℕ) (s u v : State) (r q p : Report) (a : Result Effect SiteFault)
+    → Ticking old mid t true s u r q → Stepped (calling (tick t)) a u v → CarriesOut mid new v.setting.peers a q p
+    → (goes_on a ≡ true → (0 < due_by v t) × (due_by v t < due_by u t))
+    → Ticking old new t (goes_on a) s v r p
+ticking_more old mid new t s u v r q p a k h c fewer =
+    let act = act_of (calling (tick t)) a c.calls in
+    let n : length (k.acts ++ act ∷ []) ≡ length k.acts + 1 = length-append k.acts (act ∷ []) in
+    record {
+      acts = k.acts ++ act ∷ [];
+      ticks = next_tick act k.ticks refl;
+      few = rw n (few_more (goes_on a) (length k.acts) (due_by u t) (due_by v t) k.few fewer);
+      took = took_both old mid new s u v r q p k.acts (act ∷ []) k.took (took_one mid new u v (calling (tick t)) a q p h c);
+    }
+
+pub ticked : (old new : PortState) (t : ℕ) (b : Bool) (s u : State) (r q : Report) → b ≡ false → Ticking old new t b s u r q → Ticked old new t s u r q
+ticked old new t b s u r q e k =
+    let j : Ticking old new t false s u r q = subst (λ (x : Bool). Ticking old new t x s u r q) e k in
+    let n : length j.acts + 0 ≤ 256 = j.few in
+    record { acts = j.acts; ticks = j.ticks; few = omega arith; took = j.took }
+
+-- a turn
+turned : (old one two new : PortState) (t w every last : ℕ) (since : Option ℕ) (s u v : State) (r q p z : Report)
+    → Heard old one t w s u (record r { turns = one_more r.turns }) q
+    → Ticked one two t u v q p
+    → SweptOnce two new (sweeps every (unwrap_or since t) t) t (unwrap_or since t) last v v p z
+    → Turned old new t w every s v since last r z
+turned old one two new t w every last since s u v r q p z a b c =
+    let acts = a.acts ++ (b.acts ++ c.acts) in
+    let made = made_both old one new (a.arrival ∷ calls_of a.acts) (calls_of b.acts ++ calls_of c.acts) a.made (made_both one two new (calls_of b.acts) (calls_of c.acts) b.took.made c.took.made) in
+    let e : calls_of acts ≡ calls_of a.acts ++ (calls_of b.acts ++ calls_of c.acts) = calls_of-append a.acts (b.acts ++ c.acts) ∙ ap (λ (x : List PortCall). calls_of a.acts ++ x) (calls_of-append b.acts c.acts) in
+    let first : Report = counting a.arrival (record r { turns = one_more r.turns }) in
+    let n : counting_acts acts first ≡ counting_acts c.acts (counting_acts b.acts (counting_acts a.acts first)) = counting_acts-append a.acts (b.acts ++ c.acts) first ∙ counting_acts-append b.acts c.acts (counting_acts a.acts first) in
+    record {
+      calls = a.arrival ∷ calls_of acts;
+      made = subst (λ (x : List PortCall). Made old new (a.arrival ∷ x)) (sym e) made;
+      turn = record {
+        arrival = a.arrival;
+        given = a.acts;
+        ticks = b.acts;
+        sweep = c.acts;
+        is_given = a.given;
+        are_ticks = b.ticks;
+        few = b.few;
+        is_swept = (last, c.swept, refl);
+        acted = acted_both s u v a.acts (b.acts ++ c.acts) a.acted (acted_both u v v b.acts c.acts b.took.acted c.took.acted);
+        calls = refl;
+        report = c.took.report ∙ ap (counting_acts c.acts) (b.took.report ∙ ap (counting_acts b.acts) a.report) ∙ sym n;
+      };
+    }
+
+-- the turn of these parts
+pub turned_at : (old one two new : PortState) (t w every last from : ℕ) (since : Option ℕ) (s u v : State) (r k q p z : Report)
+    → k ≡ record r { turns = one_more r.turns } → from ≡ unwrap_or since t
+    → Heard old one t w s u k q → Ticked one two t u v q p → SweptOnce two new (sweeps every from t) t from last v v p z
+    → Turned old new t w every s v since last r z
+turned_at old one two new t w every last from since s u v r k q p z d e a b c =
+    turned old one two new t w every last since s u v r q p z
+    (subst (λ (y : Report). Heard old one t w s u y q) d a) b
+    (subst (λ (y : ℕ). SweptOnce two new (sweeps every y t) t y last v v p z) e c)

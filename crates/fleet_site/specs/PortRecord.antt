@@ -1,0 +1,61 @@
+-- The record of a port: what it was asked, and how each call ended.
+use Rattle.std.specs.Prelude.{◌≡◌, ℕ, ◌+◌, min, List, [], ◌∷◌, ◌++◌, Option, Some, None, Result, Ok, Err, take}
+use Rattle.fleet_pending.specs.declared.waiter.Addr.{Addr}
+use Rattle.fleet_site.specs.Sent.{Sent}
+use Rattle.fleet_site.specs.declared.port.PortFault.{PortFault}
+
+-- a datagram was received, or none, or the receive failed; a packet was sent, or it was lost
+pub data PortCall : Type 0 where
+  Received : (from : Addr) → (octets : List ℕ) → PortCall
+  NoDatagram : PortCall
+  Fault : PortCall
+  PacketSent : Sent → PortCall
+  PacketLost : Sent → PortCall
+
+-- where the port still tells its record, it told it before, and these calls are the last ones
+abbrev pub NotesAll : Option (List PortCall) → List PortCall → Option (List PortCall) → Type 0
+NotesAll old calls None = Unit {0}
+NotesAll old calls (Some now) = (before : List PortCall) × (old ≡ Some before) × (now ≡ before ++ calls)
+
+-- the same of one call
+abbrev pub Notes : Option (List PortCall) → PortCall → Option (List PortCall) → Type 0
+Notes old call now = NotesAll old (call ∷ []) now
+
+-- what a receive into a buffer was, which holds these octets afterwards
+abbrev pub receive_of : Result (Option (Addr × ℕ)) PortFault → List ℕ → PortCall
+receive_of (Ok None) buffer = NoDatagram
+receive_of (Ok (Some p)) buffer = Received p.0 (take p.1 buffer)
+receive_of (Err e) buffer = Fault
+
+-- what a send was
+abbrev pub send_of : Result (Unit {0}) PortFault → Sent → PortCall
+send_of (Ok u) s = PacketSent s
+send_of (Err e) s = PacketLost s
+
+-- a count stays at the greatest number of 64 bits
+abbrev pub one_more : ℕ → ℕ
+one_more n = min (n + 1) 18446744073709551615
+
+-- a call that failed is counted
+abbrev pub failures_after : {T : Type 0} → Result T PortFault → ℕ → ℕ
+failures_after (Ok x) n = n
+failures_after (Err e) n = one_more n
+
+-- what a port counts after these calls, from n on
+abbrev pub failures_of : List PortCall → ℕ → ℕ
+failures_of [] n = n
+failures_of (Received from octets ∷ calls) n = failures_of calls n
+failures_of (NoDatagram ∷ calls) n = failures_of calls n
+failures_of (Fault ∷ calls) n = failures_of calls (one_more n)
+failures_of (PacketSent s ∷ calls) n = failures_of calls n
+failures_of (PacketLost s ∷ calls) n = failures_of calls (one_more n)
+
+-- what a port may tell: its record, while it tells it, and how many of its calls failed
+pub record PortState : Type 0 where
+  pub told : Option (List PortCall)
+  pub failed : ℕ
+
+-- between these two states a port made these calls
+pub record Made (old new : PortState) (calls : List PortCall) : Type 0 where
+  pub told : NotesAll old.told calls new.told
+  pub failed : new.failed ≡ failures_of calls old.failed

@@ -1,0 +1,233 @@
+//! The loop of a server.
+
+ghost use Rattle.std.specs.Prelude.{◌≡◌, ◌<◌, ◌+◌, ◌∷◌, [], map, is_some};
+ghost use Rattle.fleet_site.specs.Packet.{sent};
+ghost use Rattle.fleet_site.specs.Effect.{plain};
+ghost use Rattle.fleet_site.specs.Sending.{Sends, CarriesOut, to_each, to_peers, swept, counting_refusal, goes_on};
+ghost use Rattle.fleet_site.specs.Turn.{sweeps};
+ghost use Rattle.fleet_site.specs.Served.{Served, FollowsSteps, Turned, Heard, Ticked, SweptOnce};
+
+use crate::outcome::{Outcome, Packet, Refusal, SiteFault};
+use crate::port::{Clock, Port};
+use crate::report::Report;
+use crate::site::Site;
+use fleet_name::Octets;
+use fleet_observe::Moment;
+use fleet_pending::Addr;
+use rand_core::Rng;
+use std::alloc::{AllocError, Allocator};
+
+/// The octets of the longest frame, and one more.
+const BUFFER: usize = 16385;
+
+/// Sends octets, and counts them.
+fn send<P: Port>(port: &mut P, to: Addr, bytes: &[u8], report: &mut Report)
+    ensures { Sends (P.tells port.old) (P.tells port.new) (record { to = to; octets = bytes.now } ∷ []) report.old report.new }
+{
+    match port.send(to, bytes) {
+        Ok(()) => report.count_sent(),
+        Err(_) => report.count_lost(),
+    }
+}
+
+/// Sends packets in their order.
+fn send_packets<P: Port, A: Allocator>(port: &mut P, packets: &[Packet<A>], report: &mut Report)
+    ensures { Sends (P.tells port.old) (P.tells port.new) (map sent packets.now) report.old report.new }
+{
+    for packet in packets {
+        send(port, packet.to, packet.bytes.as_slice(), report);
+    }
+}
+
+/// Sends a frame to each peer.
+fn send_to_each<P: Port>(port: &mut P, frame: &[u8], peers: &[Addr], report: &mut Report)
+    ensures { Sends (P.tells port.old) (P.tells port.new) (to_each frame.now peers.now) report.old report.new }
+{
+    for peer in peers {
+        send(port, *peer, frame, report);
+    }
+}
+
+/// Sends each frame to each peer.
+fn send_frames<P: Port, A: Allocator>(
+    port: &mut P,
+    frames: &[Octets<A>],
+    peers: &[Addr],
+    report: &mut Report,
+)
+    ensures { Sends (P.tells port.old) (P.tells port.new) (to_peers peers.now frames.now) report.old report.new }
+{
+    for frame in frames {
+        send_to_each(port, frame.as_slice(), peers, report);
+    }
+}
+
+/// Counts a refusal, if it is one.
+fn count_refusal(refused: Option<Refusal>, report: &mut Report)
+    ensures { report.new ≡ counting_refusal (is_some refused) report.old }
+{
+    if refused.is_some() {
+        report.count_refused();
+    }
+}
+
+/// Sends what a step gave, and says whether a tick is to follow.
+fn carry_out<P: Port, A: Allocator>(
+    port: &mut P,
+    peers: &[Addr],
+    answer: Result<Outcome<A>, SiteFault>,
+    report: &mut Report,
+) -> bool
+    ensures carried { CarriesOut (P.tells port.old) (P.tells port.new) peers.now (plain answer) report.old report.new }
+    ensures more { result ≡ goes_on (plain answer) }
+{
+    match answer {
+        Ok(outcome) => {
+            count_refusal(outcome.refused, report);
+            send_packets(port, outcome.packets.as_slice(), report);
+            send_frames(port, outcome.frames.as_slice(), peers, report);
+            outcome.more
+        }
+        Err(_) => {
+            report.count_short();
+            false
+        }
+    }
+}
+
+/// Sends the frames of a sweep.
+fn carry_out_sweep<P: Port, A: Allocator>(
+    port: &mut P,
+    peers: &[Addr],
+    frames: Result<Vec<Octets<A>, A>, AllocError>,
+    report: &mut Report,
+)
+    ensures { CarriesOut (P.tells port.old) (P.tells port.new) peers.now (swept frames) report.old report.new }
+{
+    match frames {
+        Ok(frames) => send_frames(port, &frames, peers, report),
+        Err(_) => report.count_short(),
+    }
+}
+
+/// Receives at most one datagram, and gives it to the site.
+fn receive<P: Port, A: Allocator + Copy>(
+    port: &mut P,
+    site: &mut Site<A>,
+    buffer: &mut [u8],
+    now: Moment,
+    word: u16,
+    report: &mut Report,
+)
+    ensures { Heard (P.tells port.old) (P.tells port.new) now word site.old site.new report.old report.new }
+{
+    match port.recv(buffer) {
+        Ok(None) => {}
+        Ok(Some((from, len))) => {
+            report.count_received();
+            let answer = site.datagram(now, from, &buffer[..len], word);
+            carry_out(port, site.peers(), answer, report);
+        }
+        Err(_) => report.count_faults(),
+    }
+}
+
+/// Ticks until no other entry is due, or there is no memory for a tick.
+fn tick_all<P: Port, A: Allocator + Copy>(
+    port: &mut P,
+    site: &mut Site<A>,
+    now: Moment,
+    report: &mut Report,
+)
+    ensures { Ticked (P.tells port.old) (P.tells port.new) now site.old site.new report.old report.new }
+{
+    let mut more = true;
+    while more {
+        let answer = site.tick(now);
+        more = carry_out(port, site.peers(), answer, report);
+    }
+}
+
+/// Whether it is time to sweep.
+fn is_sweep_due(now: Moment, since: Moment, every: u32) -> bool
+    ensures { result ≡ sweeps every since now }
+{
+    every > 0 && now.value().saturating_sub(since.value()) >= u64::from(every)
+}
+
+/// Sweeps where it is time, and gives the moment that the next sweep is counted from.
+fn sweep_if_due<P: Port, A: Allocator + Copy>(
+    port: &mut P,
+    site: &Site<A>,
+    now: Moment,
+    since: Moment,
+    every: u32,
+    report: &mut Report,
+) -> Moment
+    ensures { SweptOnce (P.tells port.old) (P.tells port.new) (sweeps every since now) now since result site.now site.now report.old report.new }
+{
+    if is_sweep_due(now, since, every) {
+        carry_out_sweep(port, site.peers(), site.sweep(), report);
+        now
+    } else {
+        since
+    }
+}
+
+/// One turn.
+fn turn<P: Port, A: Allocator + Copy>(
+    port: &mut P,
+    site: &mut Site<A>,
+    buffer: &mut [u8],
+    now: Moment,
+    word: u16,
+    every: u32,
+    since: Option<Moment>,
+    report: &mut Report,
+) -> Moment
+    ensures { Turned (P.tells port.old) (P.tells port.new) now word every site.old site.new since result report.old report.new }
+{
+    report.count_turns();
+    receive(port, site, buffer, now, word, report);
+    tick_all(port, site, now, report);
+    sweep_if_due(port, site, now, since.unwrap_or(now), every, report)
+}
+
+/// Serves a site over a port for so many turns, and tells what it counted.
+///
+/// A turn reads the clock once and draws one word; receives at most one datagram and gives it to the site with the low
+/// 16 bits of that word; sends its packets, then its frames, each to the peers in their order; ticks, sending after each
+/// tick, until no other entry is due or a tick finds no memory; and sweeps where `sweep_every` (seconds) is not 0 and
+/// the moment is at least that many seconds after that of the last sweep, or of the first turn. A send that fails counts
+/// as lost, a receive that fails as a fault, a step without memory as short, and the loop goes on.
+pub fn serve<P: Port, C: Clock, R: Rng, A: Allocator + Copy>(
+    port: &mut P,
+    clock: &mut C,
+    rng: &mut R,
+    site: &mut Site<A>,
+    turns: u32,
+    sweep_every: u32,
+) -> Report
+    ensures run { Served (P.tells port.old) (P.tells port.new) (C.moments clock.old) (R.stream rng.old) turns sweep_every site.old site.new result }
+    ensures follows { FollowsSteps site.old site.new }
+    ensures failures { result.lost < 18446744073709551615 → result.faults < 18446744073709551615 → (P.tells port.new).failed < 18446744073709551615 → (P.tells port.new).failed ≡ (P.tells port.old).failed + (result.lost + result.faults) }
+{
+    let mut report = Report::new();
+    let mut buffer = [0u8; BUFFER];
+    let mut swept = None;
+    for _ in 0..turns {
+        let now = clock.now();
+        let word = (rng.next_u32() % 65536) as u16;
+        swept = Some(turn(
+            port,
+            site,
+            &mut buffer,
+            now,
+            word,
+            sweep_every,
+            swept,
+            &mut report,
+        ));
+    }
+    report
+}
