@@ -150,14 +150,15 @@ impl<A: Allocator> Name<A> {
         Ok(text)
     }
 
-    /// A copy of the name.
+    /// A copy of the name: one allocation of just its octets.
     pub fn try_clone(&self) -> Result<Name<A>, AllocError>
     where
-        A: Clone,
+        A: Copy,
         ensures { IfOk result (λ n. n ≡ self.now) }
     {
+        let octets = Vec::from_slice(*self.octets.allocator(), &self.octets)?;
         Ok(Name {
-            octets: self.octets.clone()?,
+            octets,
             labels: self.labels,
         })
     }
