@@ -250,7 +250,7 @@ impl<A: Allocator> Observation<A> {
     /// A copy of it.
     pub fn try_clone(&self) -> Result<Observation<A>, AllocError>
     where
-        A: Clone,
+        A: Copy,
         ensures { IfOk result (λ o. o ≡ self.now) }
     {
         let name = self.name.try_clone()?;

@@ -20,7 +20,7 @@ use fleet_name::{Name, Octets};
 use std::alloc::{AllocError, Allocator};
 
 // Copies of the RDATAs.
-fn copies<A: Allocator + Clone>(
+fn copies<A: Allocator + Copy>(
     alloc: A,
     rdatas: &[Octets<A>],
 ) -> Result<Vec<Octets<A>, A>, AllocError>
@@ -34,7 +34,7 @@ fn copies<A: Allocator + Clone>(
 }
 
 // Adds the observation of an RRset, unless its TTL is zero or its body too long.
-fn put_set<A: Allocator + Clone>(
+fn put_set<A: Allocator + Copy>(
     alloc: A,
     set: &RrSet<A>,
     rank: u8,
@@ -57,7 +57,7 @@ fn put_set<A: Allocator + Clone>(
 }
 
 // Adds the observation of a denial, unless the SOA's TTL is zero.
-fn put_denial<A: Allocator + Clone>(
+fn put_denial<A: Allocator + Copy>(
     alloc: A,
     denied: &[u8],
     rtype: Option<u16>,
@@ -134,7 +134,7 @@ fn denied_at<'a, A: Allocator>(name: &'a Name<A>, chain: &'a [RrSet<A>]) -> &'a 
 }
 
 // Adds the observations of the links.
-fn put_links<A: Allocator + Clone>(
+fn put_links<A: Allocator + Copy>(
     alloc: A,
     digest: &Digest<A>,
     stamp: Moment,
@@ -146,13 +146,13 @@ fn put_links<A: Allocator + Clone>(
     let aa = digest.aa();
     for link in digest.chain() {
         let rank = rank_of(aa, name, &link.name);
-        put_set(alloc.clone()?, link, rank, stamp, out)?;
+        put_set(alloc, link, rank, stamp, out)?;
     }
     Ok(())
 }
 
 // Adds the observation of the end.
-fn put_end<A: Allocator + Clone>(
+fn put_end<A: Allocator + Copy>(
     alloc: A,
     digest: &Digest<A>,
     stamp: Moment,
@@ -177,7 +177,7 @@ fn put_end<A: Allocator + Clone>(
 }
 
 // Adds the observations of the NS RRsets.
-fn put_ns<A: Allocator + Clone>(
+fn put_ns<A: Allocator + Copy>(
     alloc: A,
     digest: &Digest<A>,
     stamp: Moment,
@@ -187,14 +187,14 @@ fn put_ns<A: Allocator + Clone>(
     ensures lawful { IsLawful digest.now }
 {
     for set in digest.ns() {
-        put_set(alloc.clone()?, set, 2, stamp, out)?;
+        put_set(alloc, set, 2, stamp, out)?;
     }
     Ok(())
 }
 
 /// The observations of a reply at a moment, in this order: the links, the records or the denial with its SOA, the NS
 /// RRsets. Left out are those of a TTL of zero, RRsets whose body has more than 8192 octets, and a denial without SOA.
-pub fn observations<A: Allocator + Clone>(
+pub fn observations<A: Allocator + Copy>(
     alloc: A,
     digest: &Digest<A>,
     stamp: Moment,
@@ -202,9 +202,9 @@ pub fn observations<A: Allocator + Clone>(
     ensures observed { IfOk result (λ os. os.items ≡ observed_facts digest.now stamp) }
     ensures lawful { IfOk result (λ os. AreFacts os.items) }
 {
-    let mut out = Vec::new(alloc.clone()?);
-    put_links(alloc.clone()?, digest, stamp, &mut out)?;
-    put_end(alloc.clone()?, digest, stamp, &mut out)?;
+    let mut out = Vec::new(alloc);
+    put_links(alloc, digest, stamp, &mut out)?;
+    put_end(alloc, digest, stamp, &mut out)?;
     put_ns(alloc, digest, stamp, &mut out)?;
     prove!(stamp.value() <= Moment::LATEST);
     Ok(out)
