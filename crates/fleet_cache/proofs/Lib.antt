@@ -9,6 +9,7 @@ mod Best
 mod Answers
 mod Follow
 mod Paths
+mod KindsOfParts
 mod Relevance
 mod Worked
 mod Dominated
