@@ -10,6 +10,8 @@ mod Answers
 mod Follow
 mod Paths
 mod KindsOfParts
+mod OneAnswer
+mod Existence
 mod Relevance
 mod Worked
 mod Dominated
