@@ -285,10 +285,11 @@ fn push_labels<A: Allocator>(
     Ok(())
 }
 
-fn is_lower(label: &[u8]) -> bool
-    ensures { IsTrue result ↔ (lower label.now ≡ label.now) }
+/// Whether octets are in lower case: none of them is a capital letter, `A` to `Z`.
+pub fn is_lower(octets: &[u8]) -> bool
+    ensures { IsTrue result ↔ (lower octets.now ≡ octets.now) }
 {
-    for octet in label {
+    for octet in octets {
         if octet.to_ascii_lowercase() != *octet {
             return false;
         }
