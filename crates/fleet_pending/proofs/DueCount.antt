@@ -7,7 +7,7 @@ use Rattle.std.proofs.lemmas.Option.{slice_get_within, get_or_from_slice_get}
 use Rattle.fleet_pending.specs.Asking.{Settles, Advances, moved_on}
 use Rattle.fleet_pending.specs.Due.{IsFirstDue, NoneDue, due_at}
 use Rattle.fleet_pending.specs.DueCount.{CountsDue}
-use Rattle.fleet_pending.specs.Outstanding.{Open, Outstanding, IsOutstanding}
+use Rattle.fleet_pending.specs.Outstanding.{Open, Outstanding, IsOutstanding, UsesId}
 use Rattle.fleet_pending.specs.Places.{At}
 use Rattle.fleet_pending.proofs.Placed.{same_at}
 
@@ -65,22 +65,26 @@ taken_out moment es i e t d =
     let o : counts moment (get_or es i e) ≡ 1 = ap (counts moment) g ∙ counts_due moment e d in
     omega (arith, s, o)
 
-advanced : (o n : Outstanding) (moment : ℕ) (e : Open) → IsOutstanding o → IsFirstDue o.entries moment e → Advances o e.id moment true n → due_at n moment + 1 ≡ due_at o moment
-advanced o n moment e h d a =
-    let x = a.1.0 in
-    let z : a.0 ≡ d.place = h.ids a.0 d.place x e a.1.1 d.there a.1.2 in
-    let y : x ≡ e = same_at o.entries d.place x e (subst (λ k. At o.entries k x) z a.1.1) d.there in
-    let due : x.deadline ≤ moment = subst (λ v. v.deadline ≤ moment) (sym y) d.due in
-    let w = written moment o.entries a.0 x (moved_on x moment) a.1.1 due (omega arith) in
-    let q : due_at n moment ≡ due_in moment (slice_set o.entries a.0 (moved_on x moment)) = ap (λ v. due_at v moment) a.1.4 in
+-- the entry with the id of the first due one is that one
+the_first : (o : Outstanding) (moment id i : ℕ) (e x : Open) → IsOutstanding o → IsFirstDue o.entries moment e → UsesId id e → At o.entries i x → UsesId id x → x ≡ e
+the_first o moment id i e x h d u t v =
+    let z : i ≡ d.place = h.ids i d.place x e t d.there (v ∙ sym u) in
+    same_at o.entries d.place x e (subst (λ k. At o.entries k x) z t) d.there
+
+the_first_due : (o : Outstanding) (moment id i : ℕ) (e x : Open) → IsOutstanding o → IsFirstDue o.entries moment e → UsesId id e → At o.entries i x → UsesId id x → x.deadline ≤ moment
+the_first_due o moment id i e x h d u t v = subst (λ y. y.deadline ≤ moment) (sym (the_first o moment id i e x h d u t v)) d.due
+
+advanced : (o n : Outstanding) (moment id : ℕ) (e : Open) → IsOutstanding o → IsFirstDue o.entries moment e → UsesId id e → Advances o id moment true n → due_at n moment + 1 ≡ due_at o moment
+advanced o n moment id e h d u a =
+    let due = the_first_due o moment id a.0 e a.1.0 h d u a.1.1 a.1.2 in
+    let w = written moment o.entries a.0 a.1.0 (moved_on a.1.0 moment) a.1.1 due (omega arith) in
+    let q : due_at n moment ≡ due_in moment (slice_set o.entries a.0 (moved_on a.1.0 moment)) = ap (λ v. due_at v moment) a.1.4 in
     omega (arith, w, q)
 
-settled : (o n : Outstanding) (moment : ℕ) (e : Open) (r : Option Open) → IsOutstanding o → IsFirstDue o.entries moment e → Settles o e.id r n → due_at n moment + 1 ≡ due_at o moment
-settled o n moment e None h d s = absurd (s.0 d.place e d.there refl)
-settled o n moment e (Some x) h d s =
-    let z : s.0 ≡ d.place = h.ids s.0 d.place x e s.1 d.there s.2 in
-    let y : x ≡ e = same_at o.entries d.place x e (subst (λ k. At o.entries k x) z s.1) d.there in
-    let due : x.deadline ≤ moment = subst (λ v. v.deadline ≤ moment) (sym y) d.due in
+settled : (o n : Outstanding) (moment id : ℕ) (e : Open) (r : Option Open) → IsOutstanding o → IsFirstDue o.entries moment e → UsesId id e → Settles o id r n → due_at n moment + 1 ≡ due_at o moment
+settled o n moment id e None h d u s = absurd (s.0 d.place e d.there u)
+settled o n moment id e (Some x) h d u s =
+    let due = the_first_due o moment id s.0 e x h d u s.1 s.2 in
     let w = taken_out moment o.entries s.0 x s.1 due in
     let q : due_at n moment ≡ due_in moment (remove o.entries s.0) = ap (λ v. due_at v moment) s.3 in
     omega (arith, w, q)

@@ -1,11 +1,11 @@
 -- The entry that is to be served first, of the first so many.
-use Rattle.std.proofs.Common.{◌≡◌, ℕ, ◌+◌, ◌<◌, ◌≤◌, ◌⊎◌, inl, inr, List, Option, Some, None, length, sym, ◌∙◌, subst, ap, arith, ◌≢◌, MatchOption, Bor, map}
+use Rattle.std.proofs.Common.{◌≡◌, ℕ, ◌+◌, ◌<◌, ◌≤◌, ◌⊎◌, inl, inr, List, Option, Some, None, length, refl, sym, ◌∙◌, subst, ap, arith, ◌≢◌, MatchOption, Bor, map}
 use Rattle.std.proofs.lemmas.Option.{slice_get_within}
 use Rattle.std.proofs.lemmas.Bool.{cases_eq}
 use Rattle.fleet_pending.specs.Places.{At}
 use Rattle.fleet_pending.specs.Entry.{opened, table}
 use Rattle.fleet_pending.specs.Due.{NotAfter, NoneDue, IsFirstDue}
-use Rattle.fleet_pending.specs.Outstanding.{Open, Outstanding}
+use Rattle.fleet_pending.specs.Outstanding.{Open, Outstanding, IsOutstanding, IsOpen}
 use Rattle.fleet_pending.specs.declared.entry.Entry.{Entry}
 use Rattle.fleet_pending.proofs.Placed.{NoneBefore, same_at}
 
@@ -68,3 +68,9 @@ due_none o u t moment es rs v q p d =
     let a : NoneDue (map opened es) t = subst (λ xs. NoneDue (map opened xs) t) q d in
     let b : NoneDue (map opened es) moment = subst (λ k. NoneDue (map opened es) k) p a in
     subst (λ x. NoneDue x.entries moment) v b
+
+pub first_open : {A : Type 0} (u t : ℕ) (es rs : List (Entry A)) (e : Open) → IsOutstanding (table u es) → rs ≡ es → IsFirstDue (map opened rs) t e → IsOpen e
+first_open u t es rs e h q d = let f = due_first (table u es) u t t es rs e refl q refl d in h.open_ones f.place e f.there
+
+pub first_asks : {A : Type 0} (u t : ℕ) (es rs : List (Entry A)) (e : Open) → IsOutstanding (table u es) → rs ≡ es → IsFirstDue (map opened rs) t e → e.upstream < u
+first_asks u t es rs e h q d = let f = due_first (table u es) u t t es rs e refl q refl d in h.asking f.place e f.there

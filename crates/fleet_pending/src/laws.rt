@@ -14,8 +14,8 @@ pub fn refusals_are_exact()
     ensures { RefusesExactly }
 {}
 
-/// Over any list of calls each waiter that was accepted is given back by `settle` or still waits,
-/// as often as it was accepted.
+/// Over any list of calls each waiter that was accepted is given back by `settle`, went with a
+/// `clear` or still waits, as often as it was accepted.
 pub fn waiters_kept()
     ensures { EachAsOften }
 {}
@@ -25,7 +25,7 @@ pub fn settling_undoes_asking()
     ensures { IsUndone }
 {}
 
-/// Where an entry has an id, settling under it gives back that entry.
+/// Where an entry has an id, settling under it gives back that entry and takes out no other.
 pub fn settling_gives_its_entry()
     ensures { SettlesItsEntry }
 {}
