@@ -1,5 +1,5 @@
 -- How many are due, as they are served.
-use Rattle.std.proofs.Common.{◌≡◌, ℕ, suc, ◌+◌, ◌<◌, ◌≤◌, ◌↔◌, cond, leb, true, List, [], ◌∷◌, Option, Some, None, length, slice_set, get_or, refl, sym, ◌∙◌, subst, ap, arith, count_by, ◌⊎◌, inl, inr}
+use Rattle.std.proofs.Common.{◌≡◌, ℕ, suc, ◌+◌, ◌<◌, ◌≤◌, ◌↔◌, Bool, true, false, cond, leb, List, [], ◌∷◌, Option, Some, None, length, slice_set, get_or, refl, sym, ◌∙◌, subst, ap, arith, count_by, ◌⊎◌, inl, inr}
 use Rattle.std.specs.List.{remove}
 use Rattle.std.proofs.lemmas.Bool.{cases_lt, le-leb, lt-leb}
 use Rattle.std.proofs.lemmas.List.Sums.{sum_by-set, sum_by-remove, get_or-le-sum_by, sum_by-cons, count_by-le-length}
@@ -74,12 +74,13 @@ the_first o moment id i e x h d u t v =
 the_first_due : (o : Outstanding) (moment id i : ℕ) (e x : Open) → IsOutstanding o → IsFirstDue o.entries moment e → UsesId id e → At o.entries i x → UsesId id x → x.deadline ≤ moment
 the_first_due o moment id i e x h d u t v = subst (λ y. y.deadline ≤ moment) (sym (the_first o moment id i e x h d u t v)) d.due
 
-advanced : (o n : Outstanding) (moment id : ℕ) (e : Open) → IsOutstanding o → IsFirstDue o.entries moment e → UsesId id e → Advances o id moment true n → due_at n moment + 1 ≡ due_at o moment
-advanced o n moment id e h d u a =
+advanced : (o n : Outstanding) (moment id : ℕ) (e : Open) (moves : Bool) → IsOutstanding o → IsFirstDue o.entries moment e → UsesId id e → e.upstream + 1 < o.upstreams → Advances o id moment moves n → (moves ≡ true) × (due_at n moment + 1 ≡ due_at o moment)
+advanced o n moment id e false h d u l a = absurd (a.0 d.place e d.there (u, l))
+advanced o n moment id e true h d u l a =
     let due = the_first_due o moment id a.0 e a.1.0 h d u a.1.1 a.1.2 in
     let w = written moment o.entries a.0 a.1.0 (moved_on a.1.0 moment) a.1.1 due (omega arith) in
     let q : due_at n moment ≡ due_in moment (slice_set o.entries a.0 (moved_on a.1.0 moment)) = ap (λ v. due_at v moment) a.1.4 in
-    omega (arith, w, q)
+    (refl, omega (arith, w, q))
 
 settled : (o n : Outstanding) (moment id : ℕ) (e : Open) (r : Option Open) → IsOutstanding o → IsFirstDue o.entries moment e → UsesId id e → Settles o id r n → due_at n moment + 1 ≡ due_at o moment
 settled o n moment id e None h d u s = absurd (s.0 d.place e d.there u)
