@@ -80,7 +80,7 @@ fn are_plain<A: Allocator>(rtype: u16, rdatas: &[Octets<A>]) -> bool
 }
 
 // Whether their body has at most 8192 octets.
-fn are_short<A: Allocator>(rdatas: &[Octets<A>]) -> bool
+pub(crate) fn are_short<A: Allocator>(rdatas: &[Octets<A>]) -> bool
     ensures { IsTrue result ↔ (length (positive_body rdatas.now) ≤ 8192) }
 {
     let mut room = LONGEST_BODY - 2;

@@ -1,14 +1,16 @@
 //! The observations of a digest.
 
-ghost use Rattle.std.specs.Prelude.{◌≡◌, ℕ, ◌++◌, List, IfOk, OnOk, Option, Some};
+ghost use Rattle.std.specs.Prelude.{◌≡◌, ◌≢◌, ◌↔◌, ℕ, ◌≤◌, ◌++◌, List, [], length, IfOk, IfErr, OnOk, IsTrue, Option, Some};
 ghost use Rattle.fleet_name.specs.Name.{labels_of};
 ghost use Rattle.fleet_observe.specs.Members.{Has};
+ghost use Rattle.fleet_observe.specs.Body.{positive_body};
 ghost use Rattle.fleet_observe.specs.Fact.{IsRank, IsNegativeRank, AreFacts};
 ghost use Rattle.fleet_observe.specs.Checks.{IsDeniedType, denied_kind, denied_type};
 ghost use Rattle.fleet_observe.specs.RrSet.{Set, set_of, sets_of, SpellsName};
 ghost use Rattle.fleet_observe.specs.Digest.{soa_in, soa_of, ending_of, denied_by, first_or, IsLawfulSet, IsLawfulLink, IsLawfulSoa, IsLawful};
 ghost use Rattle.fleet_observe.specs.Observed.{positive_facts, negative_facts, answer_rank, negative_rank, link_facts, end_facts, ns_facts, observed_facts};
 
+use crate::checks::are_short;
 use crate::moment::Moment;
 use crate::names::name_of;
 use crate::observation::Observation;
@@ -33,6 +35,16 @@ fn copies<A: Allocator + Copy>(
     Ok(all)
 }
 
+// Whether an RRset is observed: its TTL is not zero and its body not too long.
+fn is_observed<A: Allocator>(set: &RrSet<A>) -> bool
+    ensures { IsTrue result ↔ ((1 ≤ set.now.ttl) × (length (positive_body set.now.rdatas) ≤ 8192)) }
+{
+    if set.ttl == 0 {
+        return false;
+    }
+    are_short(set.rdatas.as_slice())
+}
+
 // Adds the observation of an RRset, unless its TTL is zero or its body too long.
 fn put_set<A: Allocator + Copy>(
     alloc: A,
@@ -43,17 +55,20 @@ fn put_set<A: Allocator + Copy>(
 ) -> Result<(), AllocError>
     requires lawful { IsLawfulSet (set_of set.now) }
     requires ranked { IsRank rank }
-    ensures { OnOk result (out.new.items ≡ out.old.items ++ positive_facts (set_of set.now) rank stamp) }
+    ensures added { OnOk result (out.new.items ≡ out.old.items ++ positive_facts (set_of set.now) rank stamp) }
+    ensures memory { IfErr result (λ _. positive_facts (set_of set.now) rank stamp ≢ []) }
 {
+    if !is_observed(set) {
+        return Ok(());
+    }
     let rdatas = copies(alloc, set.rdatas.as_slice())?;
     let name = set.name.try_clone()?;
-    match Observation::positive(name, set.rtype, rank, stamp, set.ttl, rdatas) {
-        Ok(observation) => {
-            out.push(observation)?;
-            Ok(())
-        }
-        Err(_) => Ok(()),
-    }
+    let made = Observation::positive(name, set.rtype, rank, stamp, set.ttl, rdatas);
+    let Ok(observation) = made else {
+        unreachable!()
+    };
+    out.push(observation)?;
+    Ok(())
 }
 
 // Adds the observation of a denial, unless the SOA's TTL is zero.
@@ -70,21 +85,24 @@ fn put_denial<A: Allocator + Copy>(
     requires typed { IsDeniedType rtype }
     requires ranked { IsNegativeRank rank }
     requires lawful { IsLawfulSoa (labels_of denied.now) (soa_of soa.now) }
-    ensures { OnOk result (out.new.items ≡ out.old.items ++ negative_facts (denied_kind rtype) (labels_of denied.now) (denied_type rtype) rank stamp (Some (soa_of soa.now))) }
+    ensures added { OnOk result (out.new.items ≡ out.old.items ++ negative_facts (denied_kind rtype) (labels_of denied.now) (denied_type rtype) rank stamp (Some (soa_of soa.now))) }
+    ensures memory { IfErr result (λ _. negative_facts (denied_kind rtype) (labels_of denied.now) (denied_type rtype) rank stamp (Some (soa_of soa.now)) ≢ []) }
 {
+    if soa.ttl == 0 {
+        return Ok(());
+    }
     let name = name_of(alloc, denied)?;
     let copy = Soa {
         owner: soa.owner.try_clone()?,
         ttl: soa.ttl,
         rdata: soa.rdata.try_clone()?,
     };
-    match Observation::negative(name, rtype, rank, stamp, soa.ttl, copy) {
-        Ok(observation) => {
-            out.push(observation)?;
-            Ok(())
-        }
-        Err(_) => Ok(()),
-    }
+    let made = Observation::negative(name, rtype, rank, stamp, soa.ttl, copy);
+    let Ok(observation) = made else {
+        unreachable!()
+    };
+    out.push(observation)?;
+    Ok(())
 }
 
 // The rank of an answer RRset.
@@ -140,7 +158,8 @@ fn put_links<A: Allocator + Copy>(
     stamp: Moment,
     out: &mut Vec<Observation<A>, A>,
 ) -> Result<(), AllocError>
-    ensures { OnOk result (out.new.items ≡ out.old.items ++ link_facts digest.now.aa digest.now.name stamp digest.now.chain) }
+    ensures added { OnOk result (out.new.items ≡ out.old.items ++ link_facts digest.now.aa digest.now.name stamp digest.now.chain) }
+    ensures memory { IfErr result (λ _. link_facts digest.now.aa digest.now.name stamp digest.now.chain ≢ []) }
 {
     let name = digest.name();
     let aa = digest.aa();
@@ -158,7 +177,8 @@ fn put_end<A: Allocator + Copy>(
     stamp: Moment,
     out: &mut Vec<Observation<A>, A>,
 ) -> Result<(), AllocError>
-    ensures { OnOk result (out.new.items ≡ out.old.items ++ end_facts digest.now stamp digest.now.end) }
+    ensures added { OnOk result (out.new.items ≡ out.old.items ++ end_facts digest.now stamp digest.now.end) }
+    ensures memory { IfErr result (λ _. end_facts digest.now stamp digest.now.end ≢ []) }
 {
     let name = digest.name();
     let aa = digest.aa();
@@ -184,6 +204,7 @@ fn put_ns<A: Allocator + Copy>(
     out: &mut Vec<Observation<A>, A>,
 ) -> Result<(), AllocError>
     ensures added { OnOk result (out.new.items ≡ out.old.items ++ ns_facts stamp digest.now.ns) }
+    ensures memory { IfErr result (λ _. ns_facts stamp digest.now.ns ≢ []) }
     ensures lawful { IsLawful digest.now }
 {
     for set in digest.ns() {
@@ -194,12 +215,14 @@ fn put_ns<A: Allocator + Copy>(
 
 /// The observations of a reply at a moment, in this order: the links, the records or the denial with its SOA, the NS
 /// RRsets. Left out are those of a TTL of zero, RRsets whose body has more than 8192 octets, and a denial without SOA.
+/// Only where there are any is memory wanted.
 pub fn observations<A: Allocator + Copy>(
     alloc: A,
     digest: &Digest<A>,
     stamp: Moment,
 ) -> Result<Vec<Observation<A>, A>, AllocError>
     ensures observed { IfOk result (λ os. os.items ≡ observed_facts digest.now stamp) }
+    ensures memory { IfErr result (λ _. observed_facts digest.now stamp ≢ []) }
     ensures lawful { IfOk result (λ os. AreFacts os.items) }
 {
     let mut out = Vec::new(alloc);
