@@ -2,14 +2,12 @@
 use Rattle.std.specs.Prelude.{◌≡◌, ℕ, suc, zero, ◌+◌, ◌%◌, ◌≤◌, Bool, true, false, ltb, leb, ◌&&◌, List, [], ◌∷◌, ◌++◌, Option, Some, None, Result, Ok, Err, length}
 use Rattle.std.specs.Option.{unwrap_or}
 use Rattle.rand_core.specs.Stream.{Stream, next_u32}
-use Rattle.fleet_observe.specs.Fact.{Fact}
-use Rattle.fleet_cache.specs.Cached.{IsCached}
-use Rattle.fleet_gossip.specs.Packed.{IsPacked}
 use Rattle.fleet_pending.specs.declared.waiter.Addr.{Addr}
 use Rattle.fleet_site.specs.Effect.{Effect, nothing}
 use Rattle.fleet_site.specs.SiteModel.{SiteModel}
 use Rattle.fleet_site.specs.State.{State}
 use Rattle.fleet_site.specs.StandsFor.{StandsFor}
+use Rattle.fleet_site.specs.Sweep.{IsSweep}
 use Rattle.fleet_site.specs.Step.{Call, datagram, tick, Says}
 use Rattle.fleet_site.specs.PortRecord.{PortCall, Received, NoDatagram, Fault, PacketSent, PacketLost, PortState, Made, one_more}
 use Rattle.fleet_site.specs.Sending.{AreSent, outgoing, counting, counting_all, counting_step, goes_on}
@@ -25,7 +23,7 @@ pub data Deal : Type 0 where
 -- a sweep gives the frames of all that is held, and changes nothing
 abbrev pub SweepSays : SiteModel → Result Effect SiteFault → SiteModel → Type 0
 SweepSays m (Ok e) n =
-    (items : List Fact) × (frames : List (List ℕ)) × IsCached m.taken m.floor items × IsPacked items frames × (e ≡ record nothing { frames = frames }) × (n ≡ m)
+    (frames : List (List ℕ)) × IsSweep m frames × (e ≡ record nothing { frames = frames }) × (n ≡ m)
 SweepSays m (Err (OutOfMemory taken)) n = (taken ≡ 0) × (n ≡ m)
 
 -- from m the step says this and leads to n

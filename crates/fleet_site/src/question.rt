@@ -1,7 +1,6 @@
 //! What a miss makes of the table of open questions.
 
-ghost use Rattle.std.specs.Prelude.{◌≡◌, ◌<◌, ◌≤◌, ℕ, List, length, IfOk};
-ghost use Rattle.fleet_wire.specs.Query.{query_octets};
+ghost use Rattle.std.specs.Prelude.{◌≡◌, ◌<◌, ◌≤◌, ℕ, ⊤, List, IfOk};
 ghost use Rattle.fleet_wire.specs.Question.{asked};
 ghost use Rattle.fleet_observe.specs.Fact.{Fact};
 ghost use Rattle.fleet_cache.specs.Cached.{IsCached};
@@ -9,21 +8,33 @@ ghost use Rattle.fleet_pending.specs.Asking.{asked_or_fault};
 ghost use Rattle.fleet_pending.specs.Outstanding.{Open, IsOpen, UsesId};
 ghost use Rattle.fleet_pending.specs.Places.{At};
 ghost use Rattle.fleet_pending.specs.declared.answer.PendingFault.TheVariants.{OutOfMemory as NoRoom};
-ghost use Rattle.fleet_site.specs.Carried.{Keeps, IsAskable, TurnsAway, IsQueryOf};
+ghost use Rattle.fleet_site.specs.Carried.{Keeps, IsAskable, IsAnswered, TurnsAway, IsQueryOf};
 ghost use Rattle.fleet_site.specs.Effect.{effect, sending};
 ghost use Rattle.fleet_site.specs.Question.{Reacts, Forwards, Questioned, turned_away};
-ghost use Rattle.fleet_site.specs.Verdict.{verdict};
+ghost use Rattle.fleet_site.specs.Table.{IsTableOf, AskClassOne};
+ghost use Rattle.fleet_site.specs.Verdict.{IsAsking, verdict};
 
 use crate::config::addr_of;
 use crate::outcome::{Outcome, Refusal, SiteFault};
+use crate::query::entry_query;
 use crate::verdict::{Decision, decide};
 use crate::writing::reply_without;
 use fleet_cache::Cache;
-use fleet_name::Octets;
 use fleet_observe::Moment;
-use fleet_pending::{Addr, Asked, Pending, PendingFault, Unasked, Waiter, settling_undoes_asking};
-use fleet_wire::{Header, Question, write_query};
+use fleet_pending::{
+    Addr, Asked, Pending, PendingFault, Unasked, Waiter, new_entry_is_last, settling_undoes_asking,
+    waiters_stay,
+};
+use fleet_wire::{Header, Question};
 use std::alloc::{AllocError, Allocator};
+
+/// When a question came, from whom, and where the search for the id of its query begins.
+#[derive(Clone, Copy)]
+pub(crate) struct Arrival {
+    pub clock: Moment,
+    pub from: Addr,
+    pub word: u16,
+}
 
 /// Octets from an address that is no upstream's and no peer's.
 pub(crate) fn take_question<A: Allocator + Copy>(
@@ -31,18 +42,16 @@ pub(crate) fn take_question<A: Allocator + Copy>(
     cache: &Cache<A>,
     pending: &mut Pending<A>,
     upstreams: &[Addr],
-    clock: Moment,
-    from: Addr,
-    word: u16,
+    arrival: Arrival,
     octets: &[u8],
 ) -> Result<Outcome<A>, SiteFault>
-    requires reached { cache.now.floor ≤ clock }
-    requires some { 0 < length upstreams.now }
-    ensures questioned { (s : List Fact) → IsCached s cache.now.floor cache.now.items → Keeps (Questioned s upstreams.now pending.old clock from word octets.now) pending.old result pending.new }
-    ensures upstreams { pending.new.upstreams ≡ pending.old.upstreams }
+    requires reached { cache.now.floor ≤ arrival.clock }
+    requires table { IsTableOf upstreams.now pending.old }
+    ensures questioned { (s : List Fact) → IsCached s cache.now.floor cache.now.items → Keeps (Questioned s upstreams.now pending.old arrival.clock arrival.from arrival.word octets.now) (IsAsking octets.now) pending.old result pending.new }
+    ensures table { IsTableOf upstreams.now pending.new }
 {
-    match decide(alloc, cache, clock, octets) {
-        Ok(decision) => react(alloc, pending, upstreams, clock, from, word, decision),
+    match decide(alloc, cache, arrival.clock, octets) {
+        Ok(decision) => react(alloc, pending, upstreams, arrival, decision),
         Err(_) => Err(SiteFault::OutOfMemory { taken: 0 }),
     }
 }
@@ -52,30 +61,27 @@ fn react<A: Allocator + Copy>(
     alloc: A,
     pending: &mut Pending<A>,
     upstreams: &[Addr],
-    clock: Moment,
-    from: Addr,
-    word: u16,
+    arrival: Arrival,
     decision: Decision<A>,
 ) -> Result<Outcome<A>, SiteFault>
     requires askable { IsAskable decision }
-    requires some { 0 < length upstreams.now }
-    ensures reacts { Keeps (Reacts upstreams.now pending.old clock from word (verdict decision)) pending.old result pending.new }
-    ensures upstreams { pending.new.upstreams ≡ pending.old.upstreams }
+    requires table { IsTableOf upstreams.now pending.old }
+    ensures reacts { Keeps (Reacts upstreams.now pending.old arrival.clock arrival.from arrival.word (verdict decision)) (IsAnswered decision) pending.old result pending.new }
+    ensures table { IsTableOf upstreams.now pending.new }
 {
     match decision {
         Decision::Dropped => Ok(Outcome::silent(alloc, 0, Some(Refusal::Dropped))),
-        Decision::Reply(octets) => Ok(Outcome::sending(alloc, from, octets, None)?),
+        Decision::Reply(octets) => Ok(Outcome::sending(alloc, arrival.from, octets, None)?),
         Decision::Unread(octets, fault) => {
-            Ok(Outcome::sending(alloc, from, octets, Some(Refusal::Read(fault)))?)
+            let refusal = Refusal::Read(fault);
+            Ok(Outcome::sending(alloc, arrival.from, octets, Some(refusal))?)
         }
         Decision::Miss(header, question) => {
             if header.rd {
-                forward(
-                    alloc, pending, upstreams, clock, from, word, header, question,
-                )
+                forward(alloc, pending, upstreams, arrival, header, question)
             } else {
                 let octets = reply_without(alloc, header, 5, &question)?;
-                Ok(Outcome::sending(alloc, from, octets, None)?)
+                Ok(Outcome::sending(alloc, arrival.from, octets, None)?)
             }
         }
     }
@@ -86,24 +92,27 @@ fn forward<A: Allocator + Copy>(
     alloc: A,
     pending: &mut Pending<A>,
     upstreams: &[Addr],
-    clock: Moment,
-    from: Addr,
-    word: u16,
+    arrival: Arrival,
     header: Header,
     question: Question<A>,
 ) -> Result<Outcome<A>, SiteFault>
     requires opcode { header.opcode < 16 }
     requires class { question.class ≡ 1 }
-    requires some { 0 < length upstreams.now }
-    ensures forwards { Keeps (Forwards upstreams.now pending.old clock from word header (asked question)) pending.old result pending.new }
-    ensures upstreams { pending.new.upstreams ≡ pending.old.upstreams }
+    requires table { IsTableOf upstreams.now pending.old }
+    ensures forwards { Keeps (Forwards upstreams.now pending.old arrival.clock arrival.from arrival.word header (asked question)) ⊤ pending.old result pending.new }
+    ensures table { IsTableOf upstreams.now pending.new }
 {
-    let id = header.id;
-    let waiter = Waiter { from, id, question };
-    let asked = match pending.ask(waiter, clock, word) {
-        Ok(asked) => asked,
-        Err(unasked) => return turn_away(alloc, from, header, unasked),
+    let waiter = Waiter {
+        from: arrival.from,
+        id: header.id,
+        question,
     };
+    waiters_stay();
+    let asked = match pending.ask(waiter, arrival.clock, arrival.word) {
+        Ok(asked) => asked,
+        Err(unasked) => return turn_away(alloc, arrival.from, header, unasked),
+    };
+    new_entry_is_last();
     match asked {
         Asked::Again => Ok(Outcome::silent(alloc, 0, None)),
         Asked::Joined => Ok(Outcome::silent(alloc, 0, None)),
@@ -128,13 +137,14 @@ fn query_for<A: Allocator + Copy>(
     to: Addr,
     id: u16,
 ) -> Result<Outcome<A>, AllocError>
-    requires { (i : ℕ) × ((e : Open) × At pending.now.entries i e × UsesId id e) }
+    requires there { (i : ℕ) × ((e : Open) × At pending.now.entries i e × UsesId id e) }
+    requires class { AskClassOne pending.now }
     ensures { IfOk result (λ o. IsQueryOf pending.now to id (effect o)) }
 {
     match pending.entry(id) {
         Some(entry) => {
-            let octets = write_query(alloc, id, &entry.waiters.as_slice()[0].question)?;
-            Outcome::sending(alloc, to, Octets::new(octets), None)
+            let octets = entry_query(alloc, id, entry)?;
+            Outcome::sending(alloc, to, octets, None)
         }
         None => unreachable!(),
     }

@@ -12,10 +12,12 @@ ghost use Rattle.fleet_cache.specs.Cached.{IsCached};
 ghost use Rattle.fleet_pending.specs.Outstanding.{Outstanding};
 ghost use Rattle.fleet_pending.specs.Waiter.{asker};
 ghost use Rattle.fleet_site.specs.Carried.{Carries};
+ghost use Rattle.fleet_site.specs.Digested.{HasReply};
 ghost use Rattle.fleet_site.specs.Learn.{Learnt};
-ghost use Rattle.fleet_site.specs.Relayed.{Hears, IsAnswering, IsMade, IsRelayFor, SaysRefusal, Unlearns};
-ghost use Rattle.fleet_site.specs.Reply.{Replied, relay_to};
+ghost use Rattle.fleet_site.specs.Relayed.{Hears, IsMade, IsRelayFor, SaysRefusal, Unlearns};
+ghost use Rattle.fleet_site.specs.Reply.{IsAnswering, IsReplying, Replied, relay_to};
 ghost use Rattle.fleet_site.specs.SiteModel.{takes};
+ghost use Rattle.fleet_site.specs.Table.{KeepsTable};
 
 use crate::digested::{Unheard, digest_of, message_in};
 use crate::frame::take_all;
@@ -24,7 +26,7 @@ use fleet_cache::Cache;
 use fleet_gossip::pack;
 use fleet_name::Octets;
 use fleet_observe::{Digest, Moment, Observation, observations, relay};
-use fleet_pending::{Entry, Pending, Waiter};
+use fleet_pending::{Entry, Pending, Waiter, settling_gives_its_entry, waiters_stay};
 use fleet_wire::{Message, read_header};
 use std::alloc::{AllocError, Allocator};
 
@@ -97,7 +99,7 @@ fn hear<A: Allocator + Copy>(
     octets: &[u8],
 ) -> Result<Relay<A>, Unheard>
     ensures relayed { IfOk result (λ r. Hears pending.now clock upstream octets.now r) }
-    ensures refused { IfErr result (λ e. Unlearns (Replied pending.now clock upstream octets.now) pending.now e) }
+    ensures refused { IfErr result (λ e. Unlearns (Replied pending.now clock upstream octets.now) (IsReplying octets.now) pending.now e) }
 {
     let header = match read_header(octets) {
         Some(header) => header,
@@ -120,7 +122,7 @@ fn hear_reply<A: Allocator + Copy>(
 ) -> Result<Relay<A>, Unheard>
     requires { IsAnswering octets.now }
     ensures relayed { IfOk result (λ r. Hears pending.now clock upstream octets.now r) }
-    ensures refused { IfErr result (λ e. Unlearns (Replied pending.now clock upstream octets.now) pending.now e) }
+    ensures refused { IfErr result (λ e. Unlearns (Replied pending.now clock upstream octets.now) (IsReplying octets.now) pending.now e) }
 {
     let message = match message_in(alloc, octets) {
         Ok(message) => message,
@@ -134,6 +136,7 @@ fn hear_reply<A: Allocator + Copy>(
         Ok(digest) => digest,
         Err(undigested) => return Err(undigested),
     };
+    settling_gives_its_entry();
     match make_relay(alloc, &digest, clock, entry) {
         Ok(relay) => Ok(relay),
         Err(_) => Err(Unheard::NoMemory),
@@ -150,9 +153,9 @@ pub(crate) fn take_reply<A: Allocator + Copy>(
     clock: Moment,
     octets: &[u8],
 ) -> Result<Outcome<A>, SiteFault>
-    ensures replied { (s : List Fact) → IsCached s cache.old.floor cache.old.items → Carries (Replied pending.old clock upstream octets.now) s pending.old result cache.new pending.new }
+    ensures replied { (s : List Fact) → IsCached s cache.old.floor cache.old.items → Carries (Replied pending.old clock upstream octets.now) (IsReplying octets.now) s pending.old result cache.new pending.new }
     ensures floor { cache.new.floor ≡ cache.old.floor }
-    ensures upstreams { pending.new.upstreams ≡ pending.old.upstreams }
+    ensures table { KeepsTable pending.old pending.new }
 {
     match hear(alloc, pending, upstream, clock, octets) {
         Ok(relay) => carry_out(cache, pending, relay),
@@ -168,7 +171,7 @@ fn carry_out<A: Allocator + Copy>(
 ) -> Result<Outcome<A>, SiteFault>
     ensures taken { (s : List Fact) → IsCached s cache.old.floor cache.old.items → IsRelayFor relay s pending.old result cache.new pending.new }
     ensures floor { cache.new.floor ≡ cache.old.floor }
-    ensures upstreams { pending.new.upstreams ≡ pending.old.upstreams }
+    ensures table { KeepsTable pending.old pending.new }
 {
     let Relay {
         id,
@@ -180,6 +183,7 @@ fn carry_out<A: Allocator + Copy>(
     match cache.take_list(observed) {
         Ok(()) => {
             let _ = pending.settle(id);
+            waiters_stay();
             Ok(Outcome {
                 packets,
                 frames,
@@ -201,7 +205,7 @@ fn observed_in<A: Allocator + Copy>(
     octets: &[u8],
 ) -> Result<Vec<Observation<A>, A>, Unheard>
     ensures learnt { IfOk result (λ v. (o : Outstanding) → Learnt o clock octets.now (takes v.items o)) }
-    ensures refused { IfErr result (λ e. (o : Outstanding) → Unlearns (Learnt o clock octets.now) o e) }
+    ensures refused { IfErr result (λ e. (o : Outstanding) → Unlearns (Learnt o clock octets.now) (HasReply octets.now) o e) }
 {
     let message = match message_in(alloc, octets) {
         Ok(message) => message,
@@ -235,7 +239,7 @@ pub(crate) fn learn_reply<A: Allocator + Copy>(
     clock: Moment,
     octets: &[u8],
 ) -> Result<Outcome<A>, SiteFault>
-    ensures learnt { (o : Outstanding) (s : List Fact) → IsCached s cache.old.floor cache.old.items → Carries (Learnt o clock octets.now) s o result cache.new o }
+    ensures learnt { (o : Outstanding) (s : List Fact) → IsCached s cache.old.floor cache.old.items → Carries (Learnt o clock octets.now) (HasReply octets.now) s o result cache.new o }
     ensures floor { cache.new.floor ≡ cache.old.floor }
 {
     match observed_in(alloc, clock, octets) {

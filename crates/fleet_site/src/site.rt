@@ -1,23 +1,25 @@
 //! A site.
 
-ghost use Rattle.std.specs.Prelude.{◌≡◌, ℕ, ◌≤◌, max, List, IfOk, IfErr, [], length};
+ghost use Rattle.std.specs.Prelude.{◌≡◌, ℕ, ◌≤◌, max, List, IsTrue, IfOk, IfErr, [], length};
 ghost use Rattle.fleet_observe.specs.Fact.{Fact};
 ghost use Rattle.fleet_cache.specs.Cached.{IsCached};
 ghost use Rattle.fleet_gossip.specs.Packed.{IsPacked};
 ghost use Rattle.fleet_site.specs.Looking.{Looks};
 ghost use Rattle.fleet_site.specs.SiteModel.{SiteModel};
-ghost use Rattle.fleet_site.specs.StandsFor.{StandsFor, Follows, Answers, Gathers, IsSweep, opening};
+ghost use Rattle.fleet_site.specs.StandsFor.{StandsFor, Follows, Answers, Gathers, opening};
 ghost use Rattle.fleet_site.specs.Sender.{IsSender};
 ghost use Rattle.fleet_site.specs.State.{IsState};
 ghost use Rattle.fleet_site.specs.Step.{datagram as a_datagram, tick as a_tick, frame as a_frame, learn as a_reply};
-ghost use Rattle.fleet_site.specs.Verdict.{verdict};
+ghost use Rattle.fleet_site.specs.Sweep.{IsSweep};
+ghost use Rattle.fleet_site.specs.Tick.{LeavesFewer};
+ghost use Rattle.fleet_site.specs.Verdict.{IsAsking, verdict};
 ghost use Rattle.fleet_site.specs.declared.outcome.SiteFault.TheVariants.{OutOfMemory};
 
 use crate::config::{Config, place_of};
 use crate::frame::take_frame;
 use crate::looked::Looked;
 use crate::outcome::{Outcome, SiteFault};
-use crate::question::take_question;
+use crate::question::{Arrival, take_question};
 use crate::relay::{learn_reply, take_reply};
 use crate::tick::serve_due;
 use crate::verdict::{Decision, decide};
@@ -104,8 +106,8 @@ impl<A: Allocator + Copy> Site<A> {
     pub fn restart(&mut self)
         ensures { (m : SiteModel) → StandsFor self.old m → StandsFor self.new (opening m.upstreams m.peers) }
     {
-        self.cache = Cache::new(self.alloc);
-        self.pending = Pending::new(self.alloc, self.config.upstreams().len() as u8);
+        self.cache.clear();
+        self.pending.clear();
         self.clock = self.cache.floor();
     }
 
@@ -157,14 +159,17 @@ impl<A: Allocator + Copy> Site<A> {
             }
             Sender::Peer => take_frame(self.alloc, &mut self.cache, bytes),
             Sender::Other => {
+                let arrival = Arrival {
+                    clock: self.clock,
+                    from,
+                    word,
+                };
                 take_question(
                     self.alloc,
                     &self.cache,
                     &mut self.pending,
                     self.config.upstreams(),
-                    self.clock,
-                    from,
-                    word,
+                    arrival,
                     bytes,
                 )
             }
@@ -174,7 +179,9 @@ impl<A: Allocator + Copy> Site<A> {
     /// Drops what has ended, and serves the first open question whose time is over: its query goes to the next upstream,
     /// or after the last all who wait are told so.
     pub fn tick(&mut self, now: Moment) -> Result<Outcome<A>, SiteFault>
-        ensures { (m : SiteModel) → StandsFor self.old m → Follows m (a_tick now) result self.new }
+        ensures follows { (m : SiteModel) → StandsFor self.old m → Follows m (a_tick now) result self.new }
+        ensures clock { self.new.clock ≡ max self.old.clock now }
+        ensures fewer { IfOk result (λ o. IsTrue o.more → LeavesFewer self.old.outstanding self.new.outstanding self.new.clock) }
     {
         self.clock = later(self.clock, now);
         self.cache.purge(self.clock);
@@ -206,6 +213,7 @@ impl<A: Allocator + Copy> Site<A> {
     pub fn ask(&mut self, now: Moment, bytes: &[u8]) -> Result<Looked<A>, SiteFault>
         ensures answers { (m : SiteModel) → StandsFor self.old m → Answers m now bytes.now result self.new }
         ensures stopped { IfErr result (λ f. f ≡ OutOfMemory 0) }
+        ensures memory { IfErr result (λ _. IsAsking bytes.now) }
     {
         self.clock = later(self.clock, now);
         match decide(self.alloc, &self.cache, self.clock, bytes)? {
@@ -218,16 +226,16 @@ impl<A: Allocator + Copy> Site<A> {
 
     /// The frames of all that it holds.
     pub fn sweep(&self) -> Result<Vec<Octets<A>, A>, AllocError>
-        ensures { (m : SiteModel) → StandsFor self.now m → IfOk result (λ frames. IsSweep m self.now frames.items) }
+        ensures { (m : SiteModel) → StandsFor self.now m → IfOk result (λ frames. IsSweep m frames.items) }
     {
         sweep(self.alloc, &self.cache)
     }
 
     /// Takes in all that another site holds, and purges to its floor; says how many observations that were.
     pub fn merge(&mut self, other: &Site<A>) -> Result<usize, SiteFault>
-        ensures { (m : SiteModel) → StandsFor self.old m → (from : SiteModel) → StandsFor other.now from → Gathers m from other.now.cache.items result self.new }
+        ensures { (m : SiteModel) → StandsFor self.old m → (from : SiteModel) → StandsFor other.now from → Gathers m from result self.new }
     {
-        let count = other.cache.items().count();
+        let count = other.cache.len();
         match self.cache.merge(&other.cache) {
             Ok(()) => {
                 self.clock = later(self.clock, self.cache.floor());

@@ -1,23 +1,24 @@
 //! What a site does as time passes.
 
-ghost use Rattle.std.specs.Prelude.{◌≡◌, ◌<◌, ◌≤◌, ◌+◌, ◌↔◌, ℕ, IsTrue, IfOk, Some, map, length};
-ghost use Rattle.fleet_wire.specs.Query.{query_octets};
-ghost use Rattle.fleet_pending.specs.Due.{NoneDue, Dues};
+ghost use Rattle.std.specs.Prelude.{◌≡◌, ◌<◌, ◌≤◌, ◌+◌, ◌↔◌, ℕ, IsTrue, IfOk, IfErr, Some, map, length};
+ghost use Rattle.fleet_pending.specs.Due.{NoneDue, Dues, opened_due};
 ghost use Rattle.fleet_pending.specs.Entry.{opened};
-ghost use Rattle.fleet_pending.specs.Outstanding.{IsOpen, IsOutstanding};
+ghost use Rattle.fleet_pending.specs.Outstanding.{IsOpen};
 ghost use Rattle.fleet_pending.specs.Waiter.{asker};
 ghost use Rattle.fleet_site.specs.Carried.{Keeps};
 ghost use Rattle.fleet_site.specs.Effect.{effect};
 ghost use Rattle.fleet_site.specs.Packet.{sent};
 ghost use Rattle.fleet_site.specs.Serving.{IsPlan, SaysMore};
-ghost use Rattle.fleet_site.specs.Tick.{Ticked, question_of, failure, failure_to};
+ghost use Rattle.fleet_site.specs.Table.{IsTableOf};
+ghost use Rattle.fleet_site.specs.Tick.{Ticked, LeavesFewer, failure, failure_to};
 
 use crate::config::addr_of;
 use crate::outcome::{Outcome, Packet, Packets, SiteFault};
+use crate::query::entry_query;
 use fleet_name::Octets;
 use fleet_observe::Moment;
-use fleet_pending::{Addr, Due, Entry, Pending, Waiter};
-use fleet_wire::{Outline, write_query, write_reply};
+use fleet_pending::{Addr, Due, Entry, Pending, Waiter, serving_leaves_fewer_due, waiters_stay};
+use fleet_wire::{Outline, write_reply};
 use std::alloc::{AllocError, Allocator};
 
 /// All that the first due entry makes a site write, before its table changes.
@@ -60,19 +61,6 @@ fn failure_packets<A: Allocator + Copy>(
     Ok(Packets::new(packets))
 }
 
-/// The query of an entry.
-fn query_octets_of<A: Allocator + Copy>(
-    alloc: A,
-    id: u16,
-    entry: &Entry<A>,
-) -> Result<Octets<A>, AllocError>
-    requires { IsOpen (opened entry.now) }
-    ensures { IfOk result (λ octets. octets ≡ query_octets id (question_of (opened entry.now))) }
-{
-    let octets = write_query(alloc, id, &entry.waiters.as_slice()[0].question)?;
-    Ok(Octets::new(octets))
-}
-
 /// What is written for the first due entry.
 fn make_plan<A: Allocator + Copy>(
     alloc: A,
@@ -80,8 +68,9 @@ fn make_plan<A: Allocator + Copy>(
     upstreams: &[Addr],
     clock: Moment,
 ) -> Result<Plan<A>, AllocError>
-    requires { pending.now.upstreams ≡ length upstreams.now }
-    ensures { IfOk result (λ p. IsPlan upstreams.now pending.now clock p) }
+    requires { IsTableOf upstreams.now pending.now }
+    ensures plan { IfOk result (λ p. IsPlan upstreams.now pending.now clock p) }
+    ensures memory { IfErr result (λ _. ¬ NoneDue pending.now.entries clock) }
 {
     match pending.due(clock) {
         None => Ok(Plan::Idle(Outcome::silent(alloc, 0, None))),
@@ -97,9 +86,9 @@ fn plan_due<A: Allocator + Copy>(
     clock: Moment,
     due: Due<'_, A>,
 ) -> Result<Plan<A>, AllocError>
-    requires counted { pending.now.upstreams ≡ length upstreams.now }
+    requires table { IsTableOf upstreams.now pending.now }
     requires dues { Dues pending.now clock (Some due) }
-    requires lawful { IsOutstanding pending.now }
+    requires is_open { IsOpen (opened_due due) }
     ensures { IfOk result (λ p. IsPlan upstreams.now pending.now clock p) }
 {
     let _ = pending;
@@ -110,7 +99,7 @@ fn plan_due<A: Allocator + Copy>(
             id,
             entry,
         } => {
-            let octets = query_octets_of(alloc, id, entry)?;
+            let octets = entry_query(alloc, id, entry)?;
             let to = addr_of(upstreams, upstream);
             let outcome = Outcome::sending(alloc, to, octets, None)?;
             Ok(Plan::Retry(id, outcome))
@@ -130,10 +119,13 @@ pub(crate) fn serve_due<A: Allocator + Copy>(
     upstreams: &[Addr],
     clock: Moment,
 ) -> Result<Outcome<A>, SiteFault>
-    requires { pending.old.upstreams ≡ length upstreams.now }
-    ensures ticked { Keeps (Ticked upstreams.now pending.old clock) pending.old result pending.new }
-    ensures upstreams { pending.new.upstreams ≡ pending.old.upstreams }
+    requires { IsTableOf upstreams.now pending.old }
+    ensures ticked { Keeps (Ticked upstreams.now pending.old clock) (¬ NoneDue pending.old.entries clock) pending.old result pending.new }
+    ensures fewer { IfOk result (λ o. IsTrue o.more → LeavesFewer pending.old pending.new clock) }
+    ensures table { IsTableOf upstreams.now pending.new }
 {
+    waiters_stay();
+    serving_leaves_fewer_due();
     let plan = match make_plan(alloc, pending, upstreams, clock) {
         Ok(plan) => plan,
         Err(_) => return Err(SiteFault::OutOfMemory { taken: 0 }),

@@ -1,13 +1,13 @@
 //! What is made of octets that are asked, before the table of open questions is looked at.
 
-ghost use Rattle.std.specs.Prelude.{◌≡◌, ◌≤◌, ◌<◌, ◌↔◌, List, IsTrue, IfOk};
+ghost use Rattle.std.specs.Prelude.{◌≡◌, ◌≤◌, ◌<◌, ◌↔◌, List, IsTrue, IfOk, IfErr};
 ghost use Rattle.fleet_wire.specs.Question.{asked};
 ghost use Rattle.fleet_observe.specs.Fact.{Fact};
 ghost use Rattle.fleet_cache.specs.Cached.{IsCached};
+ghost use Rattle.fleet_cache.specs.Kinds.{HasKinds};
 ghost use Rattle.fleet_cache.specs.Told.{told};
-ghost use Rattle.fleet_site.specs.Carried.{IsAskable, IsUnread};
-ghost use Rattle.fleet_site.specs.Rows.{HasKinds};
-ghost use Rattle.fleet_site.specs.Verdict.{verdict, IsServed, DecidesAnswer, DecidesQuestion, Decides};
+ghost use Rattle.fleet_site.specs.Carried.{IsAskable, IsAnswered, IsUnread};
+ghost use Rattle.fleet_site.specs.Verdict.{IsAsking, verdict, IsServed, DecidesAnswer, DecidesQuestion, Decides};
 
 use crate::writing::{bare_reply, deny, reply_without, tell};
 use fleet_cache::{Answer, Cache};
@@ -43,6 +43,8 @@ pub(crate) fn decide<A: Allocator + Copy>(
     requires { cache.now.floor ≤ clock }
     ensures decides { (s : List Fact) → IsCached s cache.now.floor cache.now.items → IfOk result (λ d. Decides s clock octets.now (verdict d)) }
     ensures askable { IfOk result (λ d. IsAskable d) }
+    ensures answered { IfOk result (λ d. IsAnswered d → IsAsking octets.now) }
+    ensures memory { IfErr result (λ _. IsAsking octets.now) }
 {
     let header = match read_header(octets) {
         Some(header) => header,
@@ -115,7 +117,8 @@ fn decide_answer<A: Allocator + Copy>(
 ) -> Result<Decision<A>, AllocError>
     requires opcode { header.opcode < 16 }
     requires served { question.class ≡ 1 }
-    ensures decides { HasKinds (told answer.now) → IfOk result (λ d. DecidesAnswer header (asked question) (told answer.now) (verdict d)) }
+    requires kinds { HasKinds (told answer.now) }
+    ensures decides { IfOk result (λ d. DecidesAnswer header (asked question) (told answer.now) (verdict d)) }
     ensures askable { IfOk result (λ d. IsAskable d) }
 {
     match answer {

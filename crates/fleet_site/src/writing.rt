@@ -3,8 +3,9 @@
 ghost use Rattle.std.specs.Prelude.{◌≡◌, ◌<◌, IfOk, OnOk, Some, None, MatchOption};
 ghost use Rattle.fleet_wire.specs.Outline.{octets_of_outline};
 ghost use Rattle.fleet_wire.specs.Question.{asked};
+ghost use Rattle.fleet_cache.specs.Kinds.{IsPositivePart, ArePositiveParts};
 ghost use Rattle.fleet_cache.specs.Shown.{part_of, parts_of};
-ghost use Rattle.fleet_site.specs.Rows.{started, started_octets, AddsRows, AddsChainRows, AddsSoaRow, IsPositivePart, IsNegativePart, ArePositiveParts, Tells, Denies};
+ghost use Rattle.fleet_site.specs.Rows.{started, started_octets, AddsRows, AddsChainRows, AddsSoaRow, IsNegativePart, Tells, Denies};
 
 use fleet_cache::{Chain, Shown};
 use fleet_name::Octets;
@@ -22,8 +23,10 @@ pub(crate) fn tell<A: Allocator + Copy>(
     chain: &Chain<A>,
     set: &Shown<A>,
 ) -> Result<Octets<A>, AllocError>
-    requires { header.opcode < 16 }
-    ensures { ArePositiveParts chain.now → IsPositivePart (part_of set.now) → IfOk result (Tells header (asked question.now) chain.now (part_of set.now)) }
+    requires opcode { header.opcode < 16 }
+    requires links { ArePositiveParts chain.now }
+    requires positive { IsPositivePart (part_of set.now) }
+    ensures { IfOk result (Tells header (asked question.now) chain.now (part_of set.now)) }
 {
     let mut outline = begin(alloc, header, 0, Some(question))?;
     add_chain(&mut outline, chain.as_slice())?;
@@ -42,7 +45,9 @@ pub(crate) fn deny<A: Allocator + Copy>(
 ) -> Result<Octets<A>, AllocError>
     requires opcode { header.opcode < 16 }
     requires rcode { rcode < 16 }
-    ensures { ArePositiveParts chain.now → IsNegativePart (part_of soa.now) → IfOk result (Denies header rcode (asked question.now) chain.now (part_of soa.now)) }
+    requires links { ArePositiveParts chain.now }
+    requires negative { IsNegativePart (part_of soa.now) }
+    ensures { IfOk result (Denies header rcode (asked question.now) chain.now (part_of soa.now)) }
 {
     let mut outline = begin(alloc, header, rcode, Some(question))?;
     add_chain(&mut outline, chain.as_slice())?;
@@ -120,7 +125,7 @@ fn finish<A: Allocator + Copy>(alloc: A, outline: &Outline<A>) -> Result<Octets<
 }
 
 /// A reply of a header alone.
-pub(crate) fn bare_reply<A: Allocator + Copy>(
+pub(crate) fn bare_reply<'a, A: Allocator + Copy + 'a>(
     alloc: A,
     header: Header,
     rcode: u8,
@@ -129,7 +134,8 @@ pub(crate) fn bare_reply<A: Allocator + Copy>(
     requires rcode { rcode < 16 }
     ensures { IfOk result (λ octets. octets ≡ started_octets header rcode None) }
 {
-    let outline = begin(alloc, header, rcode, None)?;
+    let question: Option<&'a Question<A>> = None;
+    let outline = begin(alloc, header, rcode, question)?;
     finish(alloc, &outline)
 }
 
