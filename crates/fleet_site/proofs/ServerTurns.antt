@@ -1,19 +1,24 @@
 -- Steps, ticks and turns of a server.
-use Rattle.std.proofs.Common.{◌≡◌, ℕ, suc, zero, ◌+◌, ◌%◌, ◌<◌, ◌≤◌, List, [], ◌∷◌, ◌++◌, Bool, true, false, max, Option, Some, None, Result, Ok, Err, IfSome, is_some, refl, sym, ap, subst, ◌∙◌, append_assoc, length, length-append, arith, add-one, add-zero}
+use Rattle.std.proofs.Common.{◌≡◌, IsTrue, IfOk, Vec, ℕ, suc, zero, ◌+◌, ◌%◌, ◌<◌, ◌≤◌, List, [], ◌∷◌, ◌++◌, Bool, true, false, max, Option, Some, None, Result, Ok, Err, IfSome, is_some, refl, sym, ap, subst, ◌∙◌, append_assoc, length, length-append, arith, add-one, add-zero}
 use Rattle.std.proofs.lemmas.List.{append-nil}
 use Rattle.std.specs.Option.{unwrap_or}
 use Rattle.rand_core.specs.Stream.{Stream, next_u32}
 use Rattle.fleet_pending.specs.declared.waiter.Addr.{Addr}
 use Rattle.fleet_pending.specs.Due.{due_at}
-use Rattle.fleet_site.specs.Effect.{Effect}
+use Rattle.fleet_pending.specs.Outstanding.{Outstanding}
+use Rattle.std.specs.declared.alloc.AllocError.{AllocError}
+use Rattle.fleet_site.specs.Effect.{Effect, plain}
 use Rattle.fleet_site.specs.SiteModel.{SiteModel}
 use Rattle.fleet_site.specs.State.{State}
-use Rattle.fleet_site.specs.StandsFor.{StandsFor}
-use Rattle.fleet_site.specs.Step.{datagram, tick}
+use Rattle.fleet_site.specs.StandsFor.{StandsFor, Follows}
+use Rattle.fleet_site.specs.Step.{Call, datagram, tick}
+use Rattle.fleet_site.specs.Sweep.{IsSweep}
+use Rattle.fleet_site.specs.Tick.{LeavesFewer}
 use Rattle.fleet_site.specs.PortRecord.{PortCall, Received, NoDatagram, Fault, PacketSent, PacketLost, NotesAll, PortState, Made, failures_of, one_more}
-use Rattle.fleet_site.specs.Sending.{AreSent, outgoing, counting, counting_all, counting_refusal, counting_step, goes_on, CarriesOut}
+use Rattle.fleet_site.specs.Sending.{AreSent, outgoing, counting, counting_all, counting_refusal, counting_step, goes_on, swept, CarriesOut}
 use Rattle.fleet_site.specs.Turn.{Deal, calling, sweeping, Deals, Stepped, Act, calls_of, counting_acts, AllSent, Acts, Acted, Given, Ticks, no_tick, next_tick, sweeps, Sweeps, Between, Turn, left_after, word_of, IsMoment, Turns, blank, start_of}
-use Rattle.fleet_site.specs.Served.{Served, FollowsSteps, Turned, Took, Heard, Ticked, SweptOnce, due_by, room, ticks_left, Ticking, Ahead, Serves, CountsFailures}
+use Rattle.fleet_site.specs.Served.{Served, FollowsSteps, Turned, Took, Heard, TickedAll, SweptOnce, due_by, room, ticks_left, Ticking, Ahead, Serves, CountsFailures}
+use Rattle.fleet_site.specs.declared.outcome.Outcome.{Outcome}
 use Rattle.fleet_site.specs.declared.outcome.SiteFault.{SiteFault}
 use Rattle.fleet_site.specs.declared.report.Report.{Report}
 use Rattle.fleet_site.proofs.ServerLists.{made_none, made_both, counting-append, failures_of-append}
@@ -116,19 +121,41 @@ ticking_none old t s r few = record { acts = []; ticks = no_tick; few = omega ar
 
 pub ticking_more : (old mid new : PortState) (t : ℕ) (s u v : State) (r q p : Report) (a : Result Effect SiteFault)
     → Ticking old mid t true s u r q → Stepped (calling (tick t)) a u v → CarriesOut mid new v.setting.peers a q p
-    → (goes_on a ≡ true → (0 < due_by v t) × (due_by v t < due_by u t))
+    → v.clock ≡ max u.clock t → (goes_on a ≡ true → LeavesFewer u.outstanding v.outstanding v.clock)
     → Ticking old new t (goes_on a) s v r p
-ticking_more old mid new t s u v r q p a k h c fewer =
+ticking_more old mid new t s u v r q p a k h c e fewer =
     let act = act_of (calling (tick t)) a c.calls in
     let n : length (k.acts ++ act ∷ []) ≡ length k.acts + 1 = length-append k.acts (act ∷ []) in
+    let same : max v.clock t ≡ v.clock = omega arith in
+    let later : due_at v.outstanding v.clock ≡ due_by v t = ap (due_at v.outstanding) (sym same) in
+    let before : due_at u.outstanding v.clock ≡ due_by u t = ap (due_at u.outstanding) e in
+    let less : goes_on a ≡ true → (0 < due_by v t) × (due_by v t < due_by u t) =
+      λ i. (let z = fewer i in let x = z.some in let y = z.fewer in (omega arith, omega arith)) in
     record {
       acts = k.acts ++ act ∷ [];
       ticks = next_tick act k.ticks refl;
-      few = rw n (few_more (goes_on a) (length k.acts) (due_by u t) (due_by v t) k.few fewer);
+      few = rw n (few_more (goes_on a) (length k.acts) (due_by u t) (due_by v t) k.few less);
       took = took_both old mid new s u v r q p k.acts (act ∷ []) k.took (took_one mid new u v (calling (tick t)) a q p h c);
     }
 
-pub ticked : (old new : PortState) (t : ℕ) (b : Bool) (s u : State) (r q : Report) → b ≡ false → Ticking old new t b s u r q → Ticked old new t s u r q
+-- a tick that says more leaves fewer
+pub fewer_where_more : {A : Type 0} (r : Result (Outcome A) SiteFault) (old new : Outstanding) (t : ℕ)
+    → IfOk r (λ o. IsTrue o.more → LeavesFewer old new t) → goes_on (plain r) ≡ true → LeavesFewer old new t
+fewer_where_more (Ok o) old new t h e = h e
+fewer_where_more (Err f) old new t h e = cc
+
+-- the clauses of a call as a step of a turn
+pub stepped_call : {A : Type 0} (c : Call) (r : Result (Outcome A) SiteFault) (s u : State)
+    → ((m : SiteModel) → StandsFor s m → Follows m c r u) → u.setting ≡ s.setting → Stepped (calling c) (plain r) s u
+stepped_call c r s u h e = record { step = λ m i. let f = h m i in (f.next, f.step, f.stands); setting = e }
+
+-- those of a sweep
+pub stepped_sweep : {A : Type 0} (r : Result (Vec (List ℕ) A) AllocError) (s : State)
+    → ((m : SiteModel) → StandsFor s m → IfOk r (λ frames. IsSweep m frames.items)) → Stepped sweeping (swept r) s s
+stepped_sweep (Ok frames) s h = record { step = λ m i. (m, (frames.items, h m i, refl, refl), i); setting = refl }
+stepped_sweep (Err e) s h = record { step = λ m i. (m, (refl, refl), i); setting = refl }
+
+pub ticked : (old new : PortState) (t : ℕ) (b : Bool) (s u : State) (r q : Report) → b ≡ false → Ticking old new t b s u r q → TickedAll old new t s u r q
 ticked old new t b s u r q e k =
     let j : Ticking old new t false s u r q = subst (λ (x : Bool). Ticking old new t x s u r q) e k in
     let n : length j.acts + 0 ≤ 256 = j.few in
@@ -137,7 +164,7 @@ ticked old new t b s u r q e k =
 -- a turn
 turned : (old one two new : PortState) (t w every last : ℕ) (since : Option ℕ) (s u v : State) (r q p z : Report)
     → Heard old one t w s u (record r { turns = one_more r.turns }) q
-    → Ticked one two t u v q p
+    → TickedAll one two t u v q p
     → SweptOnce two new (sweeps every (unwrap_or since t) t) t (unwrap_or since t) last v v p z
     → Turned old new t w every s v since last r z
 turned old one two new t w every last since s u v r q p z a b c =
@@ -167,7 +194,7 @@ turned old one two new t w every last since s u v r q p z a b c =
 -- the turn of these parts
 pub turned_at : (old one two new : PortState) (t w every last from : ℕ) (since : Option ℕ) (s u v : State) (r k q p z : Report)
     → k ≡ record r { turns = one_more r.turns } → from ≡ unwrap_or since t
-    → Heard old one t w s u k q → Ticked one two t u v q p → SweptOnce two new (sweeps every from t) t from last v v p z
+    → Heard old one t w s u k q → TickedAll one two t u v q p → SweptOnce two new (sweeps every from t) t from last v v p z
     → Turned old new t w every s v since last r z
 turned_at old one two new t w every last from since s u v r k q p z d e a b c =
     turned old one two new t w every last since s u v r q p z

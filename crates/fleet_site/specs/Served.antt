@@ -44,7 +44,7 @@ pub record Heard (old new : PortState) (t word : ℕ) (site after : State) (r q 
   pub report : q ≡ counting_acts acts (counting arrival r)
 
 -- the site ticked until no other entry was due
-pub record Ticked (old new : PortState) (t : ℕ) (site after : State) (r q : Report) : Type 0 where
+pub record TickedAll (old new : PortState) (t : ℕ) (site after : State) (r q : Report) : Type 0 where
   pub acts : List Act
   pub ticks : Ticks t acts false
   pub few : length acts ≤ 256

@@ -5,7 +5,7 @@ ghost use Rattle.fleet_site.specs.Packet.{sent};
 ghost use Rattle.fleet_site.specs.Effect.{plain};
 ghost use Rattle.fleet_site.specs.Sending.{Sends, CarriesOut, to_each, to_peers, swept, counting_refusal, goes_on};
 ghost use Rattle.fleet_site.specs.Turn.{sweeps};
-ghost use Rattle.fleet_site.specs.Served.{Served, FollowsSteps, Turned, Heard, Ticked, SweptOnce};
+ghost use Rattle.fleet_site.specs.Served.{Served, FollowsSteps, Turned, Heard, TickedAll, SweptOnce};
 
 use crate::outcome::{Outcome, Packet, Refusal, SiteFault};
 use crate::port::{Clock, Port};
@@ -139,7 +139,7 @@ fn tick_all<P: Port, A: Allocator + Copy>(
     now: Moment,
     report: &mut Report,
 )
-    ensures { Ticked (P.tells port.old) (P.tells port.new) now site.old site.new report.old report.new }
+    ensures { TickedAll (P.tells port.old) (P.tells port.new) now site.old site.new report.old report.new }
 {
     let mut more = true;
     while more {

@@ -143,7 +143,8 @@ impl<A: Allocator + Copy> Site<A> {
         bytes: &[u8],
         word: u16,
     ) -> Result<Outcome<A>, SiteFault>
-        ensures { (m : SiteModel) → StandsFor self.old m → Follows m (a_datagram now from bytes.now word) result self.new }
+        ensures follows { (m : SiteModel) → StandsFor self.old m → Follows m (a_datagram now from bytes.now word) result self.new }
+        ensures setting { self.new.setting ≡ self.old.setting }
     {
         self.clock = later(self.clock, now);
         match sender_of(&self.config, from) {
@@ -180,6 +181,7 @@ impl<A: Allocator + Copy> Site<A> {
     /// or after the last all who wait are told so.
     pub fn tick(&mut self, now: Moment) -> Result<Outcome<A>, SiteFault>
         ensures follows { (m : SiteModel) → StandsFor self.old m → Follows m (a_tick now) result self.new }
+        ensures setting { self.new.setting ≡ self.old.setting }
         ensures clock { self.new.clock ≡ max self.old.clock now }
         ensures fewer { IfOk result (λ o. IsTrue o.more → LeavesFewer self.old.outstanding self.new.outstanding self.new.clock) }
     {
