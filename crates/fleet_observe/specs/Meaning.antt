@@ -62,6 +62,10 @@ pub record Counts (s : List Told) (n : List (List ℕ)) (r : Told) : Type 0 wher
   pub first : IsFirstSoa s r
   pub under : IsUnder n r.name
 
+-- there is such an SOA
+abbrev pub HasSoa : List Told → List (List ℕ) → Type 0
+HasSoa s n = (r : Told) × Counts s n r
+
 pub record IsSoaOf (s : List Told) (n : List (List ℕ)) (x : SoaSet) : Type 0 where
   pub carrier : Told
   pub counts : Counts s n carrier
@@ -102,6 +106,10 @@ pub record IsNs (q : List (List ℕ)) (r : Told) : Type 0 where
   pub class : r.class ≡ 1
   pub rtype : r.rtype ≡ 2
   pub above : IsUnder q r.name
+
+-- there is such a record
+abbrev pub HasNs : List (List ℕ) → List Told → Type 0
+HasNs q s = (r : Told) × Has s r × IsNs q r
 
 -- an earlier one of such records has the owner of r
 pub record IsRepeated (q : List (List ℕ)) (before : List Told) (r : Told) : Type 0 where

@@ -1,11 +1,11 @@
 //! Which SOA a denial has (RFC 2308 3, 5).
 
-ghost use Rattle.std.specs.Prelude.{◌≡◌, ℕ, ◌≤◌, List, length, IfOk, MatchOption};
+ghost use Rattle.std.specs.Prelude.{◌≡◌, ℕ, ◌≤◌, List, length, IfOk, IfErr, MatchOption};
 ghost use Rattle.fleet_wire.specs.Record.{Told, told, all_told};
 ghost use Rattle.fleet_observe.specs.Members.{Has};
 ghost use Rattle.fleet_observe.specs.Walk.{ArePlainRecords};
 ghost use Rattle.fleet_observe.specs.Digest.{soa_in};
-ghost use Rattle.fleet_observe.specs.Meaning.{IsSoaRecord, IsFirstSoa, IsSoa, minimum_of};
+ghost use Rattle.fleet_observe.specs.Meaning.{IsSoaRecord, IsFirstSoa, IsSoa, HasSoa, minimum_of};
 
 use crate::checks::SOA;
 use crate::rrset::bounded;
@@ -45,7 +45,8 @@ pub(crate) fn soa_for<A: Allocator + Copy>(
     denied: &Name<A>,
 ) -> Result<Option<Soa<A>>, AllocError>
     requires { ArePlainRecords (all_told authority.now) }
-    ensures { IfOk result (λ o. IsSoa (all_told authority.now) denied.now (soa_in o)) }
+    ensures soa { IfOk result (λ o. IsSoa (all_told authority.now) denied.now (soa_in o)) }
+    ensures memory { IfErr result (λ _. HasSoa (all_told authority.now) denied.now) }
 {
     let Some(record) = first_soa(authority) else {
         return Ok(None);
