@@ -1,6 +1,7 @@
 -- What a reply means (RFC 1034 3.6.2, RFC 2308 2 and 5).
-use Rattle.std.specs.Prelude.{◌≡◌, ℕ, ◌+◌, ◌-◌, ◌*◌, ◌⊎◌, true, false, List, [], ◌∷◌, ◌++◌, length, min, slice_index, Option, Some, None}
+use Rattle.std.specs.Prelude.{◌≡◌, ℕ, ◌-◌, ◌⊎◌, true, false, List, [], ◌∷◌, ◌++◌, length, min, Option, Some, None}
 use Rattle.fleet_name.specs.Name.{IsUnder}
+use Rattle.fleet_wire.specs.Number.{u32_at}
 use Rattle.fleet_wire.specs.Record.{Told}
 use Rattle.fleet_wire.specs.Message.{Reply}
 use Rattle.fleet_observe.specs.declared.told.DigestFault.{DigestFault}
@@ -51,7 +52,7 @@ pub record IsFirstSoa (s : List Told) (r : Told) : Type 0 where
 
 -- MINIMUM: the last four octets of an SOA's RDATA, as a number
 abbrev pub minimum_of : List ℕ → ℕ
-minimum_of d = slice_index d (length d - 4) * 16777216 + slice_index d (length d - 4 + 1) * 65536 + slice_index d (length d - 4 + 2) * 256 + slice_index d (length d - 4 + 3)
+minimum_of d = u32_at d (length d - 4)
 
 -- how long a denial holds (RFC 2308 5), and at most three hours
 abbrev pub soa_ttl : Told → ℕ

@@ -32,10 +32,7 @@ fn minimum(rdata: &[u8]) -> u32
     ensures { result ≡ minimum_of rdata.now }
 {
     let at = rdata.len() - 4;
-    u32::from(rdata[at]) * 16777216
-        + u32::from(rdata[at + 1]) * 65536
-        + u32::from(rdata[at + 2]) * 256
-        + u32::from(rdata[at + 3])
+    u32::from_be_bytes([rdata[at], rdata[at + 1], rdata[at + 2], rdata[at + 3]])
 }
 
 /// The SOA that counts for a denied name, if any.
