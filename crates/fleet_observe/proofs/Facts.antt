@@ -7,7 +7,7 @@ use Rattle.fleet_observe.specs.declared.fault.ObservationFault.TheVariants.{BadR
 use Rattle.fleet_observe.specs.Members.{Has}
 use Rattle.fleet_observe.specs.Body.{positive_body}
 use Rattle.fleet_observe.specs.Fact.{Fact, IsFact, AreFacts, IsRank, IsNegativeRank, IsDataType}
-use Rattle.fleet_observe.specs.Checks.{IsPositiveFault, IsNegativeFault, IsDeniedType}
+use Rattle.fleet_observe.specs.Checks.{IsNegativeFault, IsDeniedType}
 use Rattle.fleet_observe.specs.RrSet.{Set, sets_of, SpellsName}
 use Rattle.fleet_observe.specs.declared.rrset.RrSet.{RrSet}
 use Rattle.fleet_observe.specs.Digest.{SoaSet, Ending, WithRecords, WithoutData, WithoutName, WithCode, CutOff, Summary, denied_by, target_of, first_or, IsLawfulSet, IsLawfulLink, IsLawfulSoa, IsLawful, IsLawfulEnd}

@@ -7,7 +7,7 @@ ghost use Rattle.fleet_observe.specs.Walk.{ArePlainRecords};
 ghost use Rattle.fleet_observe.specs.Digest.{soa_in};
 ghost use Rattle.fleet_observe.specs.Meaning.{IsSoaRecord, IsFirstSoa, IsSoa, HasSoa, minimum_of};
 
-use crate::checks::SOA;
+use crate::checks::{LONGEST_DENIAL, SOA};
 use crate::rrset::bounded;
 use crate::soa::Soa;
 use fleet_name::Name;
@@ -55,7 +55,7 @@ pub(crate) fn soa_for<A: Allocator + Copy>(
     let least = bounded(minimum(record.rdata.as_slice()));
     Ok(Some(Soa {
         owner: record.name.try_clone()?,
-        ttl: own.min(least).min(10800),
+        ttl: own.min(least).min(LONGEST_DENIAL),
         rdata: record.rdata.try_clone()?,
     }))
 }
