@@ -68,7 +68,7 @@ impl<'a> Reader<'a> {
         ensures { MatchResult result (λ n. self.old ≡ u16_octets n ++ self.new) (IsCut 2 self.old) }
     {
         let number = self.take(2)?;
-        Ok(u16::from(number[0]) * 256 + u16::from(number[1]))
+        Ok(u16::from_be_bytes([number[0], number[1]]))
     }
 
     /// A number of four octets.
