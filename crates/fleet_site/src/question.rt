@@ -6,7 +6,7 @@ ghost use Rattle.fleet_observe.specs.Fact.{Fact};
 ghost use Rattle.fleet_cache.specs.Cached.{IsCached};
 ghost use Rattle.fleet_pending.specs.Asking.{Asks, asked_or_fault};
 ghost use Rattle.fleet_pending.specs.Outstanding.{Open, IsOpen, UsesId};
-ghost use Rattle.fleet_pending.specs.Places.{At};
+ghost use Rattle.fleet_name.specs.Places.{At};
 ghost use Rattle.fleet_pending.specs.Waiter.{asker};
 ghost use Rattle.fleet_pending.specs.declared.answer.PendingFault.TheVariants.{OutOfMemory as NoRoom};
 ghost use Rattle.fleet_site.specs.Carried.{Keeps, IsAskable, IsAnswered, TurnsAway, IsQueryOf};
@@ -49,7 +49,7 @@ pub(crate) fn take_question<A: Allocator + Copy>(
     requires reached { cache.now.floor ≤ arrival.clock }
     requires table { IsTableOf upstreams.now pending.old }
     ensures questioned { (s : List Fact) → IsCached s cache.now.floor cache.now.items → Keeps (Questioned s upstreams.now pending.old arrival.clock arrival.from arrival.word octets.now) (IsAsking octets.now) pending.old result pending.new }
-    ensures table { IsTableOf upstreams.now pending.new }
+    ensures table { KeepsTable pending.old pending.new }
 {
     match decide(alloc, cache, arrival.clock, octets) {
         Ok(decision) => react(alloc, pending, upstreams, arrival, decision),
@@ -68,7 +68,7 @@ fn react<A: Allocator + Copy>(
     requires askable { IsAskable decision }
     requires table { IsTableOf upstreams.now pending.old }
     ensures reacts { Keeps (Reacts upstreams.now pending.old arrival.clock arrival.from arrival.word (verdict decision)) (IsAnswered decision) pending.old result pending.new }
-    ensures table { IsTableOf upstreams.now pending.new }
+    ensures table { KeepsTable pending.old pending.new }
 {
     match decision {
         Decision::Dropped => Ok(Outcome::silent(alloc, 0, Some(Refusal::Dropped))),
@@ -101,16 +101,14 @@ fn forward<A: Allocator + Copy>(
     requires class { question.class ≡ 1 }
     requires table { IsTableOf upstreams.now pending.old }
     ensures forwards { Keeps (Forwards upstreams.now pending.old arrival.clock arrival.from arrival.word header (asked question)) ⊤ pending.old result pending.new }
-    ensures table { IsTableOf upstreams.now pending.new }
+    ensures table { KeepsTable pending.old pending.new }
 {
-    let waiter = Waiter {
-        from: arrival.from,
-        id: header.id,
-        question,
-    };
+    let from = arrival.from;
+    let id = header.id;
+    let waiter = Waiter { from, id, question };
     let asked = match enter(pending, waiter, arrival) {
         Ok(asked) => asked,
-        Err(unasked) => return turn_away(alloc, arrival.from, header, unasked),
+        Err(unasked) => return turn_away(alloc, from, header, unasked),
     };
     new_entry_is_last();
     match asked {
