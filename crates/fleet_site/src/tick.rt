@@ -17,7 +17,10 @@ use crate::outcome::{Outcome, Packet, Packets, SiteFault};
 use crate::query::entry_query;
 use fleet_name::Octets;
 use fleet_observe::Moment;
-use fleet_pending::{Addr, Due, Entry, Pending, Waiter, serving_leaves_fewer_due, waiters_stay};
+use fleet_pending::{
+    Addr, Due, Entry, Pending, Waiter, serving_leaves_fewer_due, settling_gives_its_entry,
+    waiters_stay,
+};
 use fleet_wire::{Outline, write_reply};
 use std::alloc::{AllocError, Allocator};
 
@@ -125,6 +128,7 @@ pub(crate) fn serve_due<A: Allocator + Copy>(
     ensures table { KeepsTable pending.old pending.new }
 {
     waiters_stay();
+    settling_gives_its_entry();
     serving_leaves_fewer_due();
     let plan = match make_plan(alloc, pending, upstreams, clock) {
         Ok(plan) => plan,
