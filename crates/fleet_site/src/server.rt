@@ -13,7 +13,7 @@ use crate::report::Report;
 use crate::site::Site;
 use fleet_name::Octets;
 use fleet_observe::Moment;
-use fleet_pending::Addr;
+use fleet_pending::{Addr, serving_leaves_fewer_due};
 use rand_core::Rng;
 use std::alloc::{AllocError, Allocator};
 
@@ -141,6 +141,9 @@ fn tick_all<P: Port, A: Allocator + Copy>(
 )
     ensures { TickedAll (P.tells port.old) (P.tells port.new) now site.old site.new report.old report.new }
 {
+    // At most 256 are due, so there is an end.
+    serving_leaves_fewer_due();
+    prove!(site.cache().floor().value() <= site.clock().value());
     let mut more = true;
     while more {
         let answer = site.tick(now);

@@ -3,7 +3,7 @@ use Rattle.fleet_site.proofs.ServerTurns.{ticking_none, ticking_more, ticked, st
 use Rattle.fleet_site.proofs.server.tick_all.Goals as goal
 
 pub loop-more-init : goal.loop-more-init
-loop-more-init g c = ticking_none _ c.args.now c.args.site.now c.args.report.now ?
+loop-more-init g c = ticking_none _ c.args.now c.args.site.now c.args.report.now (c.serving_leaves_fewer_due.ensures.few _ _ c.clock.ensures.lawful.questions.outstanding)
 
 pub loop-more-preserved : goal.loop-more-preserved
 loop-more-preserved g c =
