@@ -1,6 +1,6 @@
 //! A clock over a list.
 
-ghost use Rattle.std.specs.Prelude.{◌+◌, Some};
+ghost use Rattle.std.specs.Prelude.{◌≡◌, ◌+◌, Some};
 ghost use Rattle.fleet_site.specs.MemoryPort.{moment_of};
 
 use crate::port::Clock;
