@@ -8,6 +8,7 @@ ghost use Rattle.fleet_cache.specs.Live.{hidden};
 ghost use Rattle.fleet_cache.specs.Cached.{place, IsCached, IsNeedless, IsSameSet, IsGapFor};
 ghost use Rattle.fleet_cache.specs.Answer.{answer_of};
 ghost use Rattle.fleet_cache.specs.Told.{told};
+ghost use Rattle.fleet_cache.specs.Kinds.{HasKinds};
 
 use crate::answer::{Answer, follow};
 use crate::items::Items;
@@ -105,7 +106,7 @@ impl<A: Allocator> Cache<A> {
     /// then the cache of both sets, at the later floor.
     pub fn merge(&mut self, other: &Cache<A>) -> Result<(), Stopped>
     where
-        A: Clone,
+        A: Copy,
         ensures both { (s u : List Fact) → IsCached s self.old.floor self.old.items → IsCached u other.now.floor other.now.items → OnOk result (IsCached (u ++ s) self.new.floor self.new.items) }
         ensures floor { OnOk result (self.new.floor ≡ max self.old.floor other.now.floor) }
         ensures stopped { (s : List Fact) → IsCached s self.old.floor self.old.items → IfErr result (λ e. IsCached (take e.taken other.now.items ++ s) self.new.floor self.new.items) }
@@ -124,7 +125,7 @@ impl<A: Allocator> Cache<A> {
     // Takes a copy of an observation in.
     fn take_copy(&mut self, observation: &Observation<A>) -> Result<bool, AllocError>
     where
-        A: Clone,
+        A: Copy,
         ensures taken { (s : List Fact) → IsCached s self.old.floor self.old.items → OnOk result (IsCached (observation.now ∷ s) self.new.floor self.new.items) }
         ensures floor { self.new.floor ≡ self.old.floor }
         ensures err { OnErr result (self.new ≡ self.old) }
@@ -148,6 +149,16 @@ impl<A: Allocator> Cache<A> {
         self.earliest = earliest_end(&self.items);
     }
 
+    /// Drops all items and sets the floor back to 0: it is then as a new cache. This takes no memory.
+    pub fn clear(&mut self)
+        ensures held { self.new ≡ record { floor = 0; items = [] } }
+        ensures cached { IsCached [] self.new.floor self.new.items }
+    {
+        self.floor = Moment::new(0).unwrap();
+        self.earliest = u64::MAX;
+        self.items.clear();
+    }
+
     /// The moment up to which the cache was purged: what has ended by then is not held.
     pub fn floor(&self) -> Moment
         ensures { result ≡ self.now.floor }
@@ -161,6 +172,20 @@ impl<A: Allocator> Cache<A> {
         ensures alike { (s t : List Fact) → IsCached s self.now.floor self.now.items → IsCached t other.now.floor other.now.items → IsSameSet s t → self.now.floor ≡ other.now.floor → IsTrue result }
     {
         self.floor == other.floor && same_items(&self.items, &other.items)
+    }
+
+    /// How many items there are.
+    pub fn len(&self) -> usize
+        ensures { result ≡ length self.now.items }
+    {
+        self.items.len()
+    }
+
+    /// Whether there are no items.
+    pub fn is_empty(&self) -> bool
+        ensures { IsTrue result ↔ (self.now.items ≡ []) }
+    {
+        self.items.is_empty()
     }
 
     /// The items, by key (the octets of the name, the kind, the type), and the preferred first
@@ -177,15 +202,16 @@ impl<A: Allocator> Cache<A> {
     /// followed where another type is asked for, at most 8 of them. Records of two observations
     /// are never merged (RFC 2181 5.4). The question's class is not looked at. The parts are
     /// copies: without memory for them there is no answer.
-    pub fn answer(
+    pub fn answer<B: Allocator>(
         &self,
         alloc: A,
-        question: &Question<A>,
+        question: &Question<B>,
         moment: Moment,
     ) -> Result<Answer<A>, AllocError>
     where
-        A: Clone,
-        ensures { (s : List Fact) → IsCached s self.now.floor self.now.items → IfOk result (λ a. told a ≡ answer_of s (max self.now.floor moment) question.now.name question.now.rtype) }
+        A: Copy,
+        ensures kinds { IfOk result (λ a. HasKinds (told a)) }
+        ensures told { (s : List Fact) → IsCached s self.now.floor self.now.items → IfOk result (λ a. told a ≡ answer_of s (max self.now.floor moment) question.now.name question.now.rtype) }
     {
         let at = self.floor.value().max(moment.value());
         follow(

@@ -68,7 +68,7 @@ fn is_count_of(rtype: u16, count: u16) -> bool
 }
 
 // So many RDATAs.
-fn read_rdatas<A: Allocator + Clone>(
+fn read_rdatas<A: Allocator + Copy>(
     alloc: A,
     reader: &mut Reader<'_>,
     rtype: u16,
@@ -77,7 +77,7 @@ fn read_rdatas<A: Allocator + Clone>(
     ensures found { IfOk result (λ r. AreFirstRdatas rtype r.items × (reader.old ≡ flat_map sized r.items ++ reader.new) × (length r.items ≡ count)) }
     ensures fault { IfErr result (λ f. OrMemory f (RdatasFail rtype count reader.old f)) }
 {
-    let mut rdatas = Vec::new(alloc.clone()?);
+    let mut rdatas = Vec::new(alloc);
     let mut size = 2;
     for _ in 0..count {
         let rdata = read_sized(reader)?;
@@ -85,13 +85,13 @@ fn read_rdatas<A: Allocator + Clone>(
             return Err(FrameFault::BadBody);
         }
         size += 2 + rdata.len();
-        rdatas.push(Octets::copy_of(alloc.clone()?, rdata)?)?;
+        rdatas.push(Octets::copy_of(alloc, rdata)?)?;
     }
     Ok(rdatas)
 }
 
 /// The RDATAs of a positive body.
-pub(crate) fn read_positive<A: Allocator + Clone>(
+pub(crate) fn read_positive<A: Allocator + Copy>(
     alloc: A,
     reader: &mut Reader<'_>,
     rtype: u16,
@@ -137,7 +137,7 @@ fn read_owner<A: Allocator>(
 }
 
 /// The SOA of the body of a denial of the name.
-pub(crate) fn read_negative<A: Allocator + Clone>(
+pub(crate) fn read_negative<A: Allocator + Copy>(
     alloc: A,
     reader: &mut Reader<'_>,
     name: &Name<A>,
@@ -145,7 +145,7 @@ pub(crate) fn read_negative<A: Allocator + Clone>(
     ensures found { IfOk result (λ soa. IsDenial name.now soa.owner soa.rdata × (reader.old ≡ negative_body soa.owner soa.rdata ++ reader.new)) }
     ensures fault { IfErr result (λ f. OrMemory f (NegativeFails name.now reader.old f)) }
 {
-    let owner = read_owner(alloc.clone()?, reader, name)?;
+    let owner = read_owner(alloc, reader, name)?;
     let rdata = read_sized(reader)?;
     if !plain_rdata(SOA, rdata) {
         return Err(FrameFault::BadBody);

@@ -18,7 +18,7 @@ use fleet_observe::{Kind, Observation};
 use std::alloc::Allocator;
 
 // A positive observation, from its body on.
-fn read_records<A: Allocator + Clone>(
+fn read_records<A: Allocator + Copy>(
     alloc: A,
     reader: &mut Reader<'_>,
     head: Head,
@@ -41,7 +41,7 @@ fn read_records<A: Allocator + Clone>(
 }
 
 // A denial, from its body on.
-fn read_denial<A: Allocator + Clone>(
+fn read_denial<A: Allocator + Copy>(
     alloc: A,
     reader: &mut Reader<'_>,
     head: Head,
@@ -64,7 +64,7 @@ fn read_denial<A: Allocator + Clone>(
 }
 
 /// The observation of the entry that is read next.
-pub(crate) fn read_entry<A: Allocator + Clone>(
+pub(crate) fn read_entry<A: Allocator + Copy>(
     alloc: A,
     reader: &mut Reader<'_>,
 ) -> Result<Observation<A>, FrameFault>
@@ -72,7 +72,7 @@ pub(crate) fn read_entry<A: Allocator + Clone>(
     ensures fault { IfErr result (λ f. OrMemory f (EntryFails reader.old f)) }
 {
     let head = read_head(reader)?;
-    let name = read_name(alloc.clone()?, reader)?;
+    let name = read_name(alloc, reader)?;
     let rtype = read_type(reader, head.kind)?;
     match head.kind {
         Kind::Positive => read_records(alloc, reader, head, name, rtype),

@@ -80,7 +80,7 @@ fn read_count(reader: &mut Reader<'_>) -> Result<u16, FrameFault>
 }
 
 // So many entries.
-fn read_entries<A: Allocator + Clone>(
+fn read_entries<A: Allocator + Copy>(
     alloc: A,
     reader: &mut Reader<'_>,
     count: u16,
@@ -88,16 +88,16 @@ fn read_entries<A: Allocator + Clone>(
     ensures found { IfOk result (λ v. AreEntries reader.old count v.items reader.new) }
     ensures fault { IfErr result (λ f. OrMemory f (EntriesFail count reader.old f)) }
 {
-    let mut observations = Vec::new(alloc.clone()?);
+    let mut observations = Vec::new(alloc);
     for _ in 0..count {
-        let observation = read_entry(alloc.clone()?, reader)?;
+        let observation = read_entry(alloc, reader)?;
         observations.push(observation)?;
     }
     Ok(observations)
 }
 
 // The observations of a frame.
-fn read_frame<A: Allocator + Clone>(
+fn read_frame<A: Allocator + Copy>(
     alloc: A,
     octets: &[u8],
 ) -> Result<Vec<Observation<A>, A>, FrameFault>
@@ -121,7 +121,7 @@ fn read_frame<A: Allocator + Clone>(
 ///
 /// Of several faults the first one in reading order is told, and `OutOfMemory` at the growth that met it. A refused
 /// frame yields nothing.
-pub fn decode<A: Allocator + Clone>(
+pub fn decode<A: Allocator + Copy>(
     alloc: A,
     octets: &[u8],
 ) -> Result<Vec<Observation<A>, A>, FrameFault>

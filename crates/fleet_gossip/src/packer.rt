@@ -27,17 +27,17 @@ pub(crate) struct Packer<A: Allocator> {
     count: u16,
 }
 
-impl<A: Allocator + Clone> Packer<A> {
+impl<A: Allocator + Copy> Packer<A> {
     /// Without frames.
-    pub fn new(alloc: A) -> Result<Packer<A>, AllocError>
-        ensures { IfOk result (λ packer. Packs packer []) }
+    pub fn new(alloc: A) -> Packer<A>
+        ensures { Packs result [] }
     {
-        Ok(Packer {
-            frames: Vec::new(alloc.clone()?),
-            entries: Vec::new(alloc.clone()?),
-            count: 0,
+        Packer {
             alloc,
-        })
+            frames: Vec::new(alloc),
+            entries: Vec::new(alloc),
+            count: 0,
+        }
     }
 
     // Finishes the frame in the making.
@@ -47,7 +47,7 @@ impl<A: Allocator + Clone> Packer<A> {
         ensures entries { OnOk result (self.new.entries.items ≡ []) }
         ensures count { OnOk result (self.new.count ≡ 0) }
     {
-        let mut frame = Vec::with_capacity(self.alloc.clone()?, OPENING + self.entries.len())?;
+        let mut frame = Vec::with_capacity(self.alloc, OPENING + self.entries.len())?;
         push_opening(&mut frame, self.count)?;
         frame.extend_from_slice(&self.entries)?;
         self.frames.push(Octets::new(frame))?;
@@ -84,13 +84,13 @@ impl<A: Allocator + Clone> Packer<A> {
 
 /// The frames of observations, in their order: each observation goes into the frame of the one before it where that
 /// then has at most 16384 octets, else it begins a new frame. An empty list has none.
-pub fn pack<A: Allocator + Clone>(
+pub fn pack<A: Allocator + Copy>(
     alloc: A,
     observations: &[Observation<A>],
 ) -> Result<Vec<Octets<A>, A>, AllocError>
     ensures { IfOk result (λ frames. IsPacked observations.now frames.items) }
 {
-    let mut packer = Packer::new(alloc)?;
+    let mut packer = Packer::new(alloc);
     for observation in observations {
         packer.add(observation)?;
     }
@@ -98,13 +98,13 @@ pub fn pack<A: Allocator + Clone>(
 }
 
 /// The frames of all items of a cache, in their order: what `pack` gives of them.
-pub fn sweep<A: Allocator + Clone>(
+pub fn sweep<A: Allocator + Copy>(
     alloc: A,
     cache: &Cache<A>,
 ) -> Result<Vec<Octets<A>, A>, AllocError>
     ensures { IfOk result (λ frames. IsPacked cache.now.items frames.items) }
 {
-    let mut packer = Packer::new(alloc)?;
+    let mut packer = Packer::new(alloc);
     for observation in cache.items() {
         packer.add(observation)?;
     }

@@ -12,5 +12,6 @@ pub mod Owners
 pub mod LawfulMeanings
 pub mod Facts
 pub mod Lines
+pub mod Faults
 pub mod OneMeaning
 pub mod Distinct

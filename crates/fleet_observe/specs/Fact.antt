@@ -24,6 +24,10 @@ kind_number NameError = 1
 kind_number NoData = 2
 kind_number Positive = 3
 
+-- a kind that denies: a name error or no data
+abbrev pub IsNegativeKind : ℕ → Type 0
+IsNegativeKind kind = (kind ≡ 1) ⊎ (kind ≡ 2)
+
 -- the moment at which it ends
 abbrev pub expires : Fact → ℕ
 expires o = o.stamp + o.life

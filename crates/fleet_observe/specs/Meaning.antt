@@ -27,11 +27,15 @@ pub record AsksWalk (r : Reply) : Type 0 where
 abbrev pub IsWalkable : Reply → Type 0
 IsWalkable r = HasWalk r.answer r.question.rtype r.question.name
 
--- why there is no digest, the first reason
+-- nothing is wrong with the reply: its question is served, and where it asks for a walk there is one
+abbrev pub IsSound : Reply → Type 0
+IsSound r = IsServed r × (AsksWalk r → IsWalkable r)
+
+-- why there is no digest, the first reason: want of memory only where nothing is wrong with the reply
 abbrev pub IsFault : Reply → DigestFault → Type 0
 IsFault r NotReply = ¬ IsServed r
 IsFault r BadChain = IsServed r × AsksWalk r × (¬ IsWalkable r)
-IsFault r OutOfMemory = IsServed r × (AsksWalk r → IsWalkable r)
+IsFault r OutOfMemory = IsSound r
 
 pub record IsSoaRecord (r : Told) : Type 0 where
   pub class : r.class ≡ 1
@@ -140,3 +144,10 @@ pub record IsMeaning (r : Reply) (d : Summary) : Type 0 where
   pub aa : d.aa ≡ r.header.aa
   pub tells : Tells r d.chain d.end
   pub authority : IsAuthority r d.ns
+
+-- nothing is wrong with a reply that means something, so none of its faults is told
+abbrev pub MeaningOrFault : Type 0
+MeaningOrFault = (r : Reply) (d : Summary) (f : DigestFault) → IsMeaning r d → IsFault r f → f ≡ OutOfMemory
+
+abbrev pub MeaningIsSound : Type 0
+MeaningIsSound = (r : Reply) (d : Summary) → IsMeaning r d → IsSound r

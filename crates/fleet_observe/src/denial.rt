@@ -39,7 +39,7 @@ fn minimum(rdata: &[u8]) -> u32
 }
 
 /// The SOA that counts for a denied name, if any.
-pub(crate) fn soa_for<A: Allocator + Clone>(
+pub(crate) fn soa_for<A: Allocator + Copy>(
     alloc: A,
     authority: &[Record<A>],
     denied: &Name<A>,

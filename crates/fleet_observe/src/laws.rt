@@ -1,6 +1,7 @@
 //! Laws of what replies tell. These functions do nothing when run.
 
 ghost use Rattle.fleet_observe.specs.Walk.{OneWalk};
+ghost use Rattle.fleet_observe.specs.Meaning.{MeaningIsSound, MeaningOrFault};
 ghost use Rattle.fleet_observe.specs.Observed.{OneMeaning, OneObserved, EachOnce};
 
 /// There is one walk at most.
@@ -12,6 +13,12 @@ pub fn one_walk()
 pub fn one_meaning()
     ensures meaning { OneMeaning }
     ensures observed { OneObserved }
+{}
+
+/// Nothing is wrong with a reply that means something: a reply has a meaning or a fault, and not both.
+pub fn meaning_or_fault()
+    ensures sound { MeaningIsSound }
+    ensures fault { MeaningOrFault }
 {}
 
 /// The observations of a reply at a moment come each once: no two of them are equal.

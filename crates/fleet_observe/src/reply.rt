@@ -46,10 +46,7 @@ fn is_answered(rcode: u8) -> bool
 ///
 /// In this order: `NotReply` where it is no reply or one to a question that is not served; `BadChain` where a walk is
 /// asked for (TC clear, RCODE 0 or 3) and there is none: aliases that fork or loop, or a ninth link; `OutOfMemory`.
-pub fn digest<A: Allocator + Clone>(
-    alloc: A,
-    message: &Message<A>,
-) -> Result<Digest<A>, DigestFault>
+pub fn digest<A: Allocator + Copy>(alloc: A, message: &Message<A>) -> Result<Digest<A>, DigestFault>
     ensures { MatchResult result (IsMeaning message.now) (IsFault message.now) }
 {
     if !is_served(message) {

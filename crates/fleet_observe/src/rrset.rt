@@ -26,20 +26,20 @@ pub struct RrSet<A: Allocator = Global> {
 }
 
 /// Whether the record is of the RRset at this name, in full, and type.
-pub(crate) fn belongs<A: Allocator>(record: &Record<A>, name: &[u8], rtype: u16) -> bool
+pub(crate) fn belongs<A: Allocator>(candidate: &Record<A>, name: &[u8], rtype: u16) -> bool
     requires { SpellsName name.now }
-    ensures { IsTrue result ↔ Belongs (labels_of name.now) rtype (told record.now) }
+    ensures { IsTrue result ↔ Belongs (labels_of name.now) rtype (told candidate.now) }
 {
-    if record.class != 1 {
+    if candidate.class != 1 {
         return false;
     }
-    if record.rtype != rtype {
+    if candidate.rtype != rtype {
         return false;
     }
     if !is_data_type(rtype) {
         return false;
     }
-    record.name.octets() == name
+    candidate.name.octets() == name
 }
 
 /// A TTL as it is read: zero with its top bit set (RFC 2181 8), and at most a day.
@@ -93,7 +93,7 @@ fn place<A: Allocator>(rdatas: &[Octets<A>], rdata: &[u8]) -> usize
 }
 
 // Adds an RDATA at its place, if it is not there.
-fn add<A: Allocator + Clone>(
+fn add<A: Allocator + Copy>(
     alloc: A,
     rdatas: &mut Vec<Octets<A>, A>,
     rdata: &[u8],
@@ -111,7 +111,7 @@ fn add<A: Allocator + Clone>(
 }
 
 /// The RRset at this name and type, where there is one.
-pub(crate) fn gather<A: Allocator + Clone>(
+pub(crate) fn gather<A: Allocator + Copy>(
     alloc: A,
     section: &[Record<A>],
     owner: &Name<A>,
@@ -121,10 +121,10 @@ pub(crate) fn gather<A: Allocator + Clone>(
     ensures { IfOk result (λ x. IsRrSet (all_told section.now) owner.now rtype (set_of x)) }
 {
     let name = owner.octets();
-    let mut rdatas = Vec::new(alloc.clone()?);
+    let mut rdatas = Vec::new(alloc);
     for record in section {
         if belongs(record, name, rtype) {
-            add(alloc.clone()?, &mut rdatas, record.rdata.as_slice())?;
+            add(alloc, &mut rdatas, record.rdata.as_slice())?;
         }
     }
     Ok(RrSet {

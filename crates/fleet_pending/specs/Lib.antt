@@ -9,3 +9,7 @@ pub mod Due
 pub mod Calls
 pub mod Refusal
 pub mod Undone
+pub mod Settled
+pub mod NewEntry
+pub mod Waiting
+pub mod DueCount

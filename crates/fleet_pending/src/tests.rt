@@ -33,9 +33,6 @@ fn ask(
         port,
     };
     let moment = Moment::new(seconds).ok_or("moment")?;
-    if question.class != 1 {
-        return Err("class".into());
-    }
     let waiter = Waiter { from, id, question };
     Ok(table.ask(waiter, moment, word))
 }

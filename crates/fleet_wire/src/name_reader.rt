@@ -139,8 +139,8 @@ pub(crate) fn name_of<A: Allocator>(alloc: A, spelled: &Spelled) -> Result<Name<
 }
 
 // The name at a place of a message, and where it ends there.
-pub(crate) fn read_name<A: Allocator + Clone>(
-    alloc: &A,
+pub(crate) fn read_name<A: Allocator + Copy>(
+    alloc: A,
     message: &[u8],
     offset: usize,
 ) -> Result<(Name<A>, usize), ReadFault>
@@ -148,6 +148,6 @@ pub(crate) fn read_name<A: Allocator + Clone>(
     ensures fault { IfErr result (λ f. OrMemory f (NameFails message.now offset f)) }
 {
     let spelled = spelled_at(message, offset)?;
-    let name = name_of(alloc.clone()?, &spelled)?;
+    let name = name_of(alloc, &spelled)?;
     Ok((name, spelled.end))
 }

@@ -35,8 +35,8 @@ pub(crate) fn counted_header(message: &[u8]) -> Result<Header, ReadFault>
 }
 
 // The question of a name that was spelled.
-fn question_of<A: Allocator + Clone>(
-    alloc: &A,
+fn question_of<A: Allocator + Copy>(
+    alloc: A,
     spelled: &Spelled,
     rtype: u16,
     class: u16,
@@ -45,8 +45,8 @@ fn question_of<A: Allocator + Clone>(
     requires counted { spelled.now.labels ≡ length (labels_of spelled.now.octets.items) }
     ensures { IfOk result (λ q. asked q ≡ record { spelled = spelled.now.octets.items; name = lower_all (labels_of spelled.now.octets.items); rtype = rtype; class = class }) }
 {
-    let name = name_of(alloc.clone()?, spelled)?;
-    let octets = Octets::copy_of(alloc.clone()?, spelled.octets.as_slice())?;
+    let name = name_of(alloc, spelled)?;
+    let octets = Octets::copy_of(alloc, spelled.octets.as_slice())?;
     Ok(Question {
         spelled: octets,
         name,
@@ -56,8 +56,8 @@ fn question_of<A: Allocator + Clone>(
 }
 
 // The question at a place of a message, and where it ends.
-pub(crate) fn read_question<A: Allocator + Clone>(
-    alloc: &A,
+pub(crate) fn read_question<A: Allocator + Copy>(
+    alloc: A,
     message: &[u8],
     offset: usize,
 ) -> Result<(Question<A>, usize), ReadFault>
@@ -82,7 +82,7 @@ pub(crate) fn read_question<A: Allocator + Clone>(
 /// The first fault is told: `TooShort` under 12 octets, `TooLong` over 512, `QuestionCount` where
 /// there is not one question, then what the question's name meets, and `Truncated` where its type
 /// or class is cut off. `OutOfMemory` is told only where there is none of these.
-pub fn read_query<A: Allocator + Clone>(
+pub fn read_query<A: Allocator + Copy>(
     alloc: A,
     message: &[u8],
 ) -> Result<(Header, Question<A>), ReadFault>
@@ -93,7 +93,7 @@ pub fn read_query<A: Allocator + Clone>(
     ensures memory { IfErr result (λ f. f ≡ OutOfMemory → HasQuery message.now) }
 {
     let header = counted_header(message)?;
-    let (question, _) = read_question(&alloc, message, 12)?;
+    let (question, _) = read_question(alloc, message, 12)?;
     Ok((header, question))
 }
 

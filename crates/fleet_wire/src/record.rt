@@ -27,8 +27,8 @@ pub struct Record<A: Allocator = Global> {
 }
 
 // The record at a place, and where it ends.
-fn read_record<A: Allocator + Clone>(
-    alloc: &A,
+fn read_record<A: Allocator + Copy>(
+    alloc: A,
     message: &[u8],
     offset: usize,
 ) -> Result<(Record<A>, usize), ReadFault>
@@ -60,8 +60,8 @@ fn read_record<A: Allocator + Clone>(
 }
 
 // So many records at a place in a row, and where they end.
-pub(crate) fn read_records<A: Allocator + Clone>(
-    alloc: &A,
+pub(crate) fn read_records<A: Allocator + Copy>(
+    alloc: A,
     message: &[u8],
     offset: usize,
     count: u16,
@@ -70,7 +70,7 @@ pub(crate) fn read_records<A: Allocator + Clone>(
     ensures counted { IfOk result (λ r. length (all_told r.0.items) ≡ count) }
     ensures fault { IfErr result (λ f. OrMemory f (RecordsFail message.now offset count f)) }
 {
-    let mut records = Vec::new(alloc.clone()?);
+    let mut records = Vec::new(alloc);
     let mut at = offset;
     for _ in 0..count {
         let (record, past) = read_record(alloc, message, at)?;

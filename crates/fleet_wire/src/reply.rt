@@ -12,7 +12,7 @@ use crate::record::read_records;
 use std::alloc::Allocator;
 
 // A whole reply.
-fn reply_at<A: Allocator + Clone>(alloc: &A, message: &[u8]) -> Result<Message<A>, ReadFault>
+fn reply_at<A: Allocator + Copy>(alloc: A, message: &[u8]) -> Result<Message<A>, ReadFault>
     ensures found { IfOk result (λ r. IsReply message.now r) }
     ensures fault { IfErr result (λ f. OrMemory f (ReplyFails message.now f)) }
     ensures memory { IfErr result (λ f. f ≡ OutOfMemory → HasQuery message.now) }
@@ -20,8 +20,8 @@ fn reply_at<A: Allocator + Clone>(alloc: &A, message: &[u8]) -> Result<Message<A
     let header = counted_header(message)?;
     let (question, past) = read_question(alloc, message, 12)?;
     if header.tc {
-        let answer = Vec::new(alloc.clone()?);
-        let authority = Vec::new(alloc.clone()?);
+        let answer = Vec::new(alloc);
+        let authority = Vec::new(alloc);
         return Ok(Message::of_parts(header, question, answer, authority));
     }
     let (answer, middle) = read_records(alloc, message, past, header.counts[1])?;
@@ -37,11 +37,11 @@ fn reply_at<A: Allocator + Clone>(alloc: &A, message: &[u8]) -> Result<Message<A
 /// what its name meets, `Truncated` where its ten fixed octets or its RDATA pass the end, then what
 /// the parts of its RDATA meet, and `BadRdata` where they end at another octet than it does.
 /// `OutOfMemory` is told at the growth that met it, behind a question without a fault.
-pub fn read_reply<A: Allocator + Clone>(alloc: A, message: &[u8]) -> Result<Message<A>, ReadFault>
+pub fn read_reply<A: Allocator + Copy>(alloc: A, message: &[u8]) -> Result<Message<A>, ReadFault>
     ensures found { IfOk result (λ r. IsReply message.now r) }
     ensures fault { IfErr result (λ f. OrMemory f (ReplyFails message.now f)) }
     ensures only { (r : Reply) → IsReply message.now r → IfErr result (λ f. f ≡ OutOfMemory) }
     ensures memory { IfErr result (λ f. f ≡ OutOfMemory → HasQuery message.now) }
 {
-    reply_at(&alloc, message)
+    reply_at(alloc, message)
 }

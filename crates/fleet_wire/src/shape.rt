@@ -74,8 +74,8 @@ fn append_name<A: Allocator>(
 }
 
 // The parts at a place, with each name in full, and where they end.
-fn read_parts<A: Allocator + Clone>(
-    alloc: &A,
+fn read_parts<A: Allocator + Copy>(
+    alloc: A,
     message: &[u8],
     parts: &[Part],
     offset: usize,
@@ -84,7 +84,7 @@ fn read_parts<A: Allocator + Clone>(
     ensures found { IfOk result (λ r. PartsAt message.now parts.now offset r.0.items r.1) }
     ensures fault { IfErr result (λ f. OrMemory f (PartsFail message.now parts.now offset f)) }
 {
-    let mut octets = Vec::new(alloc.clone()?);
+    let mut octets = Vec::new(alloc);
     let mut at = offset;
     for part in parts {
         match part {
@@ -99,8 +99,8 @@ fn read_parts<A: Allocator + Clone>(
 }
 
 // So many octets of RDATA of a type at a place, with each name in full.
-pub(crate) fn read_rdata<A: Allocator + Clone>(
-    alloc: &A,
+pub(crate) fn read_rdata<A: Allocator + Copy>(
+    alloc: A,
     message: &[u8],
     at: usize,
     count: usize,
@@ -112,7 +112,7 @@ pub(crate) fn read_rdata<A: Allocator + Clone>(
 {
     let Some(parts) = parts_of(rtype) else {
         let octets = plain_at(message, at, count)?;
-        return Ok(Octets::copy_of(alloc.clone()?, octets)?);
+        return Ok(Octets::copy_of(alloc, octets)?);
     };
     let (octets, end) = read_parts(alloc, message, parts, at)?;
     if end != at + count {

@@ -6,7 +6,7 @@ use Rattle.fleet_gossip.proofs.body.read_rdatas.Goals as goal
 
 pub returns-in_err-rdata-clause-fault : goal.returns-in_err-rdata-clause-fault
 returns-in_err-rdata-clause-fault g c =
-    let r = c.from_residual-in_err-rdata in let p = err_from_is_err_and r.result r.ensures.1 in let i = c.loop.invariant in
+    let r = c.from_residual in let p = err_from_is_err_and r.result r.ensures.1 in let i = c.loop.invariant in
     rw (p.1, p.2) (inr (next_cut c.args.rtype c.args.count _ c.loop.reader c.loop.rdatas.items i.first i.whole (omega (arith, i.counted)) _ c.in_err-rdata.ensures))
 
 pub returns-then-not-is_next-clause-fault : goal.returns-then-not-is_next-clause-fault

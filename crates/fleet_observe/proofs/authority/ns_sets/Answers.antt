@@ -6,7 +6,7 @@ use Rattle.fleet_observe.specs.Meaning.{owners_of, IsRepeated}
 use Rattle.fleet_observe.proofs.Sections.{told_member, told-item, told-all, sets_of-append}
 use Rattle.fleet_observe.proofs.Owners.{ns_in, owners_of-append, owners_new, owners_same, owner_known, owner_kept, each_more}
 use Rattle.fleet_observe.proofs.authority.ns_sets.Goals as goal
-use Rattle.fleet_observe.proofs.authority.ns_sets.Goals.{then-is_ns+then-not-owns+in_ok-clone-2+in_ok-set+in_ok-push, else-is_ns, else-is_ns-via-then-is_ns+else-not-owns, else-is_ns-via-else-is_ns}
+use Rattle.fleet_observe.proofs.authority.ns_sets.Goals.{then-is_ns+then-not-owns+in_ok-set+in_ok-push, else-is_ns, else-is_ns-via-then-is_ns+else-not-owns, else-is_ns-via-else-is_ns}
 
 pub loop-record-init : goal.loop-record-init
 loop-record-init g c = rw c.new-sets.ensures.items (record { owners = refl; each = λ x h. absurd h })
@@ -25,7 +25,7 @@ loop-record-preserved g c =
     let e = told-item xs i item within c.record-item.is in
     let seen = all_told (take i xs) in
     elim c.if-is_ns.branch [
-      | then-is_ns+then-not-owns+in_ok-clone-2+in_ok-set+in_ok-push w ↦
+      | then-is_ns+then-not-owns+in_ok-set+in_ok-push w ↦
           let ns = c.is_ns.ensures.0 w.if-is_ns.true in
           let new : ¬ IsRepeated q seen (told item) = λ r.
           elim (owner_kept q [] seen (owners_of (sets_of sets)) r.earlier inv.owners r.member r.ns) [

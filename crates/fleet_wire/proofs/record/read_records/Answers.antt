@@ -8,7 +8,7 @@ use Rattle.fleet_wire.proofs.record.read_records.Goals as goal
 
 pub returns-in_err-record-clause-fault : goal.returns-in_err-record-clause-fault
 returns-in_err-record-clause-fault g c =
-    let r = c.from_residual-in_err-record in let p = err_from_is_err_and r.result r.ensures.1 in
+    let r = c.from_residual in let p = err_from_is_err_and r.result r.ensures.1 in
     let i = c.loop.invariant in
     rw (p.1, p.2) (or_mapped _ _ _ (λ h. (all_told c.loop.records.items, c.loop.at, i.found, omega (arith, i.counted), h)) c.in_err-record.ensures.fault)
 

@@ -1,0 +1,24 @@
+-- Places of a list.
+use Rattle.std.specs.Prelude.{◌≡◌, ℕ, List, Option, Some, None, slice_get}
+
+-- x stands at the place i
+abbrev pub At : {X : Type 0} → List X → ℕ → X → Type 0
+At xs i x = slice_get xs i ≡ Some x
+
+-- none is like this
+abbrev pub NoneIs : {X : Type 0} → (X → Type 0) → List X → Type 0
+NoneIs {X} P xs = (i : ℕ) (x : X) → At xs i x → P x → ⊥
+
+-- no two are alike
+abbrev pub NoTwo : {X : Type 0} → (X → X → Type 0) → List X → Type 0
+NoTwo {X} Alike xs = (i j : ℕ) (x y : X) → At xs i x → At xs j y → Alike x y → i ≡ j
+
+-- one that is like this, or none is
+abbrev pub Finds : {X : Type 0} → (X → Type 0) → List X → Option X → Type 0
+Finds P xs None = NoneIs P xs
+Finds P xs (Some x) = (i : ℕ) × At xs i x × P x
+
+-- the place of one that is like this, or none is
+abbrev pub IsPlace : {X : Type 0} → (X → Type 0) → List X → Option ℕ → Type 0
+IsPlace P xs None = NoneIs P xs
+IsPlace {X} P xs (Some i) = (x : X) × At xs i x × P x
