@@ -1,9 +1,7 @@
 -- What an event makes of the site at which it happens.
 use Rattle.std.specs.Prelude.{◌≡◌, ◌≢◌, ℕ, max, List, [], ◌++◌, Option, Some, None, Result, Ok, Err}
 use Rattle.fleet_observe.specs.Fact.{Fact, AreFacts}
-use Rattle.fleet_cache.specs.Cached.{IsCached}
-use Rattle.fleet_gossip.specs.Packed.{IsPacked}
-use Rattle.fleet_pending.specs.Places.{At}
+use Rattle.fleet_name.specs.Places.{At}
 use Rattle.fleet_site.specs.Choice.{when◌then◌otherwise◌}
 use Rattle.fleet_site.specs.Effect.{nothing, effect}
 use Rattle.fleet_site.specs.Merge.{Merges}
@@ -11,6 +9,7 @@ use Rattle.fleet_site.specs.SiteModel.{SiteModel}
 use Rattle.fleet_site.specs.StandsFor.{opening as site_at_first}
 use Rattle.fleet_site.specs.Step.{Call, datagram, tick, frame, learn}
 use Rattle.fleet_site.specs.Step.{Step as SiteStep}
+use Rattle.fleet_site.specs.Sweep.{IsSweep}
 use Rattle.fleet_site.specs.declared.outcome.Outcome.{Outcome}
 use Rattle.fleet_site.specs.declared.outcome.Refusal.{Refusal}
 use Rattle.fleet_site.specs.declared.outcome.SiteFault.{SiteFault}
@@ -50,20 +49,16 @@ pub record Delivers {A : Type 0} (m : FleetModel) (now number : ℕ) (r : Result
   pub calls : Calls (frame now octets) r a read
   pub delivered : b ≡ with_delivery_by r m.sweeps number read
 
--- the items of the site's cache go out packed, and nothing else is said
+-- the frames of all that the site holds go out, and nothing else is said
 pub record Sweeps {A : Type 0} (o : Outcome A) (a : Replica) : Type 0 where
-  pub items : List Fact
-  pub cached : IsCached a.site.taken a.site.floor items
-  pub packed : IsPacked items o.frames
+  pub sweep : IsSweep a.site o.frames
   pub says : effect o ≡ record nothing { frames = o.frames }
 
 -- all that another site took in and heard of joins, and so many of its items were given
 pub record MergesAll (m : FleetModel) (from count : ℕ) (a b : Replica) : Type 0 where
   pub other : Replica
   pub there : At m.sites from other
-  pub items : List Fact
-  pub cached : IsCached other.site.taken other.site.floor items
-  pub merges : Merges a.site other.site items (Ok count) b.site
+  pub merges : Merges a.site other.site (Ok count) b.site
   pub heard : b.heard ≡ other.heard ++ a.heard
   pub delivered : b.delivered ≡ a.delivered
   pub horizon : b.horizon ≡ max a.horizon other.horizon
@@ -72,9 +67,7 @@ pub record MergesAll (m : FleetModel) (from count : ℕ) (a b : Replica) : Type 
 pub record MergesFirst (m : FleetModel) (from count : ℕ) (a b : Replica) : Type 0 where
   pub other : Replica
   pub there : At m.sites from other
-  pub items : List Fact
-  pub cached : IsCached other.site.taken other.site.floor items
-  pub merges : Merges a.site other.site items (Err (OutOfMemory count)) b.site
+  pub merges : Merges a.site other.site (Err (OutOfMemory count)) b.site
   pub joins : Joins a b
 
 -- the site as it was at first
