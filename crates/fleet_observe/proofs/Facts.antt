@@ -1,14 +1,13 @@
 -- Which observations are kept, and that these are lawful.
-use Rattle.std.proofs.Common.{◌≡◌, ◌≢◌, ℕ, ◌^◌, ◌<◌, ◌≤◌, ◌∙◌, ◌⊎◌, inl, inr, Bool, true, false, nat_eq, nat_lt, List, [], ◌∷◌, ◌++◌, length, ap, sym, refl, subst, arith, append_assoc, append-nil, cond, Option, Some, None, Result, Ok, Err}
+use Rattle.std.proofs.Common.{◌≡◌, ◌≢◌, ℕ, ◌^◌, ◌<◌, ◌≤◌, ◌∙◌, ◌⊎◌, inl, inr, Bool, true, false, nat_eq, nat_lt, List, [], ◌∷◌, ◌++◌, length, ap, sym, refl, subst, arith, append_assoc, append-nil, cond, Option, Some, None}
 use Rattle.std.proofs.lemmas.Bool.Decides.{nat_tests}
-use Rattle.std.specs.Result.{IfErr}
 use Rattle.fleet_name.specs.Name.{labels_of, IsName}
 use Rattle.fleet_observe.specs.declared.fault.ObservationFault.{ObservationFault}
 use Rattle.fleet_observe.specs.declared.fault.ObservationFault.TheVariants.{BadRank, BadLife, BadKind, BadBody}
 use Rattle.fleet_observe.specs.Members.{Has}
 use Rattle.fleet_observe.specs.Body.{positive_body}
 use Rattle.fleet_observe.specs.Fact.{Fact, IsFact, AreFacts, IsRank, IsNegativeRank, IsDataType}
-use Rattle.fleet_observe.specs.Checks.{IsPositiveFault, IsNegativeFault, IsDeniedType}
+use Rattle.fleet_observe.specs.Checks.{IsNegativeFault, IsDeniedType}
 use Rattle.fleet_observe.specs.RrSet.{Set, sets_of, SpellsName}
 use Rattle.fleet_observe.specs.declared.rrset.RrSet.{RrSet}
 use Rattle.fleet_observe.specs.Digest.{SoaSet, Ending, WithRecords, WithoutData, WithoutName, WithCode, CutOff, Summary, denied_by, target_of, first_or, IsLawfulSet, IsLawfulLink, IsLawfulSoa, IsLawful, IsLawfulEnd}
@@ -251,8 +250,3 @@ pub ns_some : (stamp : ℕ) (sets : List Set) (x : Set) → Has sets x → posit
 ns_some stamp [] x has some = absurd has
 ns_some stamp (y ∷ ys) x (inl e) some = some_front _ _ (subst (λ (z : Set). positive_facts z 2 stamp ≢ []) (sym e) some)
 ns_some stamp (y ∷ ys) x (inr h) some = some_back _ _ (ns_some stamp ys x h some)
-
--- what is so is so where there is an error
-pub if_err : {X E : Type 0} (P : Type 0) (r : Result X E) → P → IfErr r (λ _. P)
-if_err P (Ok x) is = tt
-if_err P (Err e) is = is

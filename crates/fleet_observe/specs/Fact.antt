@@ -39,6 +39,10 @@ key_at name kind rtype = wire name ++ kind ∷ u16_octets rtype
 abbrev pub key_of : Fact → List ℕ
 key_of o = key_at o.name o.kind o.rtype
 
+-- a key is of one name, one kind and one type
+abbrev pub OneKey : Type 0
+OneKey = (n m : List (List ℕ)) (k j r q : ℕ) → key_at n k r ≡ key_at m j q → (n ≡ m) × (k ≡ j) × (r ≡ q)
+
 -- a rank
 abbrev pub IsRank : ℕ → Type 0
 IsRank rank = (1 ≤ rank) × (rank ≤ 3)

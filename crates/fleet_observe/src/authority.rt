@@ -1,11 +1,11 @@
 //! The NS RRsets that a reply is an authority for.
 
-ghost use Rattle.std.specs.Prelude.{◌≡◌, ℕ, List, IfOk, IsTrue, ◌↔◌};
+ghost use Rattle.std.specs.Prelude.{◌≡◌, ℕ, List, IfOk, IfErr, IsTrue, ◌↔◌};
 ghost use Rattle.fleet_wire.specs.Record.{told, all_told};
 ghost use Rattle.fleet_wire.specs.Message.{IsRead};
 ghost use Rattle.fleet_observe.specs.Members.{Has};
 ghost use Rattle.fleet_observe.specs.RrSet.{sets_of};
-ghost use Rattle.fleet_observe.specs.Meaning.{IsNs, owners_of, AreNsSets, HasAuthority, IsAuthority};
+ghost use Rattle.fleet_observe.specs.Meaning.{IsNs, HasNs, owners_of, AreNsSets, HasAuthority, IsAuthority};
 
 use crate::rrset::{RrSet, gather};
 use fleet_name::Name;
@@ -46,7 +46,8 @@ fn ns_sets<A: Allocator + Copy>(
     authority: &[Record<A>],
     name: &Name<A>,
 ) -> Result<Vec<RrSet<A>, A>, AllocError>
-    ensures { IfOk result (λ v. AreNsSets name.now (all_told authority.now) (sets_of v.items)) }
+    ensures sets { IfOk result (λ v. AreNsSets name.now (all_told authority.now) (sets_of v.items)) }
+    ensures memory { IfErr result (λ _. HasNs name.now (all_told authority.now)) }
 {
     let mut sets = Vec::new(alloc);
     for record in authority {
@@ -63,7 +64,8 @@ pub(crate) fn authority_sets<A: Allocator + Copy>(
     alloc: A,
     message: &Message<A>,
 ) -> Result<Vec<RrSet<A>, A>, AllocError>
-    ensures { IfOk result (λ v. IsAuthority message.now (sets_of v.items)) }
+    ensures sets { IfOk result (λ v. IsAuthority message.now (sets_of v.items)) }
+    ensures memory { IfErr result (λ _. HasAuthority message.now × HasNs message.now.question.name message.now.authority) }
 {
     let header = message.header();
     if header.tc || !header.aa || header.rcode != 0 {

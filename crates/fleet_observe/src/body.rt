@@ -81,7 +81,7 @@ fn push_short<B: Allocator>(octets: &mut Vec<u8, B>, number: usize) -> Result<()
     requires { number < 65536 }
     ensures { OnOk result (octets.new.items ≡ octets.old.items ++ u16_octets number) }
 {
-    octets.extend_from_slice(&[(number / 256) as u8, (number % 256) as u8])
+    octets.extend_from_slice(&(number as u16).to_be_bytes())
 }
 
 // Adds octets behind their number.

@@ -1,8 +1,14 @@
 //! Laws of what replies tell. These functions do nothing when run.
 
+ghost use Rattle.fleet_observe.specs.Fact.{OneKey};
 ghost use Rattle.fleet_observe.specs.Walk.{OneWalk};
 ghost use Rattle.fleet_observe.specs.Meaning.{MeaningIsSound, MeaningOrFault};
 ghost use Rattle.fleet_observe.specs.Observed.{OneMeaning, OneObserved, EachOnce};
+
+/// A key is of one name, one kind and one type.
+pub fn one_key()
+    ensures { OneKey }
+{}
 
 /// There is one walk at most.
 pub fn one_walk()

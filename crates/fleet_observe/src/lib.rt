@@ -31,7 +31,7 @@ pub use checks::{
 };
 pub use fault::ObservationFault;
 pub use kind::Kind;
-pub use laws::{each_once, meaning_or_fault, one_meaning, one_walk};
+pub use laws::{each_once, meaning_or_fault, one_key, one_meaning, one_walk};
 pub use moment::Moment;
 pub use observation::Observation;
 pub use observed::observations;

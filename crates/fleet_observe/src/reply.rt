@@ -53,13 +53,15 @@ pub fn digest<A: Allocator + Copy>(alloc: A, message: &Message<A>) -> Result<Dig
         return Err(DigestFault::NotReply);
     }
     let header = message.header();
+    let question = message.question();
     if header.tc {
-        return Ok(short(alloc, message, End::Truncated)?);
+        let name = question.name.try_clone()?;
+        return Ok(short(alloc, message, name, End::Truncated));
     }
     if !is_answered(header.rcode) {
-        return Ok(short(alloc, message, End::Code(header.rcode))?);
+        let name = question.name.try_clone()?;
+        return Ok(short(alloc, message, name, End::Code(header.rcode)));
     }
-    let question = message.question();
     if !has_walk(message.answer(), question.name.octets(), question.rtype) {
         return Err(DigestFault::BadChain);
     }

@@ -6,7 +6,7 @@ ghost use Rattle.fleet_wire.specs.Record.{told, all_told};
 ghost use Rattle.fleet_observe.specs.Members.{Has, IsAscending};
 ghost use Rattle.fleet_observe.specs.RrSet.{SpellsName, Belongs, InSet, IsTtl, IsRrSet, read_ttl, set_of, count_below};
 
-use crate::checks::is_data_type;
+use crate::checks::{LONGEST_LIFE, is_data_type};
 use crate::rdatas::Rdatas;
 use fleet_name::{Name, Octets};
 use fleet_wire::Record;
@@ -49,7 +49,7 @@ pub(crate) fn bounded(ttl: u32) -> u32
     if ttl >= 0x8000_0000 {
         0
     } else {
-        ttl.min(86400)
+        ttl.min(LONGEST_LIFE)
     }
 }
 
@@ -59,7 +59,7 @@ fn least_ttl<A: Allocator>(section: &[Record<A>], name: &[u8], rtype: u16) -> u3
     requires some { (d : List ℕ) × InSet (all_told section.now) (labels_of name.now) rtype d }
     ensures { IsTtl (all_told section.now) (labels_of name.now) rtype result }
 {
-    let mut least = 86400;
+    let mut least = LONGEST_LIFE;
     for record in section {
         if belongs(record, name, rtype) {
             least = bounded(record.ttl).min(least);

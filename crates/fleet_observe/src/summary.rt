@@ -148,26 +148,27 @@ fn end_of<A: Allocator + Copy>(
     Ok(End::NxDomain(soa))
 }
 
-/// What a reply that asks for no walk tells.
+/// What a reply that asks for no walk tells, with a copy of the question's name. This takes no memory.
 pub(crate) fn short<A: Allocator + Copy>(
     alloc: A,
     message: &Message<A>,
+    name: Name<A>,
     end: End<A>,
-) -> Result<Digest<A>, AllocError>
+) -> Digest<A>
     requires served { IsServed message.now }
+    requires named { name ≡ message.now.question.name }
     requires tells { Tells message.now [] (ending_of end) }
     requires idle { ¬ AsksWalk message.now }
-    ensures { IfOk result (IsMeaning message.now) }
+    ensures { IsMeaning message.now result }
 {
-    let question = message.question();
-    Ok(Digest {
-        name: question.name.try_clone()?,
-        rtype: question.rtype,
+    Digest {
+        name,
+        rtype: message.question().rtype,
         aa: message.header().aa,
         chain: Vec::new(alloc),
         end,
         ns: Vec::new(alloc),
-    })
+    }
 }
 
 /// What a reply with a walk tells.

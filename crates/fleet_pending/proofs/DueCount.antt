@@ -8,7 +8,7 @@ use Rattle.fleet_pending.specs.Asking.{Settles, Advances, moved_on}
 use Rattle.fleet_pending.specs.Due.{IsFirstDue, NoneDue, due_at}
 use Rattle.fleet_pending.specs.DueCount.{CountsDue}
 use Rattle.fleet_pending.specs.Outstanding.{Open, Outstanding, IsOutstanding, UsesId}
-use Rattle.fleet_pending.specs.Places.{At}
+use Rattle.fleet_name.specs.Places.{At}
 use Rattle.fleet_pending.proofs.Placed.{same_at}
 
 -- 1 for an entry that is due, 0 for another

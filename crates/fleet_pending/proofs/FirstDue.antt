@@ -2,7 +2,7 @@
 use Rattle.std.proofs.Common.{◌≡◌, ℕ, ◌+◌, ◌<◌, ◌≤◌, ◌⊎◌, inl, inr, List, Option, Some, None, length, refl, sym, ◌∙◌, subst, ap, arith, ◌≢◌, MatchOption, Bor, map}
 use Rattle.std.proofs.lemmas.Option.{slice_get_within}
 use Rattle.std.proofs.lemmas.Bool.{cases_eq}
-use Rattle.fleet_pending.specs.Places.{At}
+use Rattle.fleet_name.specs.Places.{At}
 use Rattle.fleet_pending.specs.Entry.{opened, table}
 use Rattle.fleet_pending.specs.Due.{NotAfter, NoneDue, IsFirstDue}
 use Rattle.fleet_pending.specs.Outstanding.{Open, Outstanding, IsOutstanding, IsOpen}

@@ -3,7 +3,7 @@ use Rattle.std.proofs.Common.{◌≡◌, ℕ, zero, suc, ◌+◌, ◌<◌, ◌�
 use Rattle.std.specs.List.{remove}
 use Rattle.std.proofs.lemmas.List.Edits.{length-remove}
 use Rattle.std.proofs.lemmas.Option.{slice_get_within, same_Some}
-use Rattle.fleet_pending.specs.Places.{At, NoneIs, NoTwo}
+use Rattle.fleet_name.specs.Places.{At, NoneIs, NoTwo}
 use Rattle.fleet_pending.specs.Asker.{Asker, Waits, SameAsker}
 use Rattle.fleet_pending.specs.FreeId.{IsFirstFree}
 use Rattle.fleet_pending.specs.Outstanding.{Open, Outstanding, IsOutstanding, IsOpen, SameId, SameQuestion, UsesId, AsksFor}

@@ -6,7 +6,7 @@ use Rattle.fleet_pending.specs.Asking.{joins, opens, new_entry}
 use Rattle.fleet_pending.specs.FreeId.{IsFirstFree}
 use Rattle.fleet_pending.specs.NewEntry.{IsNew, OpensLast}
 use Rattle.fleet_pending.specs.Outstanding.{Open, Outstanding, UsesId}
-use Rattle.fleet_pending.specs.Places.{At, NoneIs}
+use Rattle.fleet_name.specs.Places.{At, NoneIs}
 use Rattle.fleet_pending.proofs.Placed.{at_push, last_at}
 
 alone_at : (es : List Open) (x : Open) (i : ℕ) (e : Open) → NoneIs (UsesId x.id) es → At (es ++ x ∷ []) i e → UsesId x.id e → e ≡ x

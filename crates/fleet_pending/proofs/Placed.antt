@@ -3,7 +3,7 @@ use Rattle.std.proofs.Common.{◌≡◌, ℕ, zero, suc, ◌+◌, ◌<◌, ◌�
 use Rattle.std.specs.List.{remove}
 use Rattle.std.proofs.lemmas.Option.{slice_get_within, same_Some, slice_get-get_or}
 use Rattle.std.proofs.lemmas.Bool.{cases_eq, cases_lt}
-use Rattle.fleet_pending.specs.Places.{At, NoneIs, NoTwo, IsPlace}
+use Rattle.fleet_name.specs.Places.{At, NoneIs, NoTwo, IsPlace}
 
 -- none of the first n is like this
 abbrev pub NoneBefore : {X : Type 0} → (X → Type 0) → List X → ℕ → Type 0

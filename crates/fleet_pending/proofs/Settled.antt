@@ -1,7 +1,7 @@
 -- What settling gives back.
 use Rattle.std.proofs.Common.{◌≡◌, Some, None, sym, ◌∙◌, subst, ap}
 use Rattle.std.specs.List.{remove}
-use Rattle.fleet_pending.specs.Places.{At}
+use Rattle.fleet_name.specs.Places.{At}
 use Rattle.fleet_pending.specs.Settled.{SettlesItsEntry}
 use Rattle.fleet_pending.proofs.Placed.{same_at}
 

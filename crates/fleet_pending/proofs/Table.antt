@@ -4,7 +4,7 @@ use Rattle.std.specs.List.{remove}
 use Rattle.std.proofs.lemmas.List.{length-map}
 use Rattle.std.proofs.lemmas.Option.{slice_get_within}
 use Rattle.fleet_wire.specs.Question.{Asked as Question}
-use Rattle.fleet_pending.specs.Places.{At, NoneIs, IsPlace, Finds}
+use Rattle.fleet_name.specs.Places.{At, NoneIs, IsPlace, Finds}
 use Rattle.fleet_pending.specs.Asker.{Asker}
 use Rattle.fleet_pending.specs.Entry.{opened, table}
 use Rattle.fleet_pending.specs.Outstanding.{Open, Outstanding, IsOutstanding, IsOpen, UsesId, AsksFor, Matches}

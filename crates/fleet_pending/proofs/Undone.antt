@@ -1,7 +1,7 @@
 -- A new entry that is given back at once.
 use Rattle.std.proofs.Common.{◌≡◌, ℕ, ◌⊎◌, inl, inr, List, [], ◌∷◌, ◌++◌, Option, Some, None, length, refl, ◌∙◌, subst, ap}
 use Rattle.std.specs.List.{remove}
-use Rattle.fleet_pending.specs.Places.{At, NoneIs}
+use Rattle.fleet_name.specs.Places.{At, NoneIs}
 use Rattle.fleet_pending.specs.FreeId.{IsFirstFree}
 use Rattle.fleet_pending.specs.Outstanding.{Open, Outstanding, UsesId}
 use Rattle.fleet_pending.specs.Asking.{Settles, joins, opens, new_entry}

@@ -2,7 +2,7 @@
 use Rattle.std.specs.Prelude.{◌≡◌, ℕ, ◌+◌, ◌<◌, ◌≤◌, ◌⊎◌, List, Option, Some, None, count_by, nat_le}
 use Rattle.fleet_pending.specs.Entry.{opened}
 use Rattle.fleet_pending.specs.Outstanding.{Open, Outstanding}
-use Rattle.fleet_pending.specs.Places.{At, NoneIs}
+use Rattle.fleet_name.specs.Places.{At, NoneIs}
 use Rattle.fleet_pending.specs.declared.answer.Due.{Due}
 use Rattle.fleet_pending.specs.declared.answer.Due.TheVariants.{Retry, Failed}
 

@@ -1,4 +1,3 @@
-pub mod Places
 pub mod Asker
 pub mod Waiter
 pub mod Outstanding

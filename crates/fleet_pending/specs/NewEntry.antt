@@ -3,7 +3,7 @@ use Rattle.std.specs.Prelude.{◌≡◌, ℕ, [], ◌∷◌, ◌++◌, Ok, lengt
 use Rattle.fleet_pending.specs.Asker.{Asker}
 use Rattle.fleet_pending.specs.Asking.{Asks, new_entry}
 use Rattle.fleet_pending.specs.Outstanding.{Open, Outstanding, UsesId}
-use Rattle.fleet_pending.specs.Places.{At, NoneIs}
+use Rattle.fleet_name.specs.Places.{At, NoneIs}
 use Rattle.fleet_pending.specs.declared.answer.Asked.TheVariants.{Send}
 
 -- at the first upstream, behind the others, alone under its id, and the asker its first waiter

@@ -2,7 +2,7 @@
 use Rattle.std.specs.Prelude.{◌≡◌, ℕ, ◌<◌, ◌≤◌, List, length}
 use Rattle.fleet_wire.specs.Question.{Asked}
 use Rattle.fleet_pending.specs.Asker.{Asker, SameAsker}
-use Rattle.fleet_pending.specs.Places.{At, NoTwo}
+use Rattle.fleet_name.specs.Places.{At, NoTwo}
 
 -- an open question: what it asks, under which id, which upstream, until when, and who waits
 pub record Open : Type 0 where

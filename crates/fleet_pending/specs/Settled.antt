@@ -3,7 +3,7 @@ use Rattle.std.specs.Prelude.{◌≡◌, ℕ, Option, Some}
 use Rattle.std.specs.List.{remove}
 use Rattle.fleet_pending.specs.Asking.{Settles}
 use Rattle.fleet_pending.specs.Outstanding.{Open, Outstanding, IsOutstanding, UsesId}
-use Rattle.fleet_pending.specs.Places.{At}
+use Rattle.fleet_name.specs.Places.{At}
 
 -- the entry that has this id, and it alone is taken out
 abbrev pub SettlesItsEntry : Type 0

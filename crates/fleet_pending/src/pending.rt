@@ -6,7 +6,7 @@ ghost use Rattle.fleet_pending.specs.Asking.{Asks, Opens, Settles, Advances, ask
 ghost use Rattle.fleet_pending.specs.Due.{Dues, due_at, opened_due};
 ghost use Rattle.fleet_pending.specs.Entry.{opened, opened_in};
 ghost use Rattle.fleet_pending.specs.Outstanding.{UsesId, AsksFor, Matches, IsOpen, IsOutstanding};
-ghost use Rattle.fleet_pending.specs.Places.{Finds};
+ghost use Rattle.fleet_name.specs.Places.{Finds};
 ghost use Rattle.fleet_pending.specs.Waiter.{asker};
 
 use crate::answer::{Asked, Due, PendingFault, Unasked};

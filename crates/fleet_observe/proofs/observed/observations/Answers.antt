@@ -1,6 +1,7 @@
 use Rattle.std.proofs.Common.{◌≡◌, ◌∙◌, append_assoc, refl}
 use Rattle.fleet_observe.specs.Observed.{link_facts, end_facts, ns_facts, observed_facts}
-use Rattle.fleet_observe.proofs.Facts.{observed_lawful, some_back, if_err}
+use Rattle.fleet_observe.proofs.Facts.{observed_lawful, some_back}
+use Rattle.fleet_observe.proofs.Results.{if_err}
 use Rattle.fleet_observe.proofs.observed.observations.Goals as goal
 
 pub returns-in_err-put_ns-clause-memory : goal.returns-in_err-put_ns-clause-memory

@@ -2,7 +2,8 @@ use Rattle.std.proofs.Common.{refl, arith}
 use Rattle.fleet_name.specs.Name.{labels_of}
 use Rattle.fleet_observe.specs.Checks.{denied_kind, denied_type}
 use Rattle.fleet_observe.specs.Digest.{soa_of}
-use Rattle.fleet_observe.proofs.Facts.{negative_kept, negative_made, negative_some, if_err}
+use Rattle.fleet_observe.proofs.Facts.{negative_kept, negative_made, negative_some}
+use Rattle.fleet_observe.proofs.Results.{if_err}
 use Rattle.fleet_observe.proofs.observed.put_denial.Goals as goal
 
 pub unreachable-requires : goal.unreachable-requires

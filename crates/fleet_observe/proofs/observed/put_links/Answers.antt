@@ -1,7 +1,8 @@
 use Rattle.std.proofs.Common.{◌<◌, ◌≤◌, length, take, arith, refl, append_assoc}
 use Rattle.fleet_observe.specs.RrSet.{set_of, sets_of}
 use Rattle.fleet_observe.proofs.Sections.{sets_item, sets_all, set_member}
-use Rattle.fleet_observe.proofs.Facts.{link_facts-push, link_some, if_err}
+use Rattle.fleet_observe.proofs.Facts.{link_facts-push, link_some}
+use Rattle.fleet_observe.proofs.Results.{if_err}
 use Rattle.fleet_observe.proofs.observed.put_links.Goals as goal
 
 pub put_set-requires-clause-lawful : goal.put_set-requires-clause-lawful

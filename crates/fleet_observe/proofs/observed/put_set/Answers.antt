@@ -1,5 +1,6 @@
 use Rattle.fleet_observe.specs.RrSet.{set_of}
-use Rattle.fleet_observe.proofs.Facts.{positive_some, if_err}
+use Rattle.fleet_observe.proofs.Facts.{positive_some}
+use Rattle.fleet_observe.proofs.Results.{if_err}
 use Rattle.fleet_observe.proofs.observed.put_set.Goals as goal
 
 pub returns-in_err-push-clause-memory : goal.returns-in_err-push-clause-memory
