@@ -4,7 +4,7 @@ use Rattle.std.proofs.lemmas.Option.{same_Some, slice_get-get_or}
 use Rattle.fleet_pending.specs.Asker.{Asker}
 use Rattle.fleet_pending.specs.Asking.{Settles}
 use Rattle.fleet_pending.specs.Outstanding.{Open, Outstanding, IsOutstanding}
-use Rattle.fleet_pending.specs.Places.{At}
+use Rattle.fleet_name.specs.Places.{At}
 use Rattle.fleet_pending.specs.Settled.{SettlesItsEntry}
 use Rattle.fleet_pending.specs.Waiter.{asker}
 use Rattle.fleet_pending.specs.Waiting.{IsWaiting}
@@ -29,10 +29,7 @@ of_class_one o i e class there = λ j w waits. class w (record { place = i; entr
 
 -- the entry that is given back is the one with the id
 pub settles_entry : SettlesItsEntry → (o n : Outstanding) (i id : ℕ) (e : Open) (r : Option Open) → IsOutstanding o → At o.entries i e → id ≡ e.id → Settles o id r n → Settles o e.id (Some e) n
-settles_entry gives o n i id e r lawful there is s =
-    let P : ℕ → Type 0 = λ k. Settles o k r n in
-    let back = gives o n i e r lawful there (subst P is s) in
-    (i, there, refl, back.1)
+settles_entry gives o n i id e r lawful there is s = (i, there, refl, (gives o n i id e r lawful there (sym is) s).1)
 
 at_read : {X : Type 0} (xs : List X) (i : ℕ) (x : X) → i < length xs → x ≡ get_or xs i x → At xs i x
 at_read xs i x l e = slice_get-get_or xs i x l ∙ ap (λ y. Some y) (sym e)

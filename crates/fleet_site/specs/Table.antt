@@ -2,7 +2,7 @@
 use Rattle.std.specs.Prelude.{◌≡◌, ℕ, List, length}
 use Rattle.fleet_pending.specs.Asker.{Asker}
 use Rattle.fleet_pending.specs.Outstanding.{Open, Outstanding, IsOutstanding}
-use Rattle.fleet_pending.specs.Places.{At}
+use Rattle.fleet_name.specs.Places.{At}
 use Rattle.fleet_pending.specs.Waiting.{IsWaiting}
 use Rattle.fleet_pending.specs.declared.waiter.Addr.{Addr}
 

@@ -1,17 +1,18 @@
 //! What a miss makes of the table of open questions.
 
-ghost use Rattle.std.specs.Prelude.{◌≡◌, ◌<◌, ◌≤◌, ℕ, ⊤, List, IfOk};
+ghost use Rattle.std.specs.Prelude.{◌≡◌, ◌<◌, ◌≤◌, ℕ, ⊤, List, IfOk, IfErr, OnErr};
 ghost use Rattle.fleet_wire.specs.Question.{asked};
 ghost use Rattle.fleet_observe.specs.Fact.{Fact};
 ghost use Rattle.fleet_cache.specs.Cached.{IsCached};
-ghost use Rattle.fleet_pending.specs.Asking.{asked_or_fault};
+ghost use Rattle.fleet_pending.specs.Asking.{Asks, asked_or_fault};
 ghost use Rattle.fleet_pending.specs.Outstanding.{Open, IsOpen, UsesId};
-ghost use Rattle.fleet_pending.specs.Places.{At};
+ghost use Rattle.fleet_name.specs.Places.{At};
+ghost use Rattle.fleet_pending.specs.Waiter.{asker};
 ghost use Rattle.fleet_pending.specs.declared.answer.PendingFault.TheVariants.{OutOfMemory as NoRoom};
 ghost use Rattle.fleet_site.specs.Carried.{Keeps, IsAskable, IsAnswered, TurnsAway, IsQueryOf};
 ghost use Rattle.fleet_site.specs.Effect.{effect, sending};
 ghost use Rattle.fleet_site.specs.Question.{Reacts, Forwards, Questioned, turned_away};
-ghost use Rattle.fleet_site.specs.Table.{IsTableOf, AskClassOne};
+ghost use Rattle.fleet_site.specs.Table.{IsTableOf, KeepsTable, AskClassOne};
 ghost use Rattle.fleet_site.specs.Verdict.{IsAsking, verdict};
 
 use crate::config::addr_of;
@@ -48,7 +49,7 @@ pub(crate) fn take_question<A: Allocator + Copy>(
     requires reached { cache.now.floor ≤ arrival.clock }
     requires table { IsTableOf upstreams.now pending.old }
     ensures questioned { (s : List Fact) → IsCached s cache.now.floor cache.now.items → Keeps (Questioned s upstreams.now pending.old arrival.clock arrival.from arrival.word octets.now) (IsAsking octets.now) pending.old result pending.new }
-    ensures table { IsTableOf upstreams.now pending.new }
+    ensures table { KeepsTable pending.old pending.new }
 {
     match decide(alloc, cache, arrival.clock, octets) {
         Ok(decision) => react(alloc, pending, upstreams, arrival, decision),
@@ -67,7 +68,7 @@ fn react<A: Allocator + Copy>(
     requires askable { IsAskable decision }
     requires table { IsTableOf upstreams.now pending.old }
     ensures reacts { Keeps (Reacts upstreams.now pending.old arrival.clock arrival.from arrival.word (verdict decision)) (IsAnswered decision) pending.old result pending.new }
-    ensures table { IsTableOf upstreams.now pending.new }
+    ensures table { KeepsTable pending.old pending.new }
 {
     match decision {
         Decision::Dropped => Ok(Outcome::silent(alloc, 0, Some(Refusal::Dropped))),
@@ -100,17 +101,14 @@ fn forward<A: Allocator + Copy>(
     requires class { question.class ≡ 1 }
     requires table { IsTableOf upstreams.now pending.old }
     ensures forwards { Keeps (Forwards upstreams.now pending.old arrival.clock arrival.from arrival.word header (asked question)) ⊤ pending.old result pending.new }
-    ensures table { IsTableOf upstreams.now pending.new }
+    ensures table { KeepsTable pending.old pending.new }
 {
-    let waiter = Waiter {
-        from: arrival.from,
-        id: header.id,
-        question,
-    };
-    waiters_stay();
-    let asked = match pending.ask(waiter, arrival.clock, arrival.word) {
+    let from = arrival.from;
+    let id = header.id;
+    let waiter = Waiter { from, id, question };
+    let asked = match enter(pending, waiter, arrival) {
         Ok(asked) => asked,
-        Err(unasked) => return turn_away(alloc, arrival.from, header, unasked),
+        Err(unasked) => return turn_away(alloc, from, header, unasked),
     };
     new_entry_is_last();
     match asked {
@@ -128,6 +126,22 @@ fn forward<A: Allocator + Copy>(
             }
         }
     }
+}
+
+/// A waiter asks, and as its question is of class 1 (IN), all that wait still asked for class 1.
+fn enter<A: Allocator + Copy>(
+    pending: &mut Pending<A>,
+    waiter: Waiter<A>,
+    arrival: Arrival,
+) -> Result<Asked, Unasked<A>>
+    requires { waiter.question.class ≡ 1 }
+    ensures asks { Asks pending.old (asker waiter) arrival.clock arrival.word (asked_or_fault result) pending.new }
+    ensures back { IfErr result (λ u. u.waiter ≡ waiter) }
+    ensures unchanged { OnErr result (pending.new ≡ pending.old) }
+    ensures table { KeepsTable pending.old pending.new }
+{
+    waiters_stay();
+    pending.ask(waiter, arrival.clock, arrival.word)
 }
 
 /// The query for the entry with an id.

@@ -9,7 +9,7 @@ ghost use Rattle.fleet_site.specs.Carried.{Keeps};
 ghost use Rattle.fleet_site.specs.Effect.{effect};
 ghost use Rattle.fleet_site.specs.Packet.{sent};
 ghost use Rattle.fleet_site.specs.Serving.{IsPlan, SaysMore};
-ghost use Rattle.fleet_site.specs.Table.{IsTableOf};
+ghost use Rattle.fleet_site.specs.Table.{IsTableOf, KeepsTable};
 ghost use Rattle.fleet_site.specs.Tick.{Ticked, LeavesFewer, failure, failure_to};
 
 use crate::config::addr_of;
@@ -17,7 +17,10 @@ use crate::outcome::{Outcome, Packet, Packets, SiteFault};
 use crate::query::entry_query;
 use fleet_name::Octets;
 use fleet_observe::Moment;
-use fleet_pending::{Addr, Due, Entry, Pending, Waiter, serving_leaves_fewer_due, waiters_stay};
+use fleet_pending::{
+    Addr, Due, Entry, Pending, Waiter, serving_leaves_fewer_due, settling_gives_its_entry,
+    waiters_stay,
+};
 use fleet_wire::{Outline, write_reply};
 use std::alloc::{AllocError, Allocator};
 
@@ -122,9 +125,10 @@ pub(crate) fn serve_due<A: Allocator + Copy>(
     requires { IsTableOf upstreams.now pending.old }
     ensures ticked { Keeps (Ticked upstreams.now pending.old clock) (¬ NoneDue pending.old.entries clock) pending.old result pending.new }
     ensures fewer { IfOk result (λ o. IsTrue o.more → LeavesFewer pending.old pending.new clock) }
-    ensures table { IsTableOf upstreams.now pending.new }
+    ensures table { KeepsTable pending.old pending.new }
 {
     waiters_stay();
+    settling_gives_its_entry();
     serving_leaves_fewer_due();
     let plan = match make_plan(alloc, pending, upstreams, clock) {
         Ok(plan) => plan,
