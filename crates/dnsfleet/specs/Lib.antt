@@ -1,5 +1,4 @@
 pub mod Words
-pub mod Choice
-pub mod Answering
-pub mod Asking
-pub mod Learning
+pub mod Kinds
+pub mod Fault
+pub mod Fleet
