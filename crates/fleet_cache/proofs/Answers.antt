@@ -54,13 +54,13 @@ under_to (m ∷ n) a (l ∷ front) e = let t : n ≡ front ++ a = cc in or_right
 abbrev pub Matters : ℕ → List (List ℕ) → ℕ → Fact → Type 0
 Matters t n q o = (hidden t o ≡ false) × (is_relevant n q o ≡ true)
 
-matters_from : (t : ℕ) (n : List (List ℕ)) (q : ℕ) (o : Fact) → Speaks t n q o → Matters t n q o
+pub matters_from : (t : ℕ) (n : List (List ℕ)) (q : ℕ) (o : Fact) → Speaks t n q o → Matters t n q o
 matters_from t n q o (inl (inl on)) = (on.live, or_left _ _ (and_from _ _ (nat_eq_to _ _ on.of_kind) (and_from _ _ (name_to n o.name on.named) (or_left _ _ (nat_eq_to _ _ on.of_type)))))
 matters_from t n q o (inl (inr on)) = (on.live, or_left _ _ (and_from _ _ (nat_eq_to _ _ on.of_kind) (and_from _ _ (name_to n o.name on.named) (or_right _ _ (nat_eq_to _ _ on.of_type)))))
 matters_from t n q o (inr (inl on)) = (on.live, or_right _ _ (or_left _ _ (and_from _ _ (nat_eq_to _ _ on.of_kind) (and_from _ _ (name_to n o.name on.named) (nat_eq_to _ _ on.of_type)))))
 matters_from t n q o (inr (inr d)) = (d.live, or_right _ _ (or_right _ _ (and_from _ _ (nat_eq_to _ _ d.of_kind) (under_to n o.name d.under.0 d.under.1))))
 
-speaks_from : (t : ℕ) (n : List (List ℕ)) (q : ℕ) (o : Fact) → IsFact o → Matters t n q o → Speaks t n q o
+pub speaks_from : (t : ℕ) (n : List (List ℕ)) (q : ℕ) (o : Fact) → IsFact o → Matters t n q o → Speaks t n q o
 speaks_from t n q o lawful m = elim (or_cases _ _ m.1) [
   | inl three ↦
       let a = and_parts (nat_eq o.kind 3) _ three in
@@ -81,10 +81,10 @@ speaks_from t n q o lawful m = elim (or_cases _ _ m.1) [
   ])
 ]
 
-live_to : (t : ℕ) (o : Fact) → hidden t o ≡ false → is_live t o ≡ true
+pub live_to : (t : ℕ) (o : Fact) → hidden t o ≡ false → is_live t o ≡ true
 live_to t o e = grind (arith, nat_tests, e)
 
-live_from : (t : ℕ) (o : Fact) → is_live t o ≡ true → hidden t o ≡ false
+pub live_from : (t : ℕ) (o : Fact) → is_live t o ≡ true → hidden t o ≡ false
 live_from t o e = grind (arith, nat_tests, e)
 
 pub decides : (s items : List Fact) (f t : ℕ) (n : List (List ℕ)) (q : ℕ) (a : Option Fact) → f ≤ t → IsCached s f items → IsBest (Speaks t n q) items a → a ≡ deciding s t n q

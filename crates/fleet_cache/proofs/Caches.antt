@@ -1,5 +1,5 @@
 -- How the items of a cache follow the set.
-use Rattle.std.proofs.Common.{ℕ, ◌≡◌, ◌<◌, ◌≤◌, true, false, not, List, [], ◌∷◌, ◌++◌, ◌⊎◌, inl, inr, length, take, drop, Result, Ok, Err, OnOk, OnErr, sym, ap, refl, ◌∙◌, subst, arith, length-append}
+use Rattle.std.proofs.Common.{ℕ, ◌≡◌, ◌<◌, ◌≤◌, true, false, not, List, [], ◌∷◌, ◌++◌, ◌⊎◌, inl, inr, length, take, drop, slice_get, Some, Result, Ok, Err, OnOk, OnErr, sym, ap, refl, ◌∙◌, subst, arith, length-append}
 use mathlib.Core.Bool.{false≢true}
 use Rattle.std.proofs.Math.Seq.{take-append_seam}
 use Rattle.std.specs.List.{insert}
@@ -239,6 +239,14 @@ taken_is ys rest all n e l = rw (e, l) (take-append_seam ys rest)
 
 pub taken_within : (ys rest all : List Fact) (x : Fact) (n : ℕ) → all ≡ ys ++ x ∷ rest → n ≡ length ys → n < length all
 taken_within ys rest all x n e l = let whole = ap length e in let parts = length-append ys (x ∷ rest) in omega (arith, l, whole, parts)
+
+-- and the first one that was not taken is of the list
+pub seam_at : (ys rest all : List Fact) (x : Fact) (n : ℕ) → all ≡ ys ++ x ∷ rest → n ≡ length ys → slice_get all n ≡ Some x
+seam_at ys rest all x n e l = rw (e, l) (at_seam ys)
+  where
+    at_seam : (ys : List Fact) → slice_get (ys ++ x ∷ rest) (length ys) ≡ Some x
+    at_seam [] = refl
+    at_seam (y ∷ ys) = at_seam ys
 
 -- a result that is known to be one or the other
 pub at_ok : {T E P : Type 0} (r : Result T E) → is_ok r ≡ true → OnOk r P → P

@@ -9,6 +9,9 @@ mod Best
 mod Answers
 mod Follow
 mod Paths
+mod KindsOfParts
+mod OneAnswer
+mod Existence
 mod Relevance
 mod Worked
 mod Dominated

@@ -15,7 +15,7 @@ use Rattle.fleet_observe.specs.Fact.{Fact, expires, key_of}
 use Rattle.fleet_observe.specs.Preference.{preference}
 use Rattle.fleet_cache.specs.Front.{IsDescending}
 use Rattle.fleet_cache.specs.Live.{hidden}
-use Rattle.fleet_cache.specs.Cached.{key_cmp, key_with, place, IsGapFor}
+use Rattle.fleet_cache.specs.Cached.{key_cmp, key_with, place, IsGapFor, IsNeedless}
 use Rattle.fleet_cache.specs.Best.{IsBest, IsOn}
 use Rattle.fleet_cache.proofs.Fronts.{Has-append, Has-right, IsDescending-parts}
 use Rattle.fleet_cache.proofs.Orders.{place_total, place_exact, key_exact}
@@ -249,6 +249,14 @@ gap_absent x at items gap h = elim (Has-append (take at items) (drop at items) x
   where
     never : place x x ≡ Greater → ⊥
     never e = let t : place x x ≡ Equal = tied_itself place_total x in cc
+
+-- what goes into a gap is needed
+pub gap_needed : (floor : ℕ) (x : Fact) (at : ℕ) (items : List Fact) → hidden floor x ≡ false → IsGapFor x at items → IsNeedless floor items x → ⊥
+gap_needed floor x at items live gap (inl ended) = absurd (grind (arith, nat_tests, live, ended))
+gap_needed floor x at items live gap (inr p) = elim p.2 [
+  | inl same ↦ gap_absent x at items gap (subst (Has items) same p.1)
+  | inr over ↦ false≢true over
+]
 
 -- what a test of an order says
 pub not_ne : (o : Ordering) → false ≡ is_ne o → o ≡ Equal

@@ -1,5 +1,5 @@
 -- What a cache holds of a set of observations.
-use Rattle.std.specs.Prelude.{◌≡◌, ℕ, ◌/◌, ◌%◌, ◌≤◌, true, ◌⊎◌, List, [], ◌∷◌, ◌++◌, length, take, drop}
+use Rattle.std.specs.Prelude.{◌≡◌, ℕ, ◌/◌, ◌%◌, ◌≤◌, true, ◌⊎◌, List, [], ◌∷◌, ◌++◌, length, take, drop, slice_get, Some}
 use Rattle.std.specs.declared.cmp.Ordering.{Ordering}
 use Rattle.std.specs.declared.cmp.Ordering.TheVariants.{Greater}
 use Rattle.std.specs.Ordering.{nat_cmp, ordering_then}
@@ -41,6 +41,10 @@ pub record IsKept (floor earliest : ℕ) (items : List Fact) : Type 0 where
 -- a cache need not take o in: it has ended at the floor, or is there already, or would be pruned
 abbrev pub IsNeedless : ℕ → List Fact → Fact → Type 0
 IsNeedless floor items o = (expires o ≤ floor) ⊎ ((p : Fact) × Has items p × ((p ≡ o) ⊎ (prunes p o ≡ true)))
+
+-- the observation at this place of a list is to be held
+abbrev pub IsNeededAt : ℕ → List Fact → List Fact → ℕ → Type 0
+IsNeededAt floor items list at = (o : Fact) × (slice_get list at ≡ Some o) × ¬ IsNeedless floor items o
 
 -- two lists have the same members
 pub record IsSameSet (s t : List Fact) : Type 0 where

@@ -6,6 +6,7 @@ pub mod Relevant
 pub mod Answer
 pub mod Shown
 pub mod Told
+pub mod Kinds
 pub mod Best
 pub mod Underway
 pub mod Path

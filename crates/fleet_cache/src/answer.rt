@@ -89,7 +89,7 @@ fn shown_ttl<A: Allocator>(observation: &Observation<A>, moment: u64) -> u32
 }
 
 // A copy of an observation with its TTL.
-fn shown<A: Allocator + Clone>(
+fn shown<A: Allocator + Copy>(
     observation: &Observation<A>,
     moment: u64,
 ) -> Result<Shown<A>, AllocError>
@@ -130,7 +130,7 @@ fn ending<A: Allocator>(chain: Chain<A>, last: Shown<A>) -> Answer<A>
 }
 
 /// Follows the aliases from a name, by its octets.
-pub(crate) fn follow<A: Allocator + Clone>(
+pub(crate) fn follow<A: Allocator + Copy>(
     alloc: A,
     items: &[Observation<A>],
     name: &[u8],

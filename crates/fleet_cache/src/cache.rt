@@ -1,13 +1,14 @@
 //! What a site holds.
 
-ghost use Rattle.std.specs.Prelude.{◌≡◌, ℕ, ◌<◌, ◌≤◌, max, false, not, List, [], ◌∷◌, ◌++◌, ◌↔◌, length, take, IsTrue, IfOk, IfErr, OnOk, OnErr};
+ghost use Rattle.std.specs.Prelude.{◌≡◌, ℕ, ◌<◌, ◌≤◌, max, false, not, List, [], ◌∷◌, ◌++◌, ◌↔◌, length, take, IsTrue, IfSome, IfNone, IfOk, IfErr, OnOk, OnErr};
 ghost use Rattle.fleet_observe.specs.Members.{Has};
-ghost use Rattle.fleet_observe.specs.Fact.{Fact, expires as end_of};
+ghost use Rattle.fleet_observe.specs.Fact.{Fact, IsFact, expires as end_of};
 ghost use Rattle.fleet_cache.specs.Front.{IsDescending, shown};
 ghost use Rattle.fleet_cache.specs.Live.{hidden};
-ghost use Rattle.fleet_cache.specs.Cached.{place, IsCached, IsNeedless, IsSameSet, IsGapFor};
+ghost use Rattle.fleet_cache.specs.Cached.{place, IsCached, IsNeedless, IsNeededAt, IsSameSet, IsGapFor};
 ghost use Rattle.fleet_cache.specs.Answer.{answer_of};
 ghost use Rattle.fleet_cache.specs.Told.{told};
+ghost use Rattle.fleet_cache.specs.Kinds.{HasKinds};
 
 use crate::answer::{Answer, follow};
 use crate::items::Items;
@@ -63,32 +64,29 @@ impl<A: Allocator> Cache<A> {
     }
 
     /// Takes an observation in; `false` where it had ended at the floor or was there already, and
-    /// nothing changed. Without memory for it nothing changes.
+    /// nothing changed. Memory is wanted only for one that is to be held; without it nothing
+    /// changes.
     pub fn take(&mut self, observation: Observation<A>) -> Result<bool, AllocError>
         ensures taken { (s : List Fact) → IsCached s self.old.floor self.old.items → OnOk result (IsCached (observation ∷ s) self.new.floor self.new.items) }
         ensures kept { IfOk result (λ kept. (kept ≡ false) ↔ IsNeedless self.old.floor self.old.items observation) }
         ensures floor { self.new.floor ≡ self.old.floor }
+        ensures memory { OnErr result (¬ IsNeedless self.old.floor self.old.items observation) }
         ensures err { OnErr result (self.new ≡ self.old) }
     {
-        let expires = observation.expires();
-        if expires <= self.floor.value() {
+        let Some(at) = self.gap_for(&observation) else {
             return Ok(false);
-        }
-        match place_of(&self.items, &observation) {
-            Ok(_) => Ok(false),
-            Err(at) => {
-                self.items.insert(at, observation)?;
-                self.earliest = self.earliest.min(expires);
-                Ok(true)
-            }
-        }
+        };
+        self.put(at, observation)?;
+        Ok(true)
     }
 
-    /// Takes observations in, one after the other, as `take` does.
+    /// Takes observations in, one after the other, as `take` does. Memory is wanted only for those
+    /// that are to be held.
     pub fn take_list(&mut self, observations: Vec<Observation<A>, A>) -> Result<(), Stopped>
         ensures taken { (s : List Fact) → IsCached s self.old.floor self.old.items → OnOk result (IsCached (observations.items ++ s) self.new.floor self.new.items) }
         ensures stopped { (s : List Fact) → IsCached s self.old.floor self.old.items → IfErr result (λ e. IsCached (take e.taken observations.items ++ s) self.new.floor self.new.items) }
         ensures within { IfErr result (λ e. e.taken < length observations.items) }
+        ensures memory { IfErr result (λ e. IsNeededAt self.new.floor self.new.items observations.items e.taken) }
         ensures floor { self.new.floor ≡ self.old.floor }
     {
         let mut taken = 0;
@@ -102,14 +100,16 @@ impl<A: Allocator> Cache<A> {
     }
 
     /// Takes copies of the other's items in, in their order, and then purges to its floor: it is
-    /// then the cache of both sets, at the later floor.
+    /// then the cache of both sets, at the later floor. Memory is wanted only for items that are
+    /// to be held.
     pub fn merge(&mut self, other: &Cache<A>) -> Result<(), Stopped>
     where
-        A: Clone,
+        A: Copy,
         ensures both { (s u : List Fact) → IsCached s self.old.floor self.old.items → IsCached u other.now.floor other.now.items → OnOk result (IsCached (u ++ s) self.new.floor self.new.items) }
         ensures floor { OnOk result (self.new.floor ≡ max self.old.floor other.now.floor) }
         ensures stopped { (s : List Fact) → IsCached s self.old.floor self.old.items → IfErr result (λ e. IsCached (take e.taken other.now.items ++ s) self.new.floor self.new.items) }
         ensures within { IfErr result (λ e. e.taken < length other.now.items) }
+        ensures memory { IfErr result (λ e. IsNeededAt self.new.floor self.new.items other.now.items e.taken) }
         ensures floor_stopped { OnErr result (self.new.floor ≡ self.old.floor) }
     {
         for (taken, item) in other.items.iter().enumerate() {
@@ -119,17 +119,6 @@ impl<A: Allocator> Cache<A> {
         }
         self.purge(other.floor);
         Ok(())
-    }
-
-    // Takes a copy of an observation in.
-    fn take_copy(&mut self, observation: &Observation<A>) -> Result<bool, AllocError>
-    where
-        A: Clone,
-        ensures taken { (s : List Fact) → IsCached s self.old.floor self.old.items → OnOk result (IsCached (observation.now ∷ s) self.new.floor self.new.items) }
-        ensures floor { self.new.floor ≡ self.old.floor }
-        ensures err { OnErr result (self.new ≡ self.old) }
-    {
-        self.take(observation.try_clone()?)
     }
 
     /// Raises the floor to the moment, if that is later, and drops what has ended by then.
@@ -148,6 +137,16 @@ impl<A: Allocator> Cache<A> {
         self.earliest = earliest_end(&self.items);
     }
 
+    /// Drops all items and sets the floor back to 0: it is then as a new cache. This takes no memory.
+    pub fn clear(&mut self)
+        ensures held { self.new ≡ record { floor = 0; items = [] } }
+        ensures cached { IsCached [] self.new.floor self.new.items }
+    {
+        self.floor = Moment::new(0).unwrap();
+        self.earliest = u64::MAX;
+        self.items.clear();
+    }
+
     /// The moment up to which the cache was purged: what has ended by then is not held.
     pub fn floor(&self) -> Moment
         ensures { result ≡ self.now.floor }
@@ -161,6 +160,20 @@ impl<A: Allocator> Cache<A> {
         ensures alike { (s t : List Fact) → IsCached s self.now.floor self.now.items → IsCached t other.now.floor other.now.items → IsSameSet s t → self.now.floor ≡ other.now.floor → IsTrue result }
     {
         self.floor == other.floor && same_items(&self.items, &other.items)
+    }
+
+    /// How many items there are.
+    pub fn len(&self) -> usize
+        ensures { result ≡ length self.now.items }
+    {
+        self.items.len()
+    }
+
+    /// Whether there are no items.
+    pub fn is_empty(&self) -> bool
+        ensures { IsTrue result ↔ (self.now.items ≡ []) }
+    {
+        self.items.is_empty()
     }
 
     /// The items, by key (the octets of the name, the kind, the type), and the preferred first
@@ -177,25 +190,80 @@ impl<A: Allocator> Cache<A> {
     /// followed where another type is asked for, at most 8 of them. Records of two observations
     /// are never merged (RFC 2181 5.4). The question's class is not looked at. The parts are
     /// copies: without memory for them there is no answer.
-    pub fn answer(
+    pub fn answer<B: Allocator>(
         &self,
         alloc: A,
-        question: &Question<A>,
+        question: &Question<B>,
         moment: Moment,
     ) -> Result<Answer<A>, AllocError>
     where
-        A: Clone,
-        ensures { (s : List Fact) → IsCached s self.now.floor self.now.items → IfOk result (λ a. told a ≡ answer_of s (max self.now.floor moment) question.now.name question.now.rtype) }
+        A: Copy,
+        ensures kinds { IfOk result (λ a. HasKinds (told a)) }
+        ensures told { (s : List Fact) → IsCached s self.now.floor self.now.items → IfOk result (λ a. told a ≡ answer_of s (max self.now.floor moment) question.now.name question.now.rtype) }
     {
-        let at = self.floor.value().max(moment.value());
+        let at = later(self.floor, moment);
         follow(
             alloc,
             &self.items,
             question.name.octets(),
             question.rtype,
-            at,
+            at.value(),
         )
     }
+
+    // Takes a copy of an observation in.
+    fn take_copy(&mut self, observation: &Observation<A>) -> Result<bool, AllocError>
+    where
+        A: Copy,
+        ensures taken { (s : List Fact) → IsCached s self.old.floor self.old.items → OnOk result (IsCached (observation.now ∷ s) self.new.floor self.new.items) }
+        ensures floor { self.new.floor ≡ self.old.floor }
+        ensures memory { OnErr result (¬ IsNeedless self.old.floor self.old.items observation.now) }
+        ensures err { OnErr result (self.new ≡ self.old) }
+    {
+        let Some(at) = self.gap_for(observation) else {
+            return Ok(false);
+        };
+        self.put(at, observation.try_clone()?)?;
+        Ok(true)
+    }
+
+    // Where an observation goes among the items; none where it need not be held.
+    fn gap_for(&self, observation: &Observation<A>) -> Option<usize>
+        ensures gap { IfSome result (λ at. IsGapFor observation.now at self.now.items) }
+        ensures live { IfSome result (λ _. hidden self.now.floor observation.now ≡ false) }
+        ensures needed { IfSome result (λ _. ¬ IsNeedless self.now.floor self.now.items observation.now) }
+        ensures none { IfNone result (IsNeedless self.now.floor self.now.items observation.now) }
+        ensures lawful { IsFact observation.now }
+    {
+        if observation.expires() <= self.floor.value() {
+            return None;
+        }
+        place_of(&self.items, observation).err()
+    }
+
+    // Puts an observation where it goes.
+    fn put(&mut self, at: usize, observation: Observation<A>) -> Result<(), AllocError>
+        requires gap { IsGapFor observation at self.old.items }
+        requires live { hidden self.old.floor observation ≡ false }
+        ensures taken { (s : List Fact) → IsCached s self.old.floor self.old.items → OnOk result (IsCached (observation ∷ s) self.new.floor self.new.items) }
+        ensures floor { self.new.floor ≡ self.old.floor }
+        ensures err { OnErr result (self.new ≡ self.old) }
+    {
+        let expires = observation.expires();
+        self.items.insert(at, observation)?;
+        self.earliest = self.earliest.min(expires);
+        Ok(())
+    }
+}
+
+// The later of two moments.
+fn later(one: Moment, other: Moment) -> Moment
+    ensures { result ≡ max one other }
+{
+    if one.value() < other.value() {
+        return other;
+    }
+    one
 }
 
 // Where an observation is in a list, or where it would go.

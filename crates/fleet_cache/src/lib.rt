@@ -18,5 +18,8 @@ mod shown;
 pub use answer::{Answer, Chain};
 pub use cache::{Cache, Stopped};
 pub use items::Items;
-pub use laws::{answers_are_paths, dominance, merges, one_cache, tests_hold, worked_rows};
+pub use laws::{
+    answers_are_paths, caches_exist, dominance, merges, one_answer, one_cache, tests_hold,
+    worked_rows,
+};
 pub use shown::Shown;

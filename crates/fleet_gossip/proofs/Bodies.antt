@@ -84,7 +84,7 @@ module _ (rtype : ℕ) where
   one_rdatas_fault count octets f g (rdata_fails before r e l few h) (rdata_fails before' r' e' l' few' h') =
       one_row_fault (List ℕ) sized (AreFirstRdatas rtype) (rdatas_front rtype) tells (λ b. SizedFails (λ rdata. AreFirstRdatas rtype (b ++ rdata ∷ []))) next_or_fault one_next_fault before before' r r' f g l l' (sym e ∙ e') h h'
 
-  rdatas_same : (a b : List (List ℕ)) (r s : List ℕ) → length a ≡ length b → Aligned (List ℕ) sized a b r s → (a ≡ b) × (r ≡ s)
+  pub rdatas_same : (a b : List (List ℕ)) (r s : List ℕ) → length a ≡ length b → Aligned (List ℕ) sized a b r s → (a ≡ b) × (r ≡ s)
   rdatas_same a b r s n (same e e') = (e, e')
   rdatas_same a b r s n (longer y more e e') = absurd (omega (arith, n, ap length e, length-append a (y ∷ more)))
   rdatas_same a b r s n (shorter x more e e') = absurd (omega (arith, n, ap length e, length-append b (x ∷ more)))

@@ -1,21 +1,21 @@
 -- The steps of reading a body.
-use Rattle.std.proofs.Common.{◌≡◌, ℕ, ◌+◌, ◌<◌, ◌≤◌, ◌⊎◌, inl, inr, List, [], ◌∷◌, ◌++◌, length, refl, sym, ap, ◌∙◌, subst, arith, append_assoc}
+use Rattle.std.proofs.Common.{◌≡◌, ◌≢◌, ℕ, ◌+◌, ◌<◌, ◌≤◌, ◌⊎◌, inl, inr, List, [], ◌∷◌, ◌++◌, length, refl, sym, ap, ◌∙◌, subst, arith, length-append, append_assoc}
 use Rattle.std.specs.declared.cmp.Ordering.TheVariants.{Less}
 use Rattle.std.specs.Ordering.{nat_cmp}
 use Rattle.std.specs.Cmp.Lexicographic.{slice_cmp}
 use Rattle.std.proofs.lemmas.Cmp.{nat_list_cmp_total}
 use Rattle.std.proofs.lemmas.List.{append-nil}
 use Rattle.std.specs.List.{flat_map}
-use Rattle.fleet_name.specs.Name.{wire, IsUnder}
+use Rattle.fleet_name.specs.Name.{wire, IsUnder, IsWire}
 use Rattle.fleet_wire.specs.Number.{u16_octets}
 use Rattle.fleet_wire.specs.Shape.{IsPlain}
 use Rattle.fleet_observe.specs.Members.{Has, IsAscending}
-use Rattle.fleet_observe.specs.Body.{sized, positive_body, negative_body}
-use Rattle.fleet_gossip.specs.Entry.{AreFirstRdatas}
-use Rattle.fleet_gossip.specs.Faults.{cut, refused, behind, RdataFails, cut_rdata, refused_rdata, SizedFails, RdatasFail, rdata_fails, NameFails, NegativeFails, owner_fails, soa_fails, as_body, OrMemory}
-use Rattle.fleet_gossip.specs.Steps.{IsCut, AreTaken, AnyRdata, IsAbove, IsNameAt}
+use Rattle.fleet_observe.specs.Body.{sized, positive_body, negative_body, IsPositiveBody, IsNegativeBody}
+use Rattle.fleet_gossip.specs.Entry.{IsCountOf, AreFirstRdatas, IsBodyOf}
+use Rattle.fleet_gossip.specs.Faults.{cut, refused, behind, RdataFails, cut_rdata, refused_rdata, SizedFails, RdatasFail, rdata_fails, NameFails, NegativeFails, owner_fails, stranger, soa_fails, as_body}
+use Rattle.fleet_gossip.specs.Steps.{IsCut, AreTaken, AnyRdata, IsAbove, IsPart, IsSizeOf, AreFirstOf, IsOwnerOf}
 use Rattle.fleet_gossip.specs.declared.fault.FrameFault.{FrameFault}
-use Rattle.fleet_gossip.specs.declared.fault.FrameFault.TheVariants.{BadBody, OutOfMemory}
+use Rattle.fleet_gossip.specs.declared.fault.FrameFault.TheVariants.{BadBody}
 use Rattle.fleet_gossip.proofs.Bodies.{positive_body-front}
 
 module _ (octets middle : List ℕ) (n count : ℕ) (is : octets ≡ u16_octets n ++ middle) (same : count ≡ n) where
@@ -90,26 +90,77 @@ module _ (rtype count : ℕ) (octets left : List ℕ) (xs : List (List ℕ)) (fi
   pub next_refused : (d rest : List ℕ) → left ≡ sized d ++ rest → (AreFirstRdatas rtype (xs ++ d ∷ []) → ⊥) → RdatasFail rtype count octets BadBody
   next_refused d rest stands unlike = rdata_fails xs left is first few (behind (length d) (d ++ rest) stands tt (refused_rdata d rest refl refl unlike refl))
 
--- what is told further up
-pub or_mapped : (f : FrameFault) (P Q : Type 0) → (P → Q) → OrMemory f P → OrMemory f Q
-or_mapped f P Q further (inl e) = inl e
-or_mapped f P Q further (inr h) = inr (further h)
+-- so many RDATAs that were read make the body of a positive observation
+pub positive_found : (rtype count long : ℕ) (octets middle rest : List ℕ) → octets ≡ u16_octets count ++ middle → IsCountOf rtype count → AreFirstOf rtype count middle long rest → IsSizeOf (IsPositiveBody rtype) octets long
+positive_found rtype count long octets middle rest is counted first =
+    let rdatas = first.rdatas in
+    record {
+      part = positive_body rdatas;
+      rest = rest;
+      is = record {
+        whole = is ∙ (ap (λ (n : ℕ). u16_octets n ++ middle) (sym first.counted) ∙ ap (λ (x : List ℕ). u16_octets (length rdatas) ++ x) first.whole);
+        lawful = record {
+          rdatas = rdatas;
+          lawful = record {
+            some = λ e. omega (arith, counted.0, first.counted, ap length e);
+            ascending = first.lawful.ascending;
+            plain = first.lawful.plain;
+            alone = λ e. first.counted ∙ counted.1 e;
+            short = first.lawful.short;
+          };
+          octets = refl;
+        };
+      };
+      counted = first.size;
+    }
 
 -- the SOA of a negative body, behind its owner
-module _ (name owner : List (List ℕ)) (octets left : List ℕ) (at : IsNameAt octets owner left) (under : IsUnder name owner) where
+module _ (name : List (List ℕ)) (octets part left : List ℕ) (at : IsPart (IsOwnerOf name) octets part left) where
+  owner_stands : octets ≡ wire at.lawful.owner ++ left
+  owner_stands = at.whole ∙ ap (λ (x : List ℕ). x ++ left) at.lawful.whole
+
   pub soa_cut : (f : FrameFault) → SizedFails AnyRdata left f → NegativeFails name octets f
-  soa_cut f h = soa_fails owner left at.whole at.named under (sized_any (IsPlain 6) left f h)
+  soa_cut f h = soa_fails at.lawful.owner left owner_stands at.lawful.named at.lawful.under (sized_any (IsPlain 6) left f h)
 
   pub soa_refused : (d rest : List ℕ) → left ≡ sized d ++ rest → (IsPlain 6 d → ⊥) → NegativeFails name octets BadBody
-  soa_refused d rest stands unlike = soa_fails owner left at.whole at.named under (behind (length d) (d ++ rest) stands tt (refused_rdata d rest refl refl unlike refl))
+  soa_refused d rest stands unlike = soa_fails at.lawful.owner left owner_stands at.lawful.named at.lawful.under (behind (length d) (d ++ rest) stands tt (refused_rdata d rest refl refl unlike refl))
 
-  pub negative_whole : (d rest : List ℕ) → left ≡ sized d ++ rest → octets ≡ negative_body owner d ++ rest
-  negative_whole d rest stands = at.whole ∙ (ap (λ (x : List ℕ). wire owner ++ x) stands ∙ sym (append_assoc (wire owner) (sized d) rest))
+  pub negative_found : (d rest : List ℕ) (size : ℕ) → left ≡ sized d ++ rest → IsPlain 6 d → size ≡ length part + 2 + length d → IsSizeOf (IsNegativeBody name) octets size
+  negative_found d rest size stands plain n =
+      let owner = at.lawful.owner in
+      record {
+        part = negative_body owner d;
+        rest = rest;
+        is = record {
+          whole = owner_stands ∙ (ap (λ (x : List ℕ). wire owner ++ x) stands ∙ sym (append_assoc (wire owner) (sized d) rest));
+          lawful = record {
+            owner = owner;
+            rdata = d;
+            lawful = record { named = at.lawful.named; under = at.lawful.under; plain = plain };
+            octets = refl;
+          };
+        };
+        counted = omega (arith, n, ap length at.lawful.whole, length-append (wire owner) (sized d));
+      }
 
-pub owner_told : (name : List (List ℕ)) (octets : List ℕ) (f g : FrameFault) → g ≡ as_body f → OrMemory f (NameFails octets f) → OrMemory g (NegativeFails name octets g)
-owner_told name octets f g e (inl m) = inl (e ∙ ap as_body m)
-owner_told name octets f g e (inr h) = inr (owner_fails f h e)
+-- the owner of a denial's SOA
+module _ (name : List (List ℕ)) (octets owner rest : List ℕ) (at : IsPart IsWire octets owner rest) where
+  owner_spelled : octets ≡ wire at.lawful.name ++ rest
+  owner_spelled = at.whole ∙ ap (λ (x : List ℕ). x ++ rest) at.lawful.whole
 
-pub or_only : (f : FrameFault) (P : Type 0) → (P → ⊥) → OrMemory f P → f ≡ OutOfMemory
-or_only f P never (inl e) = e
-or_only f P never (inr h) = absurd (never h)
+  pub owner_found : IsUnder name at.lawful.name → IsPart (IsOwnerOf name) octets owner rest
+  owner_found under = record { whole = at.whole; lawful = record { owner = at.lawful.name; named = at.lawful.named; under = under; whole = at.lawful.whole } }
+
+  pub owner_stranger : (IsUnder name at.lawful.name → ⊥) → NegativeFails name octets BadBody
+  owner_stranger unlike = stranger at.lawful.name rest owner_spelled at.lawful.named unlike refl
+
+pub owner_told : (name : List (List ℕ)) (octets : List ℕ) (f g : FrameFault) → g ≡ as_body f → NameFails octets f → NegativeFails name octets g
+owner_told name octets f g e h = owner_fails f h e
+
+-- a body of a kind
+module _ (kind : ℕ) (name : List (List ℕ)) (rtype : ℕ) (octets : List ℕ) (size : ℕ) where
+  pub positive_sized : kind ≡ 3 → IsSizeOf (IsPositiveBody rtype) octets size → IsSizeOf (IsBodyOf kind name rtype) octets size
+  positive_sized e found = record { part = found.part; rest = found.rest; is = record { whole = found.is.whole; lawful = (λ k. found.is.lawful, λ k. absurd (k e)) }; counted = found.counted }
+
+  pub negative_sized : kind ≢ 3 → IsSizeOf (IsNegativeBody name) octets size → IsSizeOf (IsBodyOf kind name rtype) octets size
+  negative_sized other found = record { part = found.part; rest = found.rest; is = record { whole = found.is.whole; lawful = (λ e. absurd (other e), λ k. found.is.lawful) }; counted = found.counted }

@@ -3,7 +3,7 @@ use Rattle.std.proofs.Common.{◌≡◌, ◌≢◌, ℕ, ◌⊎◌, inl, inr, Li
 use Rattle.fleet_name.specs.Name.{wire, IsName}
 use Rattle.fleet_wire.specs.Number.{u16_octets, u32_octets}
 use Rattle.fleet_observe.specs.Body.{positive_body, negative_body, AreRdatas, IsDenial, IsPositiveBody, IsNegativeBody}
-use Rattle.fleet_observe.specs.Fact.{Fact, IsFact, IsDataType, IsNegative}
+use Rattle.fleet_observe.specs.Fact.{Fact, IsFact, IsRank, IsNegativeRank, IsDataType, IsNegative}
 use Rattle.fleet_gossip.specs.Entry.{octet, u64_octets, entry_octets, IsKind, IsRankOf, IsMoment, IsLifeOf, IsTypeOf}
 use Rattle.fleet_gossip.specs.Faults.{NamedFails, name_fails, behind_name, BodyFails, TypeFails, LifeFails, StampFails, RankFails, EntryFails}
 use Rattle.fleet_gossip.specs.declared.fault.FrameFault.{FrameFault}
@@ -26,7 +26,7 @@ pub record IsEntry (o : Fact) : Type 0 where
 
 -- an observation that is not positive is negative
 module _ (o : Fact) (is : IsFact o) where
-  denies : o.kind ≢ 3 → IsNegative o
+  pub denies : o.kind ≢ 3 → IsNegative o
   denies other = elim (cases) [ inl e ↦ (is.name_error e).0 | inr e ↦ (is.no_data e).0 ]
     where
       cases : (o.kind ≡ 1) ⊎ (o.kind ≡ 2)
@@ -52,6 +52,26 @@ module _ (o : Fact) (is : IsFact o) where
 
 kind_cases : (kind : ℕ) → IsKind kind → (kind ≡ 3) ⊎ (kind ≢ 3)
 kind_cases kind is = grind (arith, is)
+
+-- what its fields say makes it an observation
+pub fact_of : (o : Fact) → IsEntry o → IsFact o
+fact_of o is = record {
+  named = is.name;
+  kinds = is.kind;
+  rank = elim (kind_cases o.kind is.kind) [ inl e ↦ is.rank.0 e | inr other ↦ negative_rank (is.rank.1 other) ];
+  stamped = is.stamp;
+  life = is.life.0;
+  positive = λ e. record { typed = is.rtype.1 (λ e'. omega (arith, e, e')); body = is.positive e };
+  no_data = λ e. (denial (λ e'. omega (arith, e, e')), is.rtype.1 (λ e'. omega (arith, e, e')));
+  name_error = λ e. (denial (λ e'. omega (arith, e, e')), is.rtype.0 e);
+}
+  where
+    negative_rank : IsNegativeRank o.rank → IsRank o.rank
+    negative_rank (inl e) = omega (arith, e)
+    negative_rank (inr e) = omega (arith, e)
+
+    denial : o.kind ≢ 3 → IsNegative o
+    denial other = record { rank = is.rank.1 other; life = is.life.1 other; body = is.negative other }
 
 -- an entry, with what stands behind it bracketed to the right
 abbrev pub behind_life : Fact → List ℕ → List ℕ

@@ -1,15 +1,18 @@
 -- What fails behind the first numbers of an entry.
-use Rattle.std.proofs.Common.{◌≡◌, ℕ, List, refl, arith, Option, Some, None}
+use Rattle.std.proofs.Common.{◌≡◌, ℕ, List, ◌++◌, refl, sym, ap, ◌∙◌, arith, Option, Some, None, Bor}
+use Rattle.fleet_name.specs.Name.{wire, IsWire}
 use Rattle.fleet_wire.specs.Number.{u16_octets, u32_octets}
 use Rattle.fleet_observe.specs.declared.kind.Kind.{Kind}
 use Rattle.fleet_observe.specs.declared.kind.Kind.TheVariants.{NameError, NoData, Positive}
 use Rattle.fleet_observe.specs.Checks.{denied_kind}
-use Rattle.fleet_observe.specs.Fact.{kind_number}
-use Rattle.fleet_gossip.specs.Entry.{octet, u64_octets, IsKind, IsRankOf, IsMoment, IsLifeOf, IsTypeOf}
-use Rattle.fleet_gossip.specs.Faults.{behind, NamedFails, behind_name, BodyFails, LifeFails, StampFails, RankFails, EntryFails}
-use Rattle.fleet_gossip.specs.Steps.{IsField, IsHead, IsNameAt}
+use Rattle.fleet_observe.specs.Fact.{Fact, IsFact, kind_number}
+use Rattle.fleet_gossip.specs.Entry.{octet, u64_octets, entry_octets, IsKind, IsRankOf, IsMoment, IsLifeOf, IsTypeOf, IsBodyOf}
+use Rattle.fleet_gossip.specs.Faults.{behind, NamedFails, behind_name, BodyFails, TypeFails, LifeFails, StampFails, RankFails, EntryFails}
+use Rattle.fleet_gossip.specs.Steps.{IsField, IsHead, IsPart}
+use Rattle.fleet_gossip.specs.Tells.{Tells}
 use Rattle.fleet_gossip.specs.declared.fault.FrameFault.{FrameFault}
 use Rattle.fleet_gossip.specs.declared.head.Head.{Head}
+use Rattle.fleet_gossip.proofs.Entries.{fact_of, entry_split}
 
 module _ (octets rest : List ℕ) (f : FrameFault) where
   pub behind_kind : (kind : ℕ) → IsField octet IsKind octets kind rest → RankFails kind rest f → EntryFails octets f
@@ -36,10 +39,54 @@ behind_head octets rest f head is h =
     (behind head.stamp _ refl is.lawful.stamp
     (behind head.life rest refl is.lawful.life h)))
 
--- an entry from its body on
-pub behind_type : (octets named typed rest : List ℕ) (f : FrameFault) (head : Head) (name : List (List ℕ)) (rtype : ℕ) → IsHead octets head named → IsNameAt named name typed → IsField u16_octets (IsTypeOf (kind_number head.kind)) typed rtype rest
-    → BodyFails (kind_number head.kind) name rtype rest f → EntryFails octets f
-behind_type octets named typed rest f head name rtype is at t h = behind_head octets named f head is (behind_name name typed at.whole at.named (behind rtype rest t.whole t.lawful h))
+-- An entry from its name on.
+module _ (octets named part typed : List ℕ) (head : Head) (is : IsHead octets head named) (at : IsPart IsWire named part typed) where
+  name_stands : named ≡ wire at.lawful.name ++ typed
+  name_stands = at.whole ∙ ap (λ (x : List ℕ). x ++ typed) at.lawful.whole
+
+  pub type_fails : (f : FrameFault) → TypeFails (kind_number head.kind) at.lawful.name typed f → EntryFails octets f
+  type_fails f h = behind_head octets named f head is (behind_name at.lawful.name typed name_stands at.lawful.named h)
+
+  module _ (rest : List ℕ) (rtype : ℕ) (t : IsField u16_octets (IsTypeOf (kind_number head.kind)) typed rtype rest) where
+    pub body_fails : (f : FrameFault) → BodyFails (kind_number head.kind) at.lawful.name rtype rest f → EntryFails octets f
+    body_fails f h = type_fails f (behind rtype rest t.whole t.lawful h)
+
+    module _ (body left : List ℕ) (b : IsPart (IsBodyOf (kind_number head.kind) at.lawful.name rtype) rest body left) where
+      -- the observation that stands there
+      pub fact_read : Fact
+      fact_read = record { kind = kind_number head.kind; name = at.lawful.name; rtype = rtype; body = body; rank = head.rank; stamp = head.stamp; life = head.life }
+
+      fact_lawful : IsFact fact_read
+      unfolding fact_read
+      fact_lawful = fact_of fact_read (record {
+        kind = is_kind head.kind;
+        rank = is.lawful.rank;
+        stamp = is.lawful.stamp;
+        life = is.lawful.life;
+        name = at.lawful.named;
+        rtype = t.lawful;
+        positive = b.lawful.0;
+        negative = b.lawful.1;
+      })
+
+      pub fact_whole : octets ≡ entry_octets fact_read ++ left
+      unfolding fact_read
+      fact_whole =
+          let tail : named ≡ wire at.lawful.name ++ (u16_octets rtype ++ (body ++ left)) = name_stands ∙ ap (λ (x : List ℕ). wire at.lawful.name ++ x) (t.whole ∙ ap (λ (x : List ℕ). u16_octets rtype ++ x) b.whole) in
+          is.whole ∙ (ap (λ (x : List ℕ). octet (kind_number head.kind) ++ (octet head.rank ++ (u64_octets head.stamp ++ (u32_octets head.life ++ x)))) tail ∙ sym (entry_split fact_read left))
+
+      pub entry_read : (name_ref body_ref : Bor (List ℕ)) → name_ref.now ≡ part → body_ref.now ≡ body → Tells (record { head = head; name = name_ref; rtype = rtype; body = body_ref }) fact_read
+      unfolding fact_read
+      entry_read name_ref body_ref n e = record {
+        lawful = fact_lawful;
+        kind = refl;
+        rank = refl;
+        stamp = refl;
+        life = refl;
+        named = n ∙ at.lawful.whole;
+        rtype = refl;
+        body = e;
+      }
 
 -- a denial of a type, or of all of them, is none of data
 pub denied_not : (rtype : Option ℕ) → denied_kind rtype ≡ 3 → ⊥

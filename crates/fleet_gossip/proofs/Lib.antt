@@ -2,6 +2,8 @@ pub mod Numbers
 pub mod Fields
 pub mod Rows
 pub mod Names
+pub mod Under
+pub mod Parts
 pub mod Bodies
 pub mod Entries
 pub mod Frames
@@ -9,5 +11,7 @@ pub mod Heads
 pub mod BodySteps
 pub mod Packing
 pub mod NameSteps
+pub mod Memory
+pub mod Making
 pub mod FrameSteps
 pub mod PackSteps

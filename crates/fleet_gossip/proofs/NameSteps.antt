@@ -7,10 +7,10 @@ use Rattle.std.proofs.lemmas.List.{append-nil}
 use Rattle.std.specs.List.{flat_map, AllByRecursion}
 use Rattle.fleet_name.specs.Name.{frame, wire, lower, IsLabel, IsName, IsWire}
 use Rattle.fleet_gossip.specs.Faults.{IsRoom, LabelFails, long, cut_label, capital}
-use Rattle.fleet_gossip.specs.Steps.{IsCut, AreTaken, IsLabelAt, IsNameAt}
+use Rattle.fleet_gossip.specs.Steps.{IsCut, AreTaken, IsLabelAt, IsSizeOf}
 use Rattle.fleet_gossip.specs.declared.fault.FrameFault.{FrameFault}
 use Rattle.fleet_gossip.specs.declared.fault.FrameFault.TheVariants.{BadName}
-use Rattle.fleet_gossip.proofs.Names.{length-wire-push, wire-append, split_same}
+use Rattle.fleet_gossip.proofs.Names.{length-wire-push, wire-append}
 
 -- Behind the length octet of a label.
 module _ (before : List (List ℕ)) (octets left : List ℕ) (size count : ℕ) (is : octets ≡ size ∷ left) (same : count ≡ size) (some : count ≡ 0 → ⊥) where
@@ -39,10 +39,15 @@ all_push (l ∷ name) label all one = (all.0, all_push name label all.1 one)
 
 -- The labels read so far, and the one that is read next.
 module _ (octets left rest label : List ℕ) (before : List (List ℕ)) (is : octets ≡ flat_map frame before ++ left) (named : IsName before) (at : IsLabelAt before left label rest) where
-  pub name_ends : label ≡ [] → IsNameAt octets before rest
-  name_ends e = record {
-    whole = is ∙ (ap (λ (x : List ℕ). flat_map frame before ++ x) (at.whole ∙ ap (λ (l : List ℕ). frame l ++ rest) e) ∙ sym (wire-append before rest));
-    named = named;
+  pub name_ends : label ≡ [] → (size : ℕ) → size ≡ length (wire before) → IsSizeOf IsWire octets size
+  name_ends e size n = record {
+    part = wire before;
+    rest = rest;
+    is = record {
+      whole = is ∙ (ap (λ (x : List ℕ). flat_map frame before ++ x) (at.whole ∙ ap (λ (l : List ℕ). frame l ++ rest) e) ∙ sym (wire-append before rest));
+      lawful = record { name = before; named = named; whole = refl };
+    };
+    counted = n;
   }
 
   module _ (some : label ≡ [] → ⊥) where
@@ -63,13 +68,6 @@ module _ (octets left rest label : List ℕ) (before : List (List ℕ)) (is : oc
     whole_more =
         let frames : flat_map frame (before ++ label ∷ []) ≡ flat_map frame before ++ frame label = rw (flat_map-append, append-nil) refl in
         is ∙ (ap (λ (x : List ℕ). flat_map frame before ++ x) at.whole ∙ (sym (append_assoc (flat_map frame before) (frame label) rest) ∙ ap (λ (x : List ℕ). x ++ rest) (sym frames)))
-
--- the octets of the name at the front are its own
-pub taken_name : (octets taken rest rest' : List ℕ) (name : List (List ℕ)) (size : ℕ) → IsNameAt octets name rest' → size ≡ length (wire name) → AreTaken octets size taken rest → (taken ≡ wire name) × (rest ≡ rest')
-taken_name octets taken rest rest' name size at n are = split_same taken (wire name) rest rest' (are.counted ∙ n) (sym are.whole ∙ at.whole)
-
-pub taken_wire : (octets taken rest rest' : List ℕ) (name : List (List ℕ)) (size : ℕ) → IsNameAt octets name rest' → size ≡ length (wire name) → AreTaken octets size taken rest → IsWire taken
-taken_wire octets taken rest rest' name size at n are = record { name = name; named = at.named; whole = (taken_name octets taken rest rest' name size at n are).0 }
 
 zero_from : (n : ℕ) → true ≡ nat_eq n 0 → n ≡ 0
 zero_from n e = grind (arith, nat_tests, e)

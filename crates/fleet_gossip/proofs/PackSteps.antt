@@ -38,6 +38,9 @@ spells_part octets count part lawful n e fits =
     let same : u16_octets magic ++ (octet version ++ (u16_octets count ++ octets)) ≡ frame_octets part = ap (λ (k : ℕ). u16_octets magic ++ (octet version ++ (u16_octets k ++ octets))) n ∙ ap (λ (x : List ℕ). u16_octets magic ++ (octet version ++ (u16_octets (length part) ++ x))) e in
     record { lawful = lawful; spelled = same; fits = rw (ap length same) fits }
 
+pushed_some : (taken : List Fact) (o : Fact) → taken ++ o ∷ [] ≡ [] → ⊥
+pushed_some taken o e = omega (arith, ap length e, length-append taken (o ∷ []))
+
 -- Frames that hold what was taken, and one more observation.
 module _ (frames : List (List ℕ)) (octets : List ℕ) (count : ℕ) (taken : List Fact) (hold : Hold frames octets count taken) where
   pub count_small : count ≤ length octets
@@ -52,6 +55,7 @@ module _ (frames : List (List ℕ)) (octets : List ℕ) (count : ℕ) (taken : L
       part = hold.part ++ o ∷ [];
       lawful = facts_push hold.part o hold.lawful is;
       counted = omega (arith, hold.counted, length-append hold.part (o ∷ []));
+      none = λ e. absurd (pushed_some taken o e);
       spelled = wrote ∙ (ap (λ (x : List ℕ). x ++ entry_octets o) hold.spelled ∙ sym (entries_push hold.part o));
       fits = omega (arith, room, frame_push hold.part o, frame_length hold.part, ap length hold.spelled);
       goes_on = λ rest others h. rw append_assoc (hold.goes_on (o ∷ rest) others (rw append_assoc at h));
@@ -70,12 +74,17 @@ module _ (frames : List (List ℕ)) (octets : List ℕ) (count : ℕ) (taken : L
           part = o ∷ [];
           lawful = λ x h. elim h [ inl e ↦ subst (λ (y : Fact). IsFact y) e is | inr h' ↦ absurd h' ];
           counted = refl;
+          none = λ e. absurd (pushed_some taken o e);
           spelled = wrote ∙ sym (append-nil (entry_octets o));
           fits = omega (arith, small, frame_length (o ∷ []), length-append (entry_octets o) []);
           goes_on = λ rest others h.
               let whole = hold.goes_on (o ∷ rest) (first ∷ others) (more hold.part (o ∷ rest) first others refl (some_part hold.part over' small) (spells_part octets count hold.part hold.lawful hold.counted hold.spelled hold.fits) (omega (arith, over', frame_push hold.part o)) h refl) in
               rw (closed, append_assoc, append_assoc) whole;
         }
+
+  -- where there are entries in the making, something was taken
+  pub taken_some : (count ≡ 0 → ⊥) → taken ≡ [] → ⊥
+  taken_some some e = some (hold.counted ∙ ap length (hold.none e))
 
   pub packed_none : count ≡ 0 → IsPacked taken frames
   packed_none e =

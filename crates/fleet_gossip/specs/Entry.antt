@@ -4,7 +4,7 @@ use Rattle.fleet_name.specs.Name.{wire}
 use Rattle.fleet_wire.specs.Number.{u16_octets, u32_octets}
 use Rattle.fleet_wire.specs.Shape.{IsPlain}
 use Rattle.fleet_observe.specs.Members.{Has, IsAscending}
-use Rattle.fleet_observe.specs.Body.{positive_body}
+use Rattle.fleet_observe.specs.Body.{positive_body, IsPositiveBody, IsNegativeBody}
 use Rattle.fleet_observe.specs.Fact.{Fact, IsRank, IsNegativeRank, IsLife, IsDataType}
 
 -- numbers of one and of eight octets
@@ -48,3 +48,7 @@ pub record AreFirstRdatas (rtype : ℕ) (rdatas : List (List ℕ)) : Type 0 wher
   pub ascending : IsAscending rdatas
   pub plain : (rdata : List ℕ) → Has rdatas rdata → IsPlain rtype rdata
   pub short : length (positive_body rdatas) ≤ 8192
+
+-- octets that are a body of the kind, of an observation of the name and the type
+abbrev pub IsBodyOf : ℕ → List (List ℕ) → ℕ → List ℕ → Type 0
+IsBodyOf kind name rtype body = (kind ≡ 3 → IsPositiveBody rtype body) × (kind ≢ 3 → IsNegativeBody name body)

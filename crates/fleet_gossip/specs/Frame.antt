@@ -1,5 +1,5 @@
 -- A frame: observations as octets.
-use Rattle.std.specs.Prelude.{◌≡◌, ℕ, ◌+◌, ◌*◌, ◌≤◌, List, ◌++◌, length}
+use Rattle.std.specs.Prelude.{◌≡◌, ◌≢◌, ℕ, ◌+◌, ◌*◌, ◌≤◌, List, [], ◌++◌, length}
 use Rattle.std.specs.List.{flat_map}
 use Rattle.fleet_wire.specs.Number.{u16_octets}
 use Rattle.fleet_observe.specs.Fact.{Fact, AreFacts}
@@ -26,9 +26,8 @@ pub record SpellsFrame (octets : List ℕ) (facts : List Fact) : Type 0 where
   pub spelled : octets ≡ frame_octets facts
   pub fits : length octets ≤ 16384
 
--- octets that begin as a frame does: no more than a frame has, with the magic, the version and a count
-pub record HasOpening (octets : List ℕ) : Type 0 where
-  pub short : length octets ≤ 16384
-  pub count : ℕ
-  pub rest : List ℕ
-  pub opening : octets ≡ u16_octets magic ++ (octet version ++ (u16_octets count ++ rest))
+-- octets that are the frame of some observations, of one at least
+pub record HasEntries (octets : List ℕ) : Type 0 where
+  pub facts : List Fact
+  pub spelled : SpellsFrame octets facts
+  pub some : facts ≢ []

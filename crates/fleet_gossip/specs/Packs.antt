@@ -1,5 +1,5 @@
 -- How far a list is packed.
-use Rattle.std.specs.Prelude.{◌≡◌, ℕ, ◌≤◌, List, ◌++◌, length}
+use Rattle.std.specs.Prelude.{◌≡◌, ℕ, ◌≤◌, List, [], ◌++◌, length}
 use Rattle.fleet_observe.specs.Fact.{Fact, AreFacts}
 use Rattle.fleet_gossip.specs.Frame.{entries, frame_octets}
 use Rattle.fleet_gossip.specs.Packed.{IsPacked}
@@ -11,6 +11,7 @@ pub record Hold (frames : List (List ℕ)) (octets : List ℕ) (count : ℕ) (ta
   pub part : List Fact
   pub lawful : AreFacts part
   pub counted : count ≡ length part
+  pub none : taken ≡ [] → part ≡ []
   pub spelled : octets ≡ entries part
   pub fits : length (frame_octets part) ≤ 16384
   pub goes_on : (rest : List Fact) (others : List (List ℕ)) → IsPacked (part ++ rest) others → IsPacked (taken ++ rest) (frames ++ others)

@@ -1,12 +1,14 @@
 -- What the steps of reading find.
 use Rattle.std.specs.Prelude.{◌≡◌, ℕ, ◌<◌, ◌≤◌, List, [], ◌∷◌, ◌++◌, length}
 use Rattle.std.specs.declared.cmp.Ordering.TheVariants.{Less}
+use Rattle.std.specs.List.{flat_map}
 use Rattle.std.specs.Ordering.{nat_cmp}
 use Rattle.std.specs.Cmp.Lexicographic.{slice_cmp}
-use Rattle.fleet_name.specs.Name.{frame, wire, lower, IsName}
+use Rattle.fleet_name.specs.Name.{frame as framed, wire, lower, IsName, IsUnder}
 use Rattle.fleet_wire.specs.Number.{u16_octets, u32_octets}
+use Rattle.fleet_observe.specs.Body.{sized, positive_body, negative_body}
 use Rattle.fleet_observe.specs.Fact.{Fact, AreFacts, kind_number}
-use Rattle.fleet_gossip.specs.Entry.{octet, u64_octets, IsRankOf, IsMoment, IsLifeOf}
+use Rattle.fleet_gossip.specs.Entry.{octet, u64_octets, IsRankOf, IsMoment, IsLifeOf, AreFirstRdatas}
 use Rattle.fleet_gossip.specs.Frame.{magic, version, entries, frame_octets}
 use Rattle.fleet_gossip.specs.Faults.{FieldFails, IsRoom}
 use Rattle.fleet_gossip.specs.declared.fault.FrameFault.{FrameFault}
@@ -47,30 +49,60 @@ pub record IsHead (octets : List ℕ) (head : Head) (rest : List ℕ) : Type 0 w
 
 -- a label stands at the front, or the zero octet that ends a name, and the rest behind it
 pub record IsLabelAt (before : List (List ℕ)) (octets label rest : List ℕ) : Type 0 where
-  pub whole : octets ≡ frame label ++ rest
+  pub whole : octets ≡ framed label ++ rest
   pub room : 0 < length label → IsRoom before (length label)
   pub low : lower label ≡ label
 
--- a name stands at the front, and the rest behind it
-pub record IsNameAt (octets : List ℕ) (name : List (List ℕ)) (rest : List ℕ) : Type 0 where
-  pub whole : octets ≡ wire name ++ rest
-  pub named : IsName name
+-- lawful octets stand at the front, and the rest behind them
+pub record IsPart (Lawful : List ℕ → Type 0) (octets part rest : List ℕ) : Type 0 where
+  pub whole : octets ≡ part ++ rest
+  pub lawful : Lawful part
+
+-- so many octets at the front are lawful
+pub record IsSizeOf (Lawful : List ℕ → Type 0) (octets : List ℕ) (size : ℕ) : Type 0 where
+  pub part : List ℕ
+  pub rest : List ℕ
+  pub is : IsPart Lawful octets part rest
+  pub counted : size ≡ length part
 
 abbrev pub AnyRdata : List ℕ → Type 0
 AnyRdata rdata = Unit {0}
 
--- this is the observation that an entry's first numbers, name and type begin
-pub record IsBegun (head : Head) (name : List (List ℕ)) (rtype : ℕ) (o : Fact) : Type 0 where
-  pub kind : o.kind ≡ kind_number head.kind
-  pub rank : o.rank ≡ head.rank
-  pub stamp : o.stamp ≡ head.stamp
-  pub life : o.life ≡ head.life
-  pub named : o.name ≡ name
-  pub typed : o.rtype ≡ rtype
+-- octets of the owner of an SOA on whose word the name may be denied
+pub record IsOwnerOf (name : List (List ℕ)) (octets : List ℕ) : Type 0 where
+  pub owner : List (List ℕ)
+  pub named : IsName owner
+  pub under : IsUnder name owner
+  pub whole : octets ≡ wire owner
 
 -- it stands above the last of them, if there is one
 abbrev pub IsAbove : List (List ℕ) → List ℕ → Type 0
 IsAbove rdatas rdata = (before : List (List ℕ)) (last : List ℕ) → rdatas ≡ before ++ last ∷ [] → slice_cmp nat_cmp last rdata ≡ Less
+
+-- it is the last of them
+abbrev pub EndWith : List (List ℕ) → List ℕ → Type 0
+EndWith rdatas last = (before : List (List ℕ)) × (rdatas ≡ before ++ last ∷ [])
+
+-- so many RDATAs that those of a type may begin with stand at the front, and the rest behind them; their body has
+-- `long` octets
+pub record AreFirstOf (rtype count : ℕ) (octets : List ℕ) (long : ℕ) (rest : List ℕ) : Type 0 where
+  pub rdatas : List (List ℕ)
+  pub whole : octets ≡ flat_map sized rdatas ++ rest
+  pub lawful : AreFirstRdatas rtype rdatas
+  pub counted : length rdatas ≡ count
+  pub size : long ≡ length (positive_body rdatas)
+
+-- octets that are the body of RDATAs
+pub record IsRdatasBody (body : List ℕ) : Type 0 where
+  pub rdatas : List (List ℕ)
+  pub octets : body ≡ positive_body rdatas
+
+-- octets that are the body of an SOA
+pub record IsSoaBody (body : List ℕ) : Type 0 where
+  pub owner : List (List ℕ)
+  pub rdata : List ℕ
+  pub named : IsName owner
+  pub octets : body ≡ negative_body owner rdata
 
 -- magic, version and a count of entries stand at the front, and the rest behind them
 abbrev pub IsOpened : List ℕ → ℕ → List ℕ → Type 0
@@ -81,6 +113,17 @@ pub record AreEntries (octets : List ℕ) (count : ℕ) (facts : List Fact) (res
   pub whole : octets ≡ entries facts ++ rest
   pub lawful : AreFacts facts
   pub counted : length facts ≡ count
+
+-- octets that are just so many lawful entries
+pub record StandEntries (octets : List ℕ) (count : ℕ) : Type 0 where
+  pub facts : List Fact
+  pub are : AreEntries octets count facts []
+
+-- a frame has so many entries, and these octets are all of them
+pub record AreEntriesOf (frame : List ℕ) (count : ℕ) (octets : List ℕ) : Type 0 where
+  pub opened : IsOpened frame count octets
+  pub fits : length frame ≤ 16384
+  pub stand : StandEntries octets count
 
 -- the frame of these observations has so many octets, which fit
 pub record FitsFrame (facts : List Fact) (size : ℕ) : Type 0 where

@@ -1,20 +1,18 @@
-//! The body of an entry.
+//! The body of an entry, read without memory.
 
-ghost use Rattle.std.specs.Prelude.{◌≡◌, ◌+◌, ◌++◌, ◌∷◌, [], ◌↔◌, length, IfOk, IfErr, IsTrue, MatchResult};
-ghost use Rattle.std.specs.List.{flat_map};
-ghost use Rattle.fleet_name.specs.Name.{IsUnder};
-ghost use Rattle.fleet_observe.specs.Body.{sized, positive_body, negative_body, AreRdatas, IsDenial};
-ghost use Rattle.fleet_gossip.specs.Entry.{IsCountOf, AreFirstRdatas};
-ghost use Rattle.fleet_gossip.specs.Faults.{as_body as told_of_body, SizedFails, RdatasFail, PositiveFails, NegativeFails, OrMemory};
-ghost use Rattle.fleet_gossip.specs.Steps.{AnyRdata, IsAbove, IsNameAt};
+ghost use Rattle.std.specs.Prelude.{◌≡◌, ℕ, ◌≤◌, ◌++◌, ◌∷◌, [], ◌↔◌, List, length, IsTrue, MatchOption, MatchResult};
+ghost use Rattle.fleet_name.specs.Name.{wire, IsName, IsWire};
+ghost use Rattle.fleet_observe.specs.Body.{sized, positive_body, IsPositiveBody, IsNegativeBody};
+ghost use Rattle.fleet_observe.specs.Fact.{kind_number};
+ghost use Rattle.fleet_gossip.specs.Entry.{IsCountOf, AreFirstRdatas, IsBodyOf};
+ghost use Rattle.fleet_gossip.specs.Faults.{as_body as told_of_body, SizedFails, RdatasFail, PositiveFails, NegativeFails, BodyFails};
+ghost use Rattle.fleet_gossip.specs.Steps.{AnyRdata, IsAbove, EndWith, IsPart, IsSizeOf, AreFirstOf, IsOwnerOf};
 
 use crate::fault::FrameFault;
-use crate::name::read_name;
+use crate::name::{is_under, read_name};
 use crate::reader::Reader;
-use fleet_name::{Name, Octets};
-use fleet_observe::Soa;
+use fleet_observe::Kind;
 use fleet_wire::plain_rdata;
-use std::alloc::Allocator;
 
 // The types whose rules differ (RFC 1035 3.2.2).
 const CNAME: u16 = 5;
@@ -24,34 +22,33 @@ const SOA: u16 = 6;
 // How many octets the body of a positive observation has at most.
 const MAX_BODY: usize = 8192;
 
-// RDATA behind its length.
-fn read_sized<'a>(reader: &mut Reader<'a>) -> Result<&'a [u8], FrameFault>
+/// RDATA behind its length.
+pub(crate) fn read_sized<'a>(reader: &mut Reader<'a>) -> Result<&'a [u8], FrameFault>
     ensures { MatchResult result (λ r. reader.old ≡ sized r.now ++ reader.new) (SizedFails AnyRdata reader.old) }
 {
     let size = reader.read_u16()?;
     reader.take(usize::from(size))
 }
 
-// Whether the RDATA stands above the last one.
-fn is_above<A: Allocator>(rdatas: &[Octets<A>], rdata: &[u8]) -> bool
-    ensures { IsTrue result ↔ IsAbove rdatas.now rdata.now }
+// Whether the RDATA stands above the last one, if there is one.
+fn is_above(last: Option<&[u8]>, rdata: &[u8]) -> bool
+    ensures { (before : List (List ℕ)) → MatchOption last.entry (before ≡ []) (λ r. EndWith before r.now) → (IsTrue result ↔ IsAbove before rdata.now) }
 {
-    match rdatas.last() {
+    match last {
         None => true,
-        Some(last) => last.as_slice().cmp(rdata).is_lt(),
+        Some(last) => last.cmp(rdata).is_lt(),
     }
 }
 
-// Whether the RDATA may stand behind those, which make a body of `size` octets.
-fn is_next<A: Allocator>(rtype: u16, rdatas: &[Octets<A>], size: usize, rdata: &[u8]) -> bool
-    requires first { AreFirstRdatas rtype rdatas.now }
-    requires counted { size ≡ length (positive_body rdatas.now) }
-    ensures { IsTrue result ↔ AreFirstRdatas rtype (rdatas.now ++ rdata.now ∷ []) }
+// Whether the RDATA may stand behind others, of which that is the last and which make a body of `size` octets.
+fn is_next(rtype: u16, last: Option<&[u8]>, size: usize, rdata: &[u8]) -> bool
+    requires { size ≤ 8192 }
+    ensures { (before : List (List ℕ)) → MatchOption last.entry (before ≡ []) (λ r. EndWith before r.now) → AreFirstRdatas rtype before → size ≡ length (positive_body before) → (IsTrue result ↔ AreFirstRdatas rtype (before ++ rdata.now ∷ [])) }
 {
     if rdata.len() > MAX_BODY || size + 2 + rdata.len() > MAX_BODY {
         return false;
     }
-    if !is_above(rdatas, rdata) {
+    if !is_above(last, rdata) {
         return false;
     }
     plain_rdata(rtype, rdata)
@@ -67,43 +64,33 @@ fn is_count_of(rtype: u16, count: u16) -> bool
     rtype != CNAME || count == 1
 }
 
-// So many RDATAs.
-fn read_rdatas<A: Allocator + Clone>(
-    alloc: A,
-    reader: &mut Reader<'_>,
-    rtype: u16,
-    count: u16,
-) -> Result<Vec<Octets<A>, A>, FrameFault>
-    ensures found { IfOk result (λ r. AreFirstRdatas rtype r.items × (reader.old ≡ flat_map sized r.items ++ reader.new) × (length r.items ≡ count)) }
-    ensures fault { IfErr result (λ f. OrMemory f (RdatasFail rtype count reader.old f)) }
+// How many octets a body of so many RDATAs has, which are read next.
+fn read_rdatas(reader: &mut Reader<'_>, rtype: u16, count: u16) -> Result<usize, FrameFault>
+    ensures { MatchResult result (λ size. AreFirstOf rtype count reader.old size reader.new) (RdatasFail rtype count reader.old) }
 {
-    let mut rdatas = Vec::new(alloc.clone()?);
+    let mut last = None;
     let mut size = 2;
     for _ in 0..count {
         let rdata = read_sized(reader)?;
-        if !is_next(rtype, &rdatas, size, rdata) {
+        if !is_next(rtype, last, size, rdata) {
             return Err(FrameFault::BadBody);
         }
         size += 2 + rdata.len();
-        rdatas.push(Octets::copy_of(alloc.clone()?, rdata)?)?;
+        last = Some(rdata);
     }
-    Ok(rdatas)
+    Ok(size)
 }
 
-/// The RDATAs of a positive body.
-pub(crate) fn read_positive<A: Allocator + Clone>(
-    alloc: A,
-    reader: &mut Reader<'_>,
-    rtype: u16,
-) -> Result<Vec<Octets<A>, A>, FrameFault>
-    ensures found { IfOk result (λ r. AreRdatas rtype r.items × (reader.old ≡ positive_body r.items ++ reader.new)) }
-    ensures fault { IfErr result (λ f. OrMemory f (PositiveFails rtype reader.old f)) }
+// How many octets the positive body at the front has.
+fn positive_size(octets: &[u8], rtype: u16) -> Result<usize, FrameFault>
+    ensures { MatchResult result (λ size. IsSizeOf (IsPositiveBody rtype) octets.now size) (PositiveFails rtype octets.now) }
 {
+    let mut reader = Reader::new(octets);
     let count = reader.read_u16()?;
     if !is_count_of(rtype, count) {
         return Err(FrameFault::BadBody);
     }
-    read_rdatas(alloc, reader, rtype, count)
+    read_rdatas(&mut reader, rtype, count)
 }
 
 // What a body tells of the name in it.
@@ -117,18 +104,14 @@ fn as_body(fault: FrameFault) -> FrameFault
 }
 
 // The owner of the SOA of a denial of the name.
-fn read_owner<A: Allocator>(
-    alloc: A,
-    reader: &mut Reader<'_>,
-    name: &Name<A>,
-) -> Result<Name<A>, FrameFault>
-    ensures found { IfOk result (λ owner. IsNameAt reader.old owner reader.new × IsUnder name.now owner) }
-    ensures fault { IfErr result (λ f. OrMemory f (NegativeFails name.now reader.old f)) }
+fn read_owner<'a>(reader: &mut Reader<'a>, name: &[u8]) -> Result<&'a [u8], FrameFault>
+    requires { IsWire name.now }
+    ensures { (n : List (List ℕ)) → IsName n → name.now ≡ wire n → MatchResult result (λ r. IsPart (IsOwnerOf n) reader.old r.now reader.new) (NegativeFails n reader.old) }
 {
-    match read_name(alloc, reader) {
+    match read_name(reader) {
         Err(fault) => Err(as_body(fault)),
         Ok(owner) => {
-            if !name.is_under(&owner) {
+            if !is_under(name, owner) {
                 return Err(FrameFault::BadBody);
             }
             Ok(owner)
@@ -136,24 +119,42 @@ fn read_owner<A: Allocator>(
     }
 }
 
-/// The SOA of the body of a denial of the name.
-pub(crate) fn read_negative<A: Allocator + Clone>(
-    alloc: A,
-    reader: &mut Reader<'_>,
-    name: &Name<A>,
-) -> Result<Soa<A>, FrameFault>
-    ensures found { IfOk result (λ soa. IsDenial name.now soa.owner soa.rdata × (reader.old ≡ negative_body soa.owner soa.rdata ++ reader.new)) }
-    ensures fault { IfErr result (λ f. OrMemory f (NegativeFails name.now reader.old f)) }
+// How many octets the body at the front has, which is that of a denial of the name.
+fn negative_size(octets: &[u8], name: &[u8]) -> Result<usize, FrameFault>
+    requires { IsWire name.now }
+    ensures { (n : List (List ℕ)) → IsName n → name.now ≡ wire n → MatchResult result (λ size. IsSizeOf (IsNegativeBody n) octets.now size) (NegativeFails n octets.now) }
 {
-    let owner = read_owner(alloc.clone()?, reader, name)?;
-    let rdata = read_sized(reader)?;
+    let mut reader = Reader::new(octets);
+    let owner = read_owner(&mut reader, name)?;
+    let rdata = read_sized(&mut reader)?;
     if !plain_rdata(SOA, rdata) {
         return Err(FrameFault::BadBody);
     }
-    let rdata = Octets::copy_of(alloc, rdata)?;
-    Ok(Soa {
-        owner,
-        ttl: 0,
-        rdata,
-    })
+    Ok(owner.len() + 2 + rdata.len())
+}
+
+// How many octets the body at the front has, of an entry of that kind, name and type.
+fn body_size(octets: &[u8], kind: Kind, name: &[u8], rtype: u16) -> Result<usize, FrameFault>
+    requires { IsWire name.now }
+    ensures { (n : List (List ℕ)) → IsName n → name.now ≡ wire n → MatchResult result (λ size. IsSizeOf (IsBodyOf (kind_number kind) n rtype) octets.now size) (BodyFails (kind_number kind) n rtype octets.now) }
+{
+    match kind {
+        Kind::Positive => positive_size(octets, rtype),
+        Kind::NoData => negative_size(octets, name),
+        Kind::NameError => negative_size(octets, name),
+    }
+}
+
+/// The body that is read next, of an entry of that kind, name and type.
+pub(crate) fn read_body<'a>(
+    reader: &mut Reader<'a>,
+    kind: Kind,
+    name: &[u8],
+    rtype: u16,
+) -> Result<&'a [u8], FrameFault>
+    requires { IsWire name.now }
+    ensures { (n : List (List ℕ)) → IsName n → name.now ≡ wire n → MatchResult result (λ r. IsPart (IsBodyOf (kind_number kind) n rtype) reader.old r.now reader.new) (BodyFails (kind_number kind) n rtype reader.old) }
+{
+    let size = body_size(reader.rest(), kind, name, rtype)?;
+    reader.take(size)
 }

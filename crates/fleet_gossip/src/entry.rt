@@ -1,82 +1,152 @@
 //! An entry: one observation.
 
-ghost use Rattle.std.specs.Prelude.{◌≡◌, ◌++◌, IfOk, IfErr};
-ghost use Rattle.fleet_name.specs.Name.{IsName};
-ghost use Rattle.fleet_observe.specs.Fact.{kind_number, IsFact};
+ghost use Rattle.std.specs.Prelude.{◌≡◌, ℕ, ◌++◌, List, IfOk, MatchResult};
+ghost use Rattle.fleet_name.specs.Name.{wire, IsName, IsWire};
+ghost use Rattle.fleet_observe.specs.Body.{positive_body, negative_body};
+ghost use Rattle.fleet_observe.specs.Fact.{Fact, kind_number};
 ghost use Rattle.fleet_observe.specs.Checks.{denied_kind, denied_type};
-ghost use Rattle.fleet_gossip.specs.Entry.{entry_octets, IsTypeOf};
-ghost use Rattle.fleet_gossip.specs.Faults.{BodyFails, EntryFails, OrMemory};
-ghost use Rattle.fleet_gossip.specs.Steps.{IsBegun, IsLawfulHead};
+ghost use Rattle.fleet_gossip.specs.Entry.{entry_octets};
+ghost use Rattle.fleet_gossip.specs.Faults.{EntryFails};
+ghost use Rattle.fleet_gossip.specs.Steps.{IsRdatasBody, IsSoaBody};
+ghost use Rattle.fleet_gossip.specs.Tells.{Tells};
 
-use crate::body::{read_negative, read_positive};
+use crate::body::{read_body, read_sized};
 use crate::fault::FrameFault;
 use crate::head::{Head, read_head, read_type};
 use crate::name::read_name;
 use crate::reader::Reader;
-use fleet_name::Name;
-use fleet_observe::{Kind, Observation};
-use std::alloc::Allocator;
+use fleet_name::{Name, Octets};
+use fleet_observe::{Kind, Observation, Soa};
+use std::alloc::{AllocError, Allocator};
 
-// A positive observation, from its body on.
-fn read_records<A: Allocator + Clone>(
-    alloc: A,
-    reader: &mut Reader<'_>,
-    head: Head,
-    name: Name<A>,
-    rtype: u16,
-) -> Result<Observation<A>, FrameFault>
-    requires head { IsLawfulHead head }
-    requires kind { kind_number head.kind ≡ 3 }
-    requires name { IsName name }
-    requires rtype { IsTypeOf (kind_number head.kind) rtype }
-    ensures found { IfOk result (λ o. IsFact o × IsBegun head name rtype o × (reader.old ≡ o.body ++ reader.new)) }
-    ensures fault { IfErr result (λ f. OrMemory f (BodyFails (kind_number head.kind) name rtype reader.old f)) }
-{
-    let rdatas = read_positive(alloc, reader, rtype)?;
-    let read = Observation::positive(name, rtype, head.rank, head.stamp, head.life, rdatas);
-    let Ok(observation) = read else {
-        unreachable!()
-    };
-    Ok(observation)
+/// An entry that was read, and is lawful. Its name and its body are octets of the frame.
+#[derive(Clone, Copy)]
+pub(crate) struct Entry<'a> {
+    pub head: Head,
+    pub name: &'a [u8],
+    pub rtype: u16,
+    pub body: &'a [u8],
 }
 
-// A denial, from its body on.
-fn read_denial<A: Allocator + Clone>(
-    alloc: A,
-    reader: &mut Reader<'_>,
-    head: Head,
-    name: Name<A>,
-    rtype: Option<u16>,
-) -> Result<Observation<A>, FrameFault>
-    requires head { IsLawfulHead head }
-    requires kind { kind_number head.kind ≡ denied_kind rtype }
-    requires name { IsName name }
-    requires rtype { IsTypeOf (kind_number head.kind) (denied_type rtype) }
-    ensures found { IfOk result (λ o. IsFact o × IsBegun head name (denied_type rtype) o × (reader.old ≡ o.body ++ reader.new)) }
-    ensures fault { IfErr result (λ f. OrMemory f (BodyFails (kind_number head.kind) name (denied_type rtype) reader.old f)) }
-{
-    let soa = read_negative(alloc, reader, &name)?;
-    let read = Observation::negative(name, rtype, head.rank, head.stamp, head.life, soa);
-    let Ok(observation) = read else {
-        unreachable!()
-    };
-    Ok(observation)
-}
-
-/// The observation of the entry that is read next.
-pub(crate) fn read_entry<A: Allocator + Clone>(
-    alloc: A,
-    reader: &mut Reader<'_>,
-) -> Result<Observation<A>, FrameFault>
-    ensures found { IfOk result (λ o. IsFact o × (reader.old ≡ entry_octets o ++ reader.new)) }
-    ensures fault { IfErr result (λ f. OrMemory f (EntryFails reader.old f)) }
+/// The entry that is read next. This takes no memory.
+pub(crate) fn read_entry<'a>(reader: &mut Reader<'a>) -> Result<Entry<'a>, FrameFault>
+    ensures { MatchResult result (λ entry. (o : Fact) × Tells entry o × (reader.old ≡ entry_octets o ++ reader.new)) (EntryFails reader.old) }
 {
     let head = read_head(reader)?;
-    let name = read_name(alloc.clone()?, reader)?;
+    let name = read_name(reader)?;
     let rtype = read_type(reader, head.kind)?;
-    match head.kind {
-        Kind::Positive => read_records(alloc, reader, head, name, rtype),
-        Kind::NoData => read_denial(alloc, reader, head, name, Some(rtype)),
-        Kind::NameError => read_denial(alloc, reader, head, name, None),
+    let body = read_body(reader, head.kind, name, rtype)?;
+    Ok(Entry {
+        head,
+        name,
+        rtype,
+        body,
+    })
+}
+
+// The name of octets in full.
+fn copy_name<A: Allocator>(alloc: A, octets: &[u8]) -> Result<Name<A>, AllocError>
+    requires { IsWire octets.now }
+    ensures { IfOk result (λ name. (n : List (List ℕ)) → IsName n → octets.now ≡ wire n → name ≡ n) }
+{
+    let name = Name::copy_of(alloc, octets)?;
+    // What the proof needs to know of the name.
+    prove!(!name.octets().is_empty());
+    Ok(name)
+}
+
+// The RDATAs of a positive body.
+fn copy_rdatas<A: Allocator + Copy>(alloc: A, body: &[u8]) -> Result<Vec<Octets<A>, A>, AllocError>
+    requires { IsRdatasBody body.now }
+    ensures { IfOk result (λ rdatas. body.now ≡ positive_body rdatas.items) }
+{
+    let mut reader = Reader::new(body);
+    let Ok(count) = reader.read_u16() else {
+        unreachable!()
+    };
+    let mut rdatas = Vec::new(alloc);
+    for _ in 0..count {
+        let Ok(rdata) = read_sized(&mut reader) else {
+            unreachable!()
+        };
+        rdatas.push(Octets::copy_of(alloc, rdata)?)?;
+    }
+    Ok(rdatas)
+}
+
+// The SOA of the body of a denial.
+fn copy_soa<A: Allocator + Copy>(alloc: A, body: &[u8]) -> Result<Soa<A>, AllocError>
+    requires { IsSoaBody body.now }
+    ensures { IfOk result (λ soa. IsName soa.owner × (body.now ≡ negative_body soa.owner soa.rdata)) }
+{
+    let mut reader = Reader::new(body);
+    let Ok(owner) = read_name(&mut reader) else {
+        unreachable!()
+    };
+    let Ok(rdata) = read_sized(&mut reader) else {
+        unreachable!()
+    };
+    let owner = copy_name(alloc, owner)?;
+    let rdata = Octets::copy_of(alloc, rdata)?;
+    Ok(Soa {
+        owner,
+        ttl: 0,
+        rdata,
+    })
+}
+
+impl Entry<'_> {
+    // The observation of a positive entry.
+    fn to_records<A: Allocator + Copy>(&self, alloc: A) -> Result<Observation<A>, AllocError>
+        requires tells { (o : Fact) × Tells self.now o }
+        requires kind { kind_number self.now.head.kind ≡ 3 }
+        ensures { IfOk result (λ made. (o : Fact) → Tells self.now o → made ≡ o) }
+    {
+        let name = copy_name(alloc, self.name)?;
+        let rdatas = copy_rdatas(alloc, self.body)?;
+        let head = self.head;
+        let Ok(observation) = Observation::positive(
+            name, self.rtype, head.rank, head.stamp, head.life, rdatas,
+        ) else {
+            unreachable!()
+        };
+        Ok(observation)
+    }
+
+    // The observation of a negative entry, of a type or of none.
+    fn to_denial<A: Allocator + Copy>(
+        &self,
+        alloc: A,
+        rtype: Option<u16>,
+    ) -> Result<Observation<A>, AllocError>
+        requires tells { (o : Fact) × Tells self.now o }
+        requires kind { kind_number self.now.head.kind ≡ denied_kind rtype }
+        requires rtype { self.now.rtype ≡ denied_type rtype }
+        ensures { IfOk result (λ made. (o : Fact) → Tells self.now o → made ≡ o) }
+    {
+        let name = copy_name(alloc, self.name)?;
+        let soa = copy_soa(alloc, self.body)?;
+        let head = self.head;
+        let Ok(observation) = Observation::negative(
+            name, rtype, head.rank, head.stamp, head.life, soa,
+        ) else {
+            unreachable!()
+        };
+        Ok(observation)
+    }
+
+    /// The observation that it tells.
+    pub fn to_observation<A: Allocator + Copy>(
+        &self,
+        alloc: A,
+    ) -> Result<Observation<A>, AllocError>
+        requires { (o : Fact) × Tells self.now o }
+        ensures { IfOk result (λ made. (o : Fact) → Tells self.now o → made ≡ o) }
+    {
+        match self.head.kind {
+            Kind::Positive => self.to_records(alloc),
+            Kind::NoData => self.to_denial(alloc, Some(self.rtype)),
+            Kind::NameError => self.to_denial(alloc, None),
+        }
     }
 }

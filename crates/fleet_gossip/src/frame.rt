@@ -1,10 +1,10 @@
 //! Frames: read and written.
 
-ghost use Rattle.std.specs.Prelude.{◌≡◌, ◌≢◌, ◌<◌, List, length, IfOk, IfErr, MatchOption, MatchResult, Err};
+ghost use Rattle.std.specs.Prelude.{◌≡◌, ◌<◌, List, [], length, IfOk, IfErr, OnErr, MatchOption, MatchResult, Err};
 ghost use Rattle.fleet_observe.specs.Fact.{Fact};
-ghost use Rattle.fleet_gossip.specs.Frame.{frame_octets, SpellsFrame, HasOpening};
+ghost use Rattle.fleet_gossip.specs.Frame.{frame_octets, SpellsFrame, HasEntries};
 ghost use Rattle.fleet_gossip.specs.Faults.{EntriesFail, MagicFails, FrameFails, IsTooLong, OrMemory};
-ghost use Rattle.fleet_gossip.specs.Steps.{IsOpened, AreEntries, FitsFrame};
+ghost use Rattle.fleet_gossip.specs.Steps.{IsOpened, AreEntries, StandEntries, AreEntriesOf, FitsFrame};
 ghost use Rattle.fleet_gossip.specs.declared.fault.FrameFault.TheVariants.{TooLong, OutOfMemory};
 
 use crate::entry::read_entry;
@@ -12,7 +12,7 @@ use crate::fault::FrameFault;
 use crate::reader::Reader;
 use crate::writer::{entry_size, push_entry, push_opening};
 use fleet_observe::Observation;
-use std::alloc::Allocator;
+use std::alloc::{AllocError, Allocator};
 
 /// The octets 44 47, which a frame begins with.
 pub(crate) const MAGIC: u16 = 17479;
@@ -65,8 +65,7 @@ pub fn encode<A: Allocator>(
 
 // How many entries the frame counts.
 fn read_count(reader: &mut Reader<'_>) -> Result<u16, FrameFault>
-    ensures opened { MatchResult result (λ count. IsOpened reader.old count reader.new) (MagicFails reader.old) }
-    ensures told { IfErr result (λ f. f ≢ OutOfMemory) }
+    ensures { MatchResult result (λ count. IsOpened reader.old count reader.new) (MagicFails reader.old) }
 {
     let magic = reader.read_u16()?;
     if magic != MAGIC {
@@ -79,49 +78,72 @@ fn read_count(reader: &mut Reader<'_>) -> Result<u16, FrameFault>
     reader.read_u16()
 }
 
-// So many entries.
-fn read_entries<A: Allocator + Clone>(
-    alloc: A,
-    reader: &mut Reader<'_>,
-    count: u16,
-) -> Result<Vec<Observation<A>, A>, FrameFault>
-    ensures found { IfOk result (λ v. AreEntries reader.old count v.items reader.new) }
-    ensures fault { IfErr result (λ f. OrMemory f (EntriesFail count reader.old f)) }
-{
-    let mut observations = Vec::new(alloc.clone()?);
-    for _ in 0..count {
-        let observation = read_entry(alloc.clone()?, reader)?;
-        observations.push(observation)?;
-    }
-    Ok(observations)
+/// The entries of a frame: how many they are, and their octets.
+#[derive(Clone, Copy)]
+pub(crate) struct Entries<'a> {
+    pub count: u16,
+    pub octets: &'a [u8],
 }
 
-// The observations of a frame.
-fn read_frame<A: Allocator + Clone>(
-    alloc: A,
-    octets: &[u8],
-) -> Result<Vec<Observation<A>, A>, FrameFault>
-    ensures found { IfOk result (λ v. SpellsFrame octets.now v.items) }
-    ensures fault { IfErr result (λ f. OrMemory f (FrameFails octets.now f)) }
-    ensures memory { IfErr result (λ f. f ≡ OutOfMemory → HasOpening octets.now) }
+// Whether the octets are just so many lawful entries. This takes no memory.
+fn check_entries(entries: &Entries<'_>) -> Result<(), FrameFault>
+    ensures { MatchResult result (λ _. StandEntries entries.now.octets.now entries.now.count) (EntriesFail entries.now.count entries.now.octets.now) }
+{
+    let mut reader = Reader::new(entries.octets);
+    for _ in 0..entries.count {
+        match read_entry(&mut reader) {
+            Ok(_) => {}
+            Err(fault) => return Err(fault),
+        }
+    }
+    if !reader.is_empty() {
+        return Err(FrameFault::Trailing);
+    }
+    Ok(())
+}
+
+// The entries of a frame, each of them lawful. This takes no memory.
+fn read_frame(octets: &[u8]) -> Result<Entries<'_>, FrameFault>
+    ensures { MatchResult result (λ entries. AreEntriesOf octets.now entries.count entries.octets.now) (FrameFails octets.now) }
 {
     if octets.len() > MAX_FRAME {
         return Err(FrameFault::TooLong);
     }
     let mut reader = Reader::new(octets);
     let count = read_count(&mut reader)?;
-    let observations = read_entries(alloc, &mut reader, count)?;
-    if !reader.is_empty() {
-        return Err(FrameFault::Trailing);
+    let entries = Entries {
+        count,
+        octets: reader.rest(),
+    };
+    check_entries(&entries)?;
+    Ok(entries)
+}
+
+// The observations of lawful entries.
+fn to_observations<A: Allocator + Copy>(
+    alloc: A,
+    entries: &Entries<'_>,
+) -> Result<Vec<Observation<A>, A>, AllocError>
+    requires { StandEntries entries.now.octets.now entries.now.count }
+    ensures found { IfOk result (λ v. AreEntries entries.now.octets.now entries.now.count v.items []) }
+    ensures memory { OnErr result (0 < entries.now.count) }
+{
+    let mut reader = Reader::new(entries.octets);
+    let mut observations = Vec::new(alloc);
+    for _ in 0..entries.count {
+        let Ok(entry) = read_entry(&mut reader) else {
+            unreachable!()
+        };
+        observations.push(entry.to_observation(alloc)?)?;
     }
     Ok(observations)
 }
 
 /// The observations of a frame, in its order: what `encode` makes this frame of.
 ///
-/// Of several faults the first one in reading order is told, and `OutOfMemory` at the growth that met it. A refused
-/// frame yields nothing.
-pub fn decode<A: Allocator + Clone>(
+/// All octets are checked before any memory is asked for: of several faults the first one in reading order is told, and
+/// `OutOfMemory` only where there is none and there are observations to be made. A refused frame yields nothing.
+pub fn decode<A: Allocator + Copy>(
     alloc: A,
     octets: &[u8],
 ) -> Result<Vec<Observation<A>, A>, FrameFault>
@@ -129,8 +151,10 @@ pub fn decode<A: Allocator + Clone>(
     ensures fault { IfErr result (λ f. OrMemory f (FrameFails octets.now f)) }
     // Where a list is spelled, only want of memory keeps it from being read.
     ensures only { (facts : List Fact) → SpellsFrame octets.now facts → IfErr result (λ f. f ≡ OutOfMemory) }
-    // Want of memory is told only behind what a frame begins with.
-    ensures memory { IfErr result (λ f. f ≡ OutOfMemory → HasOpening octets.now) }
+    // Want of memory is told only where a list is spelled that has something in it.
+    ensures memory { IfErr result (λ f. f ≡ OutOfMemory → HasEntries octets.now) }
 {
-    read_frame(alloc, octets)
+    let entries = read_frame(octets)?;
+    let observations = to_observations(alloc, &entries)?;
+    Ok(observations)
 }

@@ -1,14 +1,12 @@
 //! A name in an entry.
 
-ghost use Rattle.std.specs.Prelude.{◌≡◌, ℕ, ◌+◌, ◌≤◌, List, length, IfOk, IfErr, IsTrue, IsFalse, MatchResult};
-ghost use Rattle.fleet_name.specs.Name.{wire, lower};
-ghost use Rattle.fleet_gossip.specs.Faults.{LabelFails, NameFails, OrMemory};
-ghost use Rattle.fleet_gossip.specs.Steps.{IsLabelAt, IsNameAt};
+ghost use Rattle.std.specs.Prelude.{◌≡◌, ℕ, ◌≤◌, ◌↔◌, List, length, IsTrue, IsFalse, MatchResult};
+ghost use Rattle.fleet_name.specs.Name.{wire, lower, IsName, IsUnder, IsWire};
+ghost use Rattle.fleet_gossip.specs.Faults.{LabelFails, NameFails};
+ghost use Rattle.fleet_gossip.specs.Steps.{IsLabelAt, IsPart, IsSizeOf};
 
 use crate::fault::FrameFault;
 use crate::reader::Reader;
-use fleet_name::Name;
-use std::alloc::Allocator;
 
 // How many octets a label, and a name with its zero octet, have at most (RFC 1035 2.3.4).
 const MAX_LABEL: usize = 63;
@@ -48,7 +46,7 @@ fn read_label<'a>(reader: &mut Reader<'a>, used: usize) -> Result<&'a [u8], Fram
 
 // How many octets the name that is read next has.
 fn name_size(octets: &[u8]) -> Result<usize, FrameFault>
-    ensures { MatchResult result (λ size. (name : List (List ℕ)) × (rest : List ℕ) × IsNameAt octets.now name rest × (size ≡ length (wire name))) (NameFails octets.now) }
+    ensures { MatchResult result (λ size. IsSizeOf IsWire octets.now size) (NameFails octets.now) }
 {
     let mut reader = Reader::new(octets);
     let mut size = 1;
@@ -61,17 +59,24 @@ fn name_size(octets: &[u8]) -> Result<usize, FrameFault>
     }
 }
 
-/// The name that is read next.
-pub(crate) fn read_name<A: Allocator>(
-    alloc: A,
-    reader: &mut Reader<'_>,
-) -> Result<Name<A>, FrameFault>
-    ensures found { IfOk result (λ name. IsNameAt reader.old name reader.new) }
-    ensures fault { IfErr result (λ f. OrMemory f (NameFails reader.old f)) }
+/// The octets of the name that is read next.
+pub(crate) fn read_name<'a>(reader: &mut Reader<'a>) -> Result<&'a [u8], FrameFault>
+    ensures { MatchResult result (λ r. IsPart IsWire reader.old r.now reader.new) (NameFails reader.old) }
 {
     let size = name_size(reader.rest())?;
-    let octets = reader.take(size)?;
-    let name = Name::copy_of(alloc, octets)?;
-    prove!(!name.octets().is_empty());
-    Ok(name)
+    reader.take(size)
+}
+
+/// Whether the first name in full is the second one or below it.
+pub(crate) fn is_under(name: &[u8], ancestor: &[u8]) -> bool
+    requires name { IsWire name.now }
+    requires ancestor { IsWire ancestor.now }
+    ensures { (n a : List (List ℕ)) → IsName n → IsName a → name.now ≡ wire n → ancestor.now ≡ wire a → (IsTrue result ↔ IsUnder n a) }
+{
+    let mut rest = name;
+    while rest.len() > ancestor.len() {
+        let (_, behind) = rest.split_at(usize::from(rest[0]) + 1);
+        rest = behind;
+    }
+    rest == ancestor
 }

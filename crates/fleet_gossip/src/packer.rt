@@ -1,6 +1,6 @@
 //! Packing observations into frames.
 
-ghost use Rattle.std.specs.Prelude.{◌≡◌, ◌+◌, ◌<◌, ◌≤◌, ◌++◌, ◌∷◌, [], List, length, IfOk, OnOk};
+ghost use Rattle.std.specs.Prelude.{◌≡◌, ◌≢◌, ◌+◌, ◌<◌, ◌≤◌, ◌++◌, ◌∷◌, [], List, length, IfOk, OnOk, OnErr};
 ghost use Rattle.fleet_wire.specs.Number.{u16_octets};
 ghost use Rattle.fleet_observe.specs.Fact.{Fact};
 ghost use Rattle.fleet_gossip.specs.Entry.{octet};
@@ -27,17 +27,17 @@ pub(crate) struct Packer<A: Allocator> {
     count: u16,
 }
 
-impl<A: Allocator + Clone> Packer<A> {
+impl<A: Allocator + Copy> Packer<A> {
     /// Without frames.
-    pub fn new(alloc: A) -> Result<Packer<A>, AllocError>
-        ensures { IfOk result (λ packer. Packs packer []) }
+    pub fn new(alloc: A) -> Packer<A>
+        ensures { Packs result [] }
     {
-        Ok(Packer {
-            frames: Vec::new(alloc.clone()?),
-            entries: Vec::new(alloc.clone()?),
-            count: 0,
+        Packer {
             alloc,
-        })
+            frames: Vec::new(alloc),
+            entries: Vec::new(alloc),
+            count: 0,
+        }
     }
 
     // Finishes the frame in the making.
@@ -47,7 +47,7 @@ impl<A: Allocator + Clone> Packer<A> {
         ensures entries { OnOk result (self.new.entries.items ≡ []) }
         ensures count { OnOk result (self.new.count ≡ 0) }
     {
-        let mut frame = Vec::with_capacity(self.alloc.clone()?, OPENING + self.entries.len())?;
+        let mut frame = Vec::with_capacity(self.alloc, OPENING + self.entries.len())?;
         push_opening(&mut frame, self.count)?;
         frame.extend_from_slice(&self.entries)?;
         self.frames.push(Octets::new(frame))?;
@@ -72,7 +72,8 @@ impl<A: Allocator + Clone> Packer<A> {
     /// The frames of all that was added.
     pub fn finish(mut self) -> Result<Vec<Octets<A>, A>, AllocError>
         requires { IsPacking self }
-        ensures { IfOk result (λ frames. (taken : List Fact) → Packs self taken → IsPacked taken frames.items) }
+        ensures memory { OnErr result ((taken : List Fact) → Packs self taken → taken ≢ []) }
+        ensures packed { IfOk result (λ frames. (taken : List Fact) → Packs self taken → IsPacked taken frames.items) }
     {
         if self.count == 0 {
             return Ok(self.frames);
@@ -83,28 +84,30 @@ impl<A: Allocator + Clone> Packer<A> {
 }
 
 /// The frames of observations, in their order: each observation goes into the frame of the one before it where that
-/// then has at most 16384 octets, else it begins a new frame. An empty list has none.
-pub fn pack<A: Allocator + Clone>(
+/// then has at most 16384 octets, else it begins a new frame. An empty list has none, and takes no memory.
+pub fn pack<A: Allocator + Copy>(
     alloc: A,
     observations: &[Observation<A>],
 ) -> Result<Vec<Octets<A>, A>, AllocError>
-    ensures { IfOk result (λ frames. IsPacked observations.now frames.items) }
+    ensures packed { IfOk result (λ frames. IsPacked observations.now frames.items) }
+    ensures memory { OnErr result (observations.now ≢ []) }
 {
-    let mut packer = Packer::new(alloc)?;
+    let mut packer = Packer::new(alloc);
     for observation in observations {
         packer.add(observation)?;
     }
     packer.finish()
 }
 
-/// The frames of all items of a cache, in their order: what `pack` gives of them.
-pub fn sweep<A: Allocator + Clone>(
+/// The frames of all items of a cache, in their order: what `pack` gives of them. No items take no memory.
+pub fn sweep<A: Allocator + Copy>(
     alloc: A,
     cache: &Cache<A>,
 ) -> Result<Vec<Octets<A>, A>, AllocError>
-    ensures { IfOk result (λ frames. IsPacked cache.now.items frames.items) }
+    ensures packed { IfOk result (λ frames. IsPacked cache.now.items frames.items) }
+    ensures memory { OnErr result (cache.now.items ≢ []) }
 {
-    let mut packer = Packer::new(alloc)?;
+    let mut packer = Packer::new(alloc);
     for observation in cache.items() {
         packer.add(observation)?;
     }

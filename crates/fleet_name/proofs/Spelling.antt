@@ -84,9 +84,37 @@ take-wire name =
     let n : length (wire name) - 1 ≡ length (flat_map frame name) = rw (length-append (flat_map frame name) (0 ∷ [])) (omega arith) in
     rw (n, take-append_seam (flat_map frame name) (0 ∷ [])) refl
 
--- names with the same octets are the same
-pub wire_same : (a b : List (List ℕ)) → AllByRecursion IsLabel a → AllByRecursion IsLabel b → wire a ≡ wire b → a ≡ b
-wire_same a b one two e = sym (labels_of-wire a one) ∙ (ap labels_of e ∙ labels_of-wire b two)
+-- lists with the same front of one length
+split_same : (a b xs ys : List ℕ) → length a ≡ length b → a ++ xs ≡ b ++ ys → (a ≡ b) × (xs ≡ ys)
+split_same [] [] xs ys n e = (refl, e)
+split_same [] (y ∷ b) xs ys n e = absurd (omega (arith, n))
+split_same (x ∷ a) [] xs ys n e = absurd (omega (arith, n))
+split_same (x ∷ a) (y ∷ b) xs ys n e =
+    let h : x ≡ y = cc in
+    let t : a ++ xs ≡ b ++ ys = cc in
+    let r = split_same a b xs ys (omega (arith, n)) t in
+    let l : a ≡ b = r.0 in
+    (cc, r.1)
+
+-- a name with a label has more than one octet
+long_tail : (label : List ℕ) (name : List (List ℕ)) → wire [] ≡ wire (label ∷ name) → ⊥
+long_tail label name e =
+    let t : [] ≡ (label ++ flat_map frame name) ++ 0 ∷ [] = cc in
+    omega (arith, ap length t, length-append (label ++ flat_map frame name) (0 ∷ []))
+
+-- names with the same octets are the same, whatever their labels
+pub wire_exact : (a b : List (List ℕ)) → wire a ≡ wire b → a ≡ b
+wire_exact [] [] e = refl
+wire_exact [] (m ∷ b) e = absurd (long_tail m b e)
+wire_exact (l ∷ a) [] e = absurd (long_tail l a (sym e))
+wire_exact (l ∷ a) (m ∷ b) e =
+    let f : length l ∷ (l ++ wire a) ≡ length m ∷ (m ++ wire b) = rw (← append_assoc l (flat_map frame a) (0 ∷ []), ← append_assoc m (flat_map frame b) (0 ∷ [])) e in
+    let n : length l ≡ length m = cc in
+    let t : l ++ wire a ≡ m ++ wire b = cc in
+    let r = split_same l m (wire a) (wire b) n t in
+    let h : l ≡ m = r.0 in
+    let rest : a ≡ b = wire_exact a b r.1 in
+    cc
 
 -- the octets from the k-th label on: its length, and behind it those from the next label on
 module _ (name : List (List ℕ)) (k : ℕ) (within : k < length name) where
@@ -101,15 +129,10 @@ module _ (name : List (List ℕ)) (k : ℕ) (within : k < length name) where
       let label = get_or name k [] in let rest = drop (suc k) name in
       rw (add-one (length label), add-one k, drop-cons name k [] within, append_assoc) (drop-append_seam label (wire rest))
 
-all_drop : (k : ℕ) (name : List (List ℕ)) → AllByRecursion IsLabel name → AllByRecursion IsLabel (drop k name)
-all_drop zero name all = all
-all_drop (suc k) [] all = tt
-all_drop (suc k) (l ∷ name) all = all_drop k name all.1
-
 -- where the last labels have the octets of the other name, it is an ancestor
-pub under_from_octets : (n a : List (List ℕ)) (k : ℕ) → IsName n → IsName a → wire (drop k n) ≡ wire a → IsUnder n a
-under_from_octets n a k one two e =
-    let same = wire_same (drop k n) a (all_drop k n one.labels) two.labels e in
+pub under_from_octets : (n a : List (List ℕ)) (k : ℕ) → wire (drop k n) ≡ wire a → IsUnder n a
+under_from_octets n a k e =
+    let same = wire_exact (drop k n) a e in
     (take k n, sym (take-append-drop k n) ∙ ap (λ (ls : List (List ℕ)). take k n ++ ls) same)
 
 pub octets_from_under : (n a : List (List ℕ)) → IsUnder n a → wire (drop (length n - length a) n) ≡ wire a

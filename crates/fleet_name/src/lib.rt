@@ -11,5 +11,5 @@ mod text;
 
 pub use fault::NameFault;
 pub use laws::one_name;
-pub use name::{Name, suffix_in};
+pub use name::{Name, is_lower, suffix_in};
 pub use octets::Octets;

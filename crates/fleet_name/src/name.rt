@@ -150,14 +150,15 @@ impl<A: Allocator> Name<A> {
         Ok(text)
     }
 
-    /// A copy of the name.
+    /// A copy of the name: one allocation of just its octets.
     pub fn try_clone(&self) -> Result<Name<A>, AllocError>
     where
-        A: Clone,
+        A: Copy,
         ensures { IfOk result (λ n. n ≡ self.now) }
     {
+        let octets = Vec::from_slice(*self.octets.allocator(), &self.octets)?;
         Ok(Name {
-            octets: self.octets.clone()?,
+            octets,
             labels: self.labels,
         })
     }
@@ -284,10 +285,11 @@ fn push_labels<A: Allocator>(
     Ok(())
 }
 
-fn is_lower(label: &[u8]) -> bool
-    ensures { IsTrue result ↔ (lower label.now ≡ label.now) }
+/// Whether octets are in lower case: none of them is a capital letter, `A` to `Z`.
+pub fn is_lower(octets: &[u8]) -> bool
+    ensures { IsTrue result ↔ (lower octets.now ≡ octets.now) }
 {
-    for octet in label {
+    for octet in octets {
         if octet.to_ascii_lowercase() != *octet {
             return false;
         }

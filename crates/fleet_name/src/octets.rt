@@ -49,13 +49,12 @@ impl<A: Allocator> Octets<A> {
         self.items
     }
 
-    /// A copy of the octets.
+    /// A copy of the octets: one allocation of just their number.
     pub fn try_clone(&self) -> Result<Octets<A>, AllocError>
     where
-        A: Clone,
+        A: Copy,
         ensures { IfOk result (λ o. o ≡ self.now) }
     {
-        let items = self.items.clone()?;
-        Ok(Octets { items })
+        Octets::copy_of(*self.items.allocator(), &self.items)
     }
 }

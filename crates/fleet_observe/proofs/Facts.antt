@@ -1,5 +1,5 @@
 -- Which observations are kept, and that these are lawful.
-use Rattle.std.proofs.Common.{◌≡◌, ℕ, ◌^◌, ◌<◌, ◌≤◌, ◌∙◌, ◌⊎◌, inl, inr, Bool, true, false, nat_eq, nat_lt, List, [], ◌∷◌, ◌++◌, length, ap, sym, refl, subst, arith, append_assoc, append-nil, cond, Option, Some, None}
+use Rattle.std.proofs.Common.{◌≡◌, ◌≢◌, ℕ, ◌^◌, ◌<◌, ◌≤◌, ◌∙◌, ◌⊎◌, inl, inr, Bool, true, false, nat_eq, nat_lt, List, [], ◌∷◌, ◌++◌, length, ap, sym, refl, subst, arith, append_assoc, append-nil, cond, Option, Some, None}
 use Rattle.std.proofs.lemmas.Bool.Decides.{nat_tests}
 use Rattle.fleet_name.specs.Name.{labels_of, IsName}
 use Rattle.fleet_observe.specs.declared.fault.ObservationFault.{ObservationFault}
@@ -7,7 +7,7 @@ use Rattle.fleet_observe.specs.declared.fault.ObservationFault.TheVariants.{BadR
 use Rattle.fleet_observe.specs.Members.{Has}
 use Rattle.fleet_observe.specs.Body.{positive_body}
 use Rattle.fleet_observe.specs.Fact.{Fact, IsFact, AreFacts, IsRank, IsNegativeRank, IsDataType}
-use Rattle.fleet_observe.specs.Checks.{IsPositiveFault, IsNegativeFault, IsDeniedType}
+use Rattle.fleet_observe.specs.Checks.{IsNegativeFault, IsDeniedType}
 use Rattle.fleet_observe.specs.RrSet.{Set, sets_of, SpellsName}
 use Rattle.fleet_observe.specs.declared.rrset.RrSet.{RrSet}
 use Rattle.fleet_observe.specs.Digest.{SoaSet, Ending, WithRecords, WithoutData, WithoutName, WithCode, CutOff, Summary, denied_by, target_of, first_or, IsLawfulSet, IsLawfulLink, IsLawfulSoa, IsLawful, IsLawfulEnd}
@@ -52,54 +52,17 @@ over_or n = elim (bool_cases (nat_lt 8192 n)) [ inl k ↦ inr (over n k) | inr k
     within : (n : ℕ) → nat_lt 8192 n ≡ false → n ≤ 8192
     within n k = grind (arith, nat_tests)
 
--- and left out where it can't
-pub positive_left : (fault : ObservationFault) (x : Set) (rank stamp : ℕ) → IsLawfulSet x → IsRank rank → IsPositiveFault x.rtype rank x.ttl x.rdatas fault → positive_facts x rank stamp ≡ []
-positive_left BadRank x rank stamp is ranked why = absurd (why ranked)
-positive_left BadLife x rank stamp is ranked why =
-    dead_short (set_fact x rank stamp) (zero_life x.ttl is.ttl why.1)
-  where
-    zero_or : (n : ℕ) → (n ≡ 0) ⊎ (1 ≤ n)
-    zero_or n = elim (bool_cases (nat_eq n 0)) [ inl k ↦ inl (none n k) | inr k ↦ inr (some n k) ]
-      where
-        none : (n : ℕ) → nat_eq n 0 ≡ true → n ≡ 0
-        none n k = grind (arith, nat_tests)
-
-        some : (n : ℕ) → nat_eq n 0 ≡ false → 1 ≤ n
-        some n k = grind (arith, nat_tests)
-
-    zero_life : (n : ℕ) → n ≤ 86400 → ¬ ((1 ≤ n) × (n ≤ 86400)) → n ≡ 0
-    zero_life n most why = elim (zero_or n) [ inl e ↦ e | inr some ↦ absurd (why (some, most)) ]
-positive_left BadKind x rank stamp is ranked why = absurd (why.2 is.typed)
-positive_left BadBody x rank stamp is ranked why =
-    elim (over_or (length (positive_body x.rdatas))) [
-      | inl fits ↦ absurd (why.3 (record { some = is.some; ascending = is.ascending; plain = is.plain; alone = is.alone; short = fits }))
-      | inr over ↦ long_is (set_fact x rank stamp) over
-    ]
-
 -- a denial's observation is kept where it can be made
 pub negative_kept : (kind : ℕ) (n : List (List ℕ)) (t rank stamp : ℕ) (x : SoaSet) → 1 ≤ x.ttl
     → negative_facts kind n t rank stamp (Some x) ≡ soa_fact kind n t rank stamp x ∷ []
 negative_kept kind n t rank stamp x some = alive_is (soa_fact kind n t rank stamp x) (λ e. absurd (omega (arith, e, some)))
 
--- and left out where it can't
-pub negative_left : (fault : ObservationFault) (n : List (List ℕ)) (rtype : Option ℕ) (kind t rank stamp : ℕ) (x : SoaSet) → IsLawfulSoa n x → IsNegativeRank rank → IsDeniedType rtype
-    → IsNegativeFault n rtype rank x.ttl x.owner x.rdata fault → negative_facts kind n t rank stamp (Some x) ≡ []
-negative_left BadRank n rtype kind t rank stamp x is ranked typed why = absurd (why ranked)
-negative_left BadLife n rtype kind t rank stamp x is ranked typed why = dead_is (soa_fact kind n t rank stamp x) (zero_life x.ttl is.ttl why.1)
-  where
-    zero_or : (n : ℕ) → (n ≡ 0) ⊎ (1 ≤ n)
-    zero_or n = elim (bool_cases (nat_eq n 0)) [ inl k ↦ inl (none n k) | inr k ↦ inr (some n k) ]
-      where
-        none : (n : ℕ) → nat_eq n 0 ≡ true → n ≡ 0
-        none n k = grind (arith, nat_tests)
-
-        some : (n : ℕ) → nat_eq n 0 ≡ false → 1 ≤ n
-        some n k = grind (arith, nat_tests)
-
-    zero_life : (n : ℕ) → n ≤ 10800 → ¬ ((1 ≤ n) × (n ≤ 10800)) → n ≡ 0
-    zero_life n most why = elim (zero_or n) [ inl e ↦ e | inr some ↦ absurd (why (some, most)) ]
-negative_left BadKind n rtype kind t rank stamp x is ranked typed why = absurd (why.2 typed)
-negative_left BadBody n rtype kind t rank stamp x is ranked typed why = absurd (why.3 (record { named = is.owner; under = is.under; plain = is.plain }))
+-- a denial of a live SOA can be made
+pub negative_made : (fault : ObservationFault) (n : List (List ℕ)) (rtype : Option ℕ) (rank : ℕ) (x : SoaSet) → 1 ≤ x.ttl → IsLawfulSoa n x → IsNegativeRank rank → IsDeniedType rtype → ¬ IsNegativeFault n rtype rank x.ttl x.owner x.rdata fault
+negative_made BadRank n rtype rank x some is ranked typed why = why ranked
+negative_made BadLife n rtype rank x some is ranked typed why = why.1 (some, is.ttl)
+negative_made BadKind n rtype rank x some is ranked typed why = why.2 typed
+negative_made BadBody n rtype rank x some is ranked typed why = why.3 (record { named = is.owner; under = is.under; plain = is.plain })
 
 pub link_facts-push : (aa : Bool) (q : List (List ℕ)) (stamp : ℕ) (xs : List Set) (x : Set) → link_facts aa q stamp (xs ++ x ∷ []) ≡ link_facts aa q stamp xs ++ positive_facts x (answer_rank aa q x.name) stamp
 link_facts-push aa q stamp [] x = append-nil (positive_facts x (answer_rank aa q x.name) stamp)
@@ -261,3 +224,29 @@ observed_lawful d stamp is stamped o h = elim (Has-cases (link_facts d.aa d.name
 pub rank_some : {A : Type 0} (aa : Bool) (xs : List (RrSet A)) → 0 < length xs → negative_rank aa (sets_of xs) ≡ 1
 rank_some aa [] some = absurd (omega arith)
 rank_some aa (x ∷ xs) some = refl
+
+-- what has something in it is something
+pub some_front : (xs ys : List Fact) → xs ≢ [] → xs ++ ys ≢ []
+some_front [] ys some = absurd (some refl)
+some_front (x ∷ xs) ys some = λ e. cc
+
+pub some_back : (xs ys : List Fact) → ys ≢ [] → xs ++ ys ≢ []
+some_back [] ys some = some
+some_back (x ∷ xs) ys some = λ e. cc
+
+-- of an RRset that is observed there is an observation
+pub positive_some : (x : Set) (rank stamp : ℕ) → (1 ≤ x.ttl) × (length (positive_body x.rdatas) ≤ 8192) → positive_facts x rank stamp ≢ []
+positive_some x rank stamp is = rw (positive_kept x rank stamp is.0 is.1) (λ e. cc)
+
+pub negative_some : (kind : ℕ) (n : List (List ℕ)) (t rank stamp : ℕ) (x : SoaSet) → 1 ≤ x.ttl → negative_facts kind n t rank stamp (Some x) ≢ []
+negative_some kind n t rank stamp x some = rw (negative_kept kind n t rank stamp x some) (λ e. cc)
+
+pub link_some : (aa : Bool) (q : List (List ℕ)) (stamp : ℕ) (chain : List Set) (x : Set) → Has chain x → positive_facts x (answer_rank aa q x.name) stamp ≢ [] → link_facts aa q stamp chain ≢ []
+link_some aa q stamp [] x has some = absurd has
+link_some aa q stamp (y ∷ ys) x (inl e) some = some_front _ _ (subst (λ (z : Set). positive_facts z (answer_rank aa q z.name) stamp ≢ []) (sym e) some)
+link_some aa q stamp (y ∷ ys) x (inr h) some = some_back _ _ (link_some aa q stamp ys x h some)
+
+pub ns_some : (stamp : ℕ) (sets : List Set) (x : Set) → Has sets x → positive_facts x 2 stamp ≢ [] → ns_facts stamp sets ≢ []
+ns_some stamp [] x has some = absurd has
+ns_some stamp (y ∷ ys) x (inl e) some = some_front _ _ (subst (λ (z : Set). positive_facts z 2 stamp ≢ []) (sym e) some)
+ns_some stamp (y ∷ ys) x (inr h) some = some_back _ _ (ns_some stamp ys x h some)

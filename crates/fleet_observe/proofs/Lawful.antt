@@ -1,8 +1,8 @@
 -- Values that meet the checks make facts.
-use Rattle.std.proofs.Common.{◌≡◌, ℕ, ◌≤◌, ◌^◌, inl, inr, List, refl, arith, Option, Some, None}
+use Rattle.std.proofs.Common.{ℕ, ◌≤◌, ◌^◌, inl, inr, List, refl, arith, Option, Some, None}
 use Rattle.fleet_name.specs.Name.{IsName}
 use Rattle.fleet_observe.specs.Body.{positive_body, negative_body}
-use Rattle.fleet_observe.specs.Fact.{IsFact, IsNegativeRank, IsRank}
+use Rattle.fleet_observe.specs.Fact.{IsFact, IsNegativeKind, IsNegativeRank, IsRank}
 use Rattle.fleet_observe.specs.Checks.{MakesPositive, MakesNegative, denied_kind, denied_type}
 
 pub positive_lawful : (name : List (List ℕ)) (rtype rank stamp life : ℕ) (rdatas : List (List ℕ)) → IsName name → stamp ≤ 2 ^ 40 → MakesPositive rtype rank life rdatas → IsFact (record { kind = 3; name = name; rtype = rtype; body = positive_body rdatas; rank = rank; stamp = stamp; life = life })
@@ -43,6 +43,6 @@ negative_lawful name (Some rtype) rank stamp life owner rdata named early made =
   name_error = λ k. absurd (omega (arith, k));
 }
 
-pub denied_not_positive : (rtype : Option ℕ) → denied_kind rtype ≡ 3 → ⊥
-denied_not_positive None e = absurd (omega (arith, e))
-denied_not_positive (Some rtype) e = absurd (omega (arith, e))
+pub denied_negative : (rtype : Option ℕ) → IsNegativeKind (denied_kind rtype)
+denied_negative None = inl refl
+denied_negative (Some rtype) = inr refl

@@ -1,3 +1,4 @@
+pub mod Results
 pub mod Lists
 pub mod Lawful
 pub mod Orders
@@ -12,5 +13,6 @@ pub mod Owners
 pub mod LawfulMeanings
 pub mod Facts
 pub mod Lines
+pub mod Faults
 pub mod OneMeaning
 pub mod Distinct

@@ -1,12 +1,13 @@
--- The laws of the preference.
-use Rattle.std.proofs.Common.{◌≡◌, ℕ, List, [], ◌∷◌, ◌++◌, length, refl, sym, ap, arith, length-append, append_assoc}
+-- The laws of the preference and of keys.
+use Rattle.std.proofs.Common.{◌≡◌, ℕ, ◌/◌, ◌%◌, List, [], ◌∷◌, ◌++◌, length, refl, sym, ap, arith, length-append, append_assoc}
 use Rattle.std.specs.declared.cmp.Ordering.{Ordering}
 use Rattle.std.specs.declared.cmp.Ordering.TheVariants.{Less, Equal, Greater}
 use Rattle.std.specs.Ordering.{nat_cmp, ordering_then}
 use Rattle.std.specs.List.{flat_map}
 use Rattle.std.proofs.lemmas.Map.Lookups.{exact_unsigned, exact_bytes}
 use Rattle.fleet_name.specs.Name.{frame, wire}
-use Rattle.fleet_observe.specs.Fact.{Fact, expires}
+use Rattle.fleet_wire.specs.Number.{u16_octets}
+use Rattle.fleet_observe.specs.Fact.{Fact, expires, key_at}
 use Rattle.fleet_observe.specs.Preference.{name_cmp, preference}
 
 then_parts : (a b : Ordering) → ordering_then a b ≡ Equal → (a ≡ Equal) × (b ≡ Equal)
@@ -46,6 +47,19 @@ wire_exact (l ∷ a) (m ∷ b) e =
     let h : l ≡ m = r.0 in
     let rest : a ≡ b = wire_exact a b r.1 in
     cc
+
+-- a key tells name, kind and type
+pub key_exact : (n m : List (List ℕ)) (k j r q : ℕ) → key_at n k r ≡ key_at m j q → (n ≡ m) × (k ≡ j) × (r ≡ q)
+key_exact n m k j r q e =
+    let l = ap length e in
+    let a = length-append (wire n) (k ∷ u16_octets r) in
+    let b = length-append (wire m) (j ∷ u16_octets q) in
+    let p = split_same (wire n) (wire m) _ _ (omega (arith, l, a, b)) e in
+    let t : (k ∷ r / 256 ∷ r % 256 ∷ []) ≡ (j ∷ q / 256 ∷ q % 256 ∷ []) = p.1 in
+    let kind : k ≡ j = cc in
+    let high : r / 256 ≡ q / 256 = cc in
+    let low : r % 256 ≡ q % 256 = cc in
+    (wire_exact n m p.0, kind, grind (arith, high, low))
 
 abbrev fact_of : ℕ × ℕ × ℕ × ℕ × ℕ × List (List ℕ) × List ℕ → Fact
 fact_of p = record { rank = p.0; stamp = p.1; life = p.2; kind = p.3; rtype = p.4; name = p.5; body = p.6 }

@@ -1,9 +1,25 @@
 -- What the values of an observation have to meet, and which of them fails first.
-use Rattle.std.specs.Prelude.{ℕ, List, Option, Some, None, unwrap_or}
+use Rattle.std.specs.Prelude.{◌≡◌, ℕ, ◌<◌, List, Option, Some, None, unwrap_or}
 use Rattle.fleet_observe.specs.Body.{AreRdatas, IsDenial}
-use Rattle.fleet_observe.specs.Fact.{IsRank, IsNegativeRank, IsLife, IsDataType}
+use Rattle.fleet_observe.specs.Fact.{IsNegativeKind, IsRank, IsNegativeRank, IsLife, IsDataType}
 use Rattle.fleet_observe.specs.declared.fault.ObservationFault.{ObservationFault}
 use Rattle.fleet_observe.specs.declared.fault.ObservationFault.TheVariants.{BadRank, BadLife, BadKind, BadBody}
+
+-- a rank that a kind has: 1, 2 or 3, and of a denial 1 or 3
+abbrev pub IsRankOf : ℕ → ℕ → Type 0
+IsRankOf kind rank = (kind ≡ 3 → IsRank rank) × (IsNegativeKind kind → IsNegativeRank rank)
+
+-- a life that a kind has, in seconds: at most a day, and of a denial at most three hours
+abbrev pub IsLifeOf : ℕ → ℕ → Type 0
+IsLifeOf kind life = IsLife 86400 life × (IsNegativeKind kind → IsLife 10800 life)
+
+-- a type that a kind has: a name error has none, the others one that data can have
+abbrev pub IsTypeOf : ℕ → ℕ → Type 0
+IsTypeOf kind rtype = (kind ≡ 1 → rtype ≡ 0) × (kind ≡ 2 → IsDataType rtype) × (kind ≡ 3 → IsDataType rtype)
+
+-- how many RDATAs a type has: at least one, and an alias (CNAME, 5) one alone (RFC 2181 10.1)
+abbrev pub IsCountOf : ℕ → ℕ → Type 0
+IsCountOf rtype count = (0 < count) × (rtype ≡ 5 → count ≡ 1)
 
 -- of four checks the fault's is the first that fails
 abbrev pub IsFirstToFail : Type 0 → Type 0 → Type 0 → Type 0 → ObservationFault → Type 0

@@ -24,6 +24,10 @@ kind_number NameError = 1
 kind_number NoData = 2
 kind_number Positive = 3
 
+-- a kind that denies: a name error or no data
+abbrev pub IsNegativeKind : ℕ → Type 0
+IsNegativeKind kind = (kind ≡ 1) ⊎ (kind ≡ 2)
+
 -- the moment at which it ends
 abbrev pub expires : Fact → ℕ
 expires o = o.stamp + o.life
@@ -34,6 +38,10 @@ key_at name kind rtype = wire name ++ kind ∷ u16_octets rtype
 
 abbrev pub key_of : Fact → List ℕ
 key_of o = key_at o.name o.kind o.rtype
+
+-- a key is of one name, one kind and one type
+abbrev pub OneKey : Type 0
+OneKey = (n m : List (List ℕ)) (k j r q : ℕ) → key_at n k r ≡ key_at m j q → (n ≡ m) × (k ≡ j) × (r ≡ q)
 
 -- a rank
 abbrev pub IsRank : ℕ → Type 0

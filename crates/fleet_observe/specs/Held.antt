@@ -1,7 +1,7 @@
 -- The parts of a body, as they are held.
-use Rattle.std.specs.Prelude.{◌≡◌, ◌≢◌, ℕ, List}
+use Rattle.std.specs.Prelude.{◌≡◌, ℕ, List}
 use Rattle.fleet_observe.specs.Body.{positive_body, negative_body, AreRdatas, IsDenial}
-use Rattle.fleet_observe.specs.Fact.{Fact, kind_number}
+use Rattle.fleet_observe.specs.Fact.{Fact, kind_number, IsNegativeKind}
 use Rattle.fleet_observe.specs.declared.kind.Kind.{Kind}
 use Rattle.fleet_observe.specs.declared.body.Body.{Body}
 use Rattle.fleet_observe.specs.declared.body.Body.TheVariants.{Records, Authority}
@@ -26,7 +26,7 @@ fact_held kind name rtype rank stamp life body = record {
 -- the parts are those of the kind, and lawful
 abbrev pub IsBodyOf : {A : Type 0} → ℕ → List (List ℕ) → ℕ → Body A → Type 0
 IsBodyOf kind name rtype (Records rdatas) = (kind ≡ 3) × AreRdatas rtype rdatas.items
-IsBodyOf kind name rtype (Authority owner rdata) = (kind ≢ 3) × IsDenial name owner rdata
+IsBodyOf kind name rtype (Authority owner rdata) = IsNegativeKind kind × IsDenial name owner rdata
 
 -- the bodies hold the same parts
 abbrev pub AreSameParts : {A : Type 0} → Body A → Body A → Type 0

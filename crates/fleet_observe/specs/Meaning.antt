@@ -1,6 +1,7 @@
 -- What a reply means (RFC 1034 3.6.2, RFC 2308 2 and 5).
-use Rattle.std.specs.Prelude.{◌≡◌, ℕ, ◌+◌, ◌-◌, ◌*◌, ◌⊎◌, true, false, List, [], ◌∷◌, ◌++◌, length, min, slice_index, Option, Some, None}
+use Rattle.std.specs.Prelude.{◌≡◌, ℕ, ◌-◌, ◌⊎◌, true, false, List, [], ◌∷◌, ◌++◌, length, min, Option, Some, None}
 use Rattle.fleet_name.specs.Name.{IsUnder}
+use Rattle.fleet_wire.specs.Number.{u32_at}
 use Rattle.fleet_wire.specs.Record.{Told}
 use Rattle.fleet_wire.specs.Message.{Reply}
 use Rattle.fleet_observe.specs.declared.told.DigestFault.{DigestFault}
@@ -27,11 +28,15 @@ pub record AsksWalk (r : Reply) : Type 0 where
 abbrev pub IsWalkable : Reply → Type 0
 IsWalkable r = HasWalk r.answer r.question.rtype r.question.name
 
--- why there is no digest, the first reason
+-- nothing is wrong with the reply: its question is served, and where it asks for a walk there is one
+abbrev pub IsSound : Reply → Type 0
+IsSound r = IsServed r × (AsksWalk r → IsWalkable r)
+
+-- why there is no digest, the first reason: want of memory only where nothing is wrong with the reply
 abbrev pub IsFault : Reply → DigestFault → Type 0
 IsFault r NotReply = ¬ IsServed r
 IsFault r BadChain = IsServed r × AsksWalk r × (¬ IsWalkable r)
-IsFault r OutOfMemory = IsServed r × (AsksWalk r → IsWalkable r)
+IsFault r OutOfMemory = IsSound r
 
 pub record IsSoaRecord (r : Told) : Type 0 where
   pub class : r.class ≡ 1
@@ -47,7 +52,7 @@ pub record IsFirstSoa (s : List Told) (r : Told) : Type 0 where
 
 -- MINIMUM: the last four octets of an SOA's RDATA, as a number
 abbrev pub minimum_of : List ℕ → ℕ
-minimum_of d = slice_index d (length d - 4) * 16777216 + slice_index d (length d - 4 + 1) * 65536 + slice_index d (length d - 4 + 2) * 256 + slice_index d (length d - 4 + 3)
+minimum_of d = u32_at d (length d - 4)
 
 -- how long a denial holds (RFC 2308 5), and at most three hours
 abbrev pub soa_ttl : Told → ℕ
@@ -57,6 +62,10 @@ soa_ttl r = min (min (read_ttl r.ttl) (read_ttl (minimum_of r.rdata))) 10800
 pub record Counts (s : List Told) (n : List (List ℕ)) (r : Told) : Type 0 where
   pub first : IsFirstSoa s r
   pub under : IsUnder n r.name
+
+-- there is such an SOA
+abbrev pub HasSoa : List Told → List (List ℕ) → Type 0
+HasSoa s n = (r : Told) × Counts s n r
 
 pub record IsSoaOf (s : List Told) (n : List (List ℕ)) (x : SoaSet) : Type 0 where
   pub carrier : Told
@@ -99,6 +108,10 @@ pub record IsNs (q : List (List ℕ)) (r : Told) : Type 0 where
   pub rtype : r.rtype ≡ 2
   pub above : IsUnder q r.name
 
+-- there is such a record
+abbrev pub HasNs : List (List ℕ) → List Told → Type 0
+HasNs q s = (r : Told) × Has s r × IsNs q r
+
 -- an earlier one of such records has the owner of r
 pub record IsRepeated (q : List (List ℕ)) (before : List Told) (r : Told) : Type 0 where
   pub earlier : Told
@@ -140,3 +153,10 @@ pub record IsMeaning (r : Reply) (d : Summary) : Type 0 where
   pub aa : d.aa ≡ r.header.aa
   pub tells : Tells r d.chain d.end
   pub authority : IsAuthority r d.ns
+
+-- nothing is wrong with a reply that means something, so none of its faults is told
+abbrev pub MeaningOrFault : Type 0
+MeaningOrFault = (r : Reply) (d : Summary) (f : DigestFault) → IsMeaning r d → IsFault r f → f ≡ OutOfMemory
+
+abbrev pub MeaningIsSound : Type 0
+MeaningIsSound = (r : Reply) (d : Summary) → IsMeaning r d → IsSound r

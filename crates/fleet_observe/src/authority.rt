@@ -1,11 +1,11 @@
 //! The NS RRsets that a reply is an authority for.
 
-ghost use Rattle.std.specs.Prelude.{◌≡◌, ℕ, List, IfOk, IsTrue, ◌↔◌};
+ghost use Rattle.std.specs.Prelude.{◌≡◌, ℕ, List, IfOk, IfErr, IsTrue, ◌↔◌};
 ghost use Rattle.fleet_wire.specs.Record.{told, all_told};
 ghost use Rattle.fleet_wire.specs.Message.{IsRead};
 ghost use Rattle.fleet_observe.specs.Members.{Has};
 ghost use Rattle.fleet_observe.specs.RrSet.{sets_of};
-ghost use Rattle.fleet_observe.specs.Meaning.{IsNs, owners_of, AreNsSets, HasAuthority, IsAuthority};
+ghost use Rattle.fleet_observe.specs.Meaning.{IsNs, HasNs, owners_of, AreNsSets, HasAuthority, IsAuthority};
 
 use crate::rrset::{RrSet, gather};
 use fleet_name::Name;
@@ -16,16 +16,16 @@ use std::alloc::{AllocError, Allocator};
 const NS: u16 = 2;
 
 // Whether the record is an NS record at the name or an ancestor of it.
-fn is_ns<A: Allocator>(record: &Record<A>, name: &Name<A>) -> bool
-    ensures { IsTrue result ↔ IsNs name.now (told record.now) }
+fn is_ns<A: Allocator>(candidate: &Record<A>, name: &Name<A>) -> bool
+    ensures { IsTrue result ↔ IsNs name.now (told candidate.now) }
 {
-    if record.class != 1 {
+    if candidate.class != 1 {
         return false;
     }
-    if record.rtype != NS {
+    if candidate.rtype != NS {
         return false;
     }
-    name.is_under(&record.name)
+    name.is_under(&candidate.name)
 }
 
 // Whether one of the RRsets has this owner.
@@ -41,17 +41,18 @@ fn owns<A: Allocator>(sets: &[RrSet<A>], owner: &Name<A>) -> bool
 }
 
 // The NS RRsets at the name and its ancestors, in order of first appearance.
-fn ns_sets<A: Allocator + Clone>(
+fn ns_sets<A: Allocator + Copy>(
     alloc: A,
     authority: &[Record<A>],
     name: &Name<A>,
 ) -> Result<Vec<RrSet<A>, A>, AllocError>
-    ensures { IfOk result (λ v. AreNsSets name.now (all_told authority.now) (sets_of v.items)) }
+    ensures sets { IfOk result (λ v. AreNsSets name.now (all_told authority.now) (sets_of v.items)) }
+    ensures memory { IfErr result (λ _. HasNs name.now (all_told authority.now)) }
 {
-    let mut sets = Vec::new(alloc.clone()?);
+    let mut sets = Vec::new(alloc);
     for record in authority {
         if is_ns(record, name) && !owns(&sets, &record.name) {
-            let set = gather(alloc.clone()?, authority, &record.name, NS)?;
+            let set = gather(alloc, authority, &record.name, NS)?;
             sets.push(set)?;
         }
     }
@@ -59,11 +60,12 @@ fn ns_sets<A: Allocator + Clone>(
 }
 
 /// The NS RRsets that the reply is an authority for.
-pub(crate) fn authority_sets<A: Allocator + Clone>(
+pub(crate) fn authority_sets<A: Allocator + Copy>(
     alloc: A,
     message: &Message<A>,
 ) -> Result<Vec<RrSet<A>, A>, AllocError>
-    ensures { IfOk result (λ v. IsAuthority message.now (sets_of v.items)) }
+    ensures sets { IfOk result (λ v. IsAuthority message.now (sets_of v.items)) }
+    ensures memory { IfErr result (λ _. HasAuthority message.now × HasNs message.now.question.name message.now.authority) }
 {
     let header = message.header();
     if header.tc || !header.aa || header.rcode != 0 {

@@ -47,7 +47,7 @@ impl<A: Allocator> Body<A> {
     /// A copy.
     pub(crate) fn try_clone(&self) -> Result<Body<A>, AllocError>
     where
-        A: Clone,
+        A: Copy,
         ensures { IfOk result (AreSameParts self.now) }
     {
         match self {
@@ -81,7 +81,7 @@ fn push_short<B: Allocator>(octets: &mut Vec<u8, B>, number: usize) -> Result<()
     requires { number < 65536 }
     ensures { OnOk result (octets.new.items ≡ octets.old.items ++ u16_octets number) }
 {
-    octets.extend_from_slice(&[(number / 256) as u8, (number % 256) as u8])
+    octets.extend_from_slice(&(number as u16).to_be_bytes())
 }
 
 // Adds octets behind their number.
@@ -109,12 +109,10 @@ fn push_rdatas<A: Allocator, B: Allocator>(
 }
 
 // A copy of RDATAs.
-fn copy_of<A: Allocator + Clone>(
-    rdatas: &Vec<Octets<A>, A>,
-) -> Result<Vec<Octets<A>, A>, AllocError>
+fn copy_of<A: Allocator + Copy>(rdatas: &Vec<Octets<A>, A>) -> Result<Vec<Octets<A>, A>, AllocError>
     ensures { IfOk result (λ v. v.items ≡ rdatas.now.items) }
 {
-    let mut copies = Vec::with_capacity(rdatas.allocator().clone()?, rdatas.len())?;
+    let mut copies = Vec::with_capacity(*rdatas.allocator(), rdatas.len())?;
     for rdata in rdatas {
         copies.push(rdata.try_clone()?)?;
     }

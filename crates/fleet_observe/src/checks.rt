@@ -5,8 +5,10 @@ ghost use Rattle.fleet_wire.specs.Shape.{IsPlain};
 ghost use Rattle.fleet_observe.specs.Members.{Has, IsAscending};
 ghost use Rattle.fleet_observe.specs.Body.{positive_body, AreRdatas, IsDenial};
 ghost use Rattle.fleet_observe.specs.Fact.{IsRank, IsNegativeRank, IsLife, IsDataType};
-ghost use Rattle.fleet_observe.specs.Checks.{IsDeniedType};
+ghost use Rattle.fleet_observe.specs.Fact.{kind_number};
+ghost use Rattle.fleet_observe.specs.Checks.{IsDeniedType, IsRankOf, IsLifeOf, IsTypeOf, IsCountOf};
 
+use crate::kind::Kind;
 use fleet_name::{Name, Octets};
 use fleet_wire::plain_rdata;
 use std::alloc::Allocator;
@@ -16,14 +18,14 @@ pub(crate) const CNAME: u16 = 5;
 
 pub(crate) const SOA: u16 = 6;
 
-/// The longest life, in seconds.
-pub(crate) const LONGEST_LIFE: u32 = 86400;
+/// The longest life, in seconds: a day.
+pub const LONGEST_LIFE: u32 = 86400;
 
-/// The longest life of a denial, in seconds (RFC 2308 5).
-pub(crate) const LONGEST_DENIAL: u32 = 10800;
+/// The longest life of a denial, in seconds: three hours (RFC 2308 5).
+pub const LONGEST_DENIAL: u32 = 10800;
 
-// How many octets a body has at most.
-const LONGEST_BODY: usize = 8192;
+/// How many octets the body of a positive observation has at most.
+pub const LONGEST_BODY: usize = 8192;
 
 // Whether it is a rank.
 pub(crate) fn is_rank(rank: u8) -> bool
@@ -78,7 +80,7 @@ fn are_plain<A: Allocator>(rtype: u16, rdatas: &[Octets<A>]) -> bool
 }
 
 // Whether their body has at most 8192 octets.
-fn are_short<A: Allocator>(rdatas: &[Octets<A>]) -> bool
+pub(crate) fn are_short<A: Allocator>(rdatas: &[Octets<A>]) -> bool
     ensures { IsTrue result ↔ (length (positive_body rdatas.now) ≤ 8192) }
 {
     let mut room = LONGEST_BODY - 2;
@@ -92,14 +94,55 @@ fn are_short<A: Allocator>(rdatas: &[Octets<A>]) -> bool
     true
 }
 
+/// Whether an observation of the kind can have the rank: 1, 2 or 3 where it is positive, 1 or 3 where it is a denial.
+pub fn is_rank_of(kind: Kind, rank: u8) -> bool
+    ensures { IsTrue result ↔ IsRankOf (kind_number kind) rank }
+{
+    match kind {
+        Kind::Positive => is_rank(rank),
+        Kind::NoData => is_negative_rank(rank),
+        Kind::NameError => is_negative_rank(rank),
+    }
+}
+
+/// Whether an observation of the kind can have the life, in seconds: 1 to 86400, of a denial at most 10800.
+pub fn is_life_of(kind: Kind, life: u32) -> bool
+    ensures { IsTrue result ↔ IsLifeOf (kind_number kind) life }
+{
+    match kind {
+        Kind::Positive => is_life(LONGEST_LIFE, life),
+        Kind::NoData => is_life(LONGEST_DENIAL, life),
+        Kind::NameError => is_life(LONGEST_DENIAL, life),
+    }
+}
+
+/// Whether an observation of the kind can have the type: 0 where it is a name error, else one that data can have.
+pub fn is_type_of(kind: Kind, rtype: u16) -> bool
+    ensures { IsTrue result ↔ IsTypeOf (kind_number kind) rtype }
+{
+    match kind {
+        Kind::Positive => is_data_type(rtype),
+        Kind::NoData => is_data_type(rtype),
+        Kind::NameError => rtype == 0,
+    }
+}
+
+/// Whether a positive observation of the type can have so many RDATAs: at least one, and of an alias (CNAME) one alone
+/// (RFC 2181 10.1).
+pub fn is_count_of(rtype: u16, count: usize) -> bool
+    ensures { IsTrue result ↔ IsCountOf rtype count }
+{
+    if count == 0 {
+        return false;
+    }
+    rtype != CNAME || count == 1
+}
+
 // Whether an observation of the type may hold these RDATAs.
 pub(crate) fn are_rdatas<A: Allocator>(rtype: u16, rdatas: &[Octets<A>]) -> bool
     ensures { IsTrue result ↔ AreRdatas rtype rdatas.now }
 {
-    if rdatas.is_empty() {
-        return false;
-    }
-    if rtype == CNAME && rdatas.len() != 1 {
+    if !is_count_of(rtype, rdatas.len()) {
         return false;
     }
     are_short(rdatas) && are_ascending(rdatas) && are_plain(rtype, rdatas)

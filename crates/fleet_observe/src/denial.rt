@@ -1,13 +1,13 @@
 //! Which SOA a denial has (RFC 2308 3, 5).
 
-ghost use Rattle.std.specs.Prelude.{◌≡◌, ℕ, ◌≤◌, List, length, IfOk, MatchOption};
+ghost use Rattle.std.specs.Prelude.{◌≡◌, ℕ, ◌≤◌, List, length, IfOk, IfErr, MatchOption};
 ghost use Rattle.fleet_wire.specs.Record.{Told, told, all_told};
 ghost use Rattle.fleet_observe.specs.Members.{Has};
 ghost use Rattle.fleet_observe.specs.Walk.{ArePlainRecords};
 ghost use Rattle.fleet_observe.specs.Digest.{soa_in};
-ghost use Rattle.fleet_observe.specs.Meaning.{IsSoaRecord, IsFirstSoa, IsSoa, minimum_of};
+ghost use Rattle.fleet_observe.specs.Meaning.{IsSoaRecord, IsFirstSoa, IsSoa, HasSoa, minimum_of};
 
-use crate::checks::SOA;
+use crate::checks::{LONGEST_DENIAL, SOA};
 use crate::rrset::bounded;
 use crate::soa::Soa;
 use fleet_name::Name;
@@ -32,20 +32,18 @@ fn minimum(rdata: &[u8]) -> u32
     ensures { result ≡ minimum_of rdata.now }
 {
     let at = rdata.len() - 4;
-    u32::from(rdata[at]) * 16777216
-        + u32::from(rdata[at + 1]) * 65536
-        + u32::from(rdata[at + 2]) * 256
-        + u32::from(rdata[at + 3])
+    u32::from_be_bytes([rdata[at], rdata[at + 1], rdata[at + 2], rdata[at + 3]])
 }
 
 /// The SOA that counts for a denied name, if any.
-pub(crate) fn soa_for<A: Allocator + Clone>(
+pub(crate) fn soa_for<A: Allocator + Copy>(
     alloc: A,
     authority: &[Record<A>],
     denied: &Name<A>,
 ) -> Result<Option<Soa<A>>, AllocError>
     requires { ArePlainRecords (all_told authority.now) }
-    ensures { IfOk result (λ o. IsSoa (all_told authority.now) denied.now (soa_in o)) }
+    ensures soa { IfOk result (λ o. IsSoa (all_told authority.now) denied.now (soa_in o)) }
+    ensures memory { IfErr result (λ _. HasSoa (all_told authority.now) denied.now) }
 {
     let Some(record) = first_soa(authority) else {
         return Ok(None);
@@ -57,7 +55,7 @@ pub(crate) fn soa_for<A: Allocator + Clone>(
     let least = bounded(minimum(record.rdata.as_slice()));
     Ok(Some(Soa {
         owner: record.name.try_clone()?,
-        ttl: own.min(least).min(10800),
+        ttl: own.min(least).min(LONGEST_DENIAL),
         rdata: record.rdata.try_clone()?,
     }))
 }

@@ -1,7 +1,14 @@
 //! Laws of what replies tell. These functions do nothing when run.
 
+ghost use Rattle.fleet_observe.specs.Fact.{OneKey};
 ghost use Rattle.fleet_observe.specs.Walk.{OneWalk};
+ghost use Rattle.fleet_observe.specs.Meaning.{MeaningIsSound, MeaningOrFault};
 ghost use Rattle.fleet_observe.specs.Observed.{OneMeaning, OneObserved, EachOnce};
+
+/// A key is of one name, one kind and one type.
+pub fn one_key()
+    ensures { OneKey }
+{}
 
 /// There is one walk at most.
 pub fn one_walk()
@@ -12,6 +19,12 @@ pub fn one_walk()
 pub fn one_meaning()
     ensures meaning { OneMeaning }
     ensures observed { OneObserved }
+{}
+
+/// Nothing is wrong with a reply that means something: a reply has a meaning or a fault, and not both.
+pub fn meaning_or_fault()
+    ensures sound { MeaningIsSound }
+    ensures fault { MeaningOrFault }
 {}
 
 /// The observations of a reply at a moment come each once: no two of them are equal.

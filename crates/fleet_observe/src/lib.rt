@@ -25,10 +25,13 @@ mod summary;
 mod told;
 mod walk;
 
-pub use checks::is_data_type;
+pub use checks::{
+    LONGEST_BODY, LONGEST_DENIAL, LONGEST_LIFE, is_count_of, is_data_type, is_life_of, is_rank_of,
+    is_type_of,
+};
 pub use fault::ObservationFault;
 pub use kind::Kind;
-pub use laws::{each_once, one_meaning, one_walk};
+pub use laws::{each_once, meaning_or_fault, one_key, one_meaning, one_walk};
 pub use moment::Moment;
 pub use observation::Observation;
 pub use observed::observations;

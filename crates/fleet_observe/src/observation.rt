@@ -1,8 +1,8 @@
 //! Observations.
 
-ghost use Rattle.std.specs.Prelude.{◌≡◌, ◌≢◌, ℕ, ◌+◌, ◌≤◌, [], length, MatchOption, MatchResult, IfOk, IfSome};
+ghost use Rattle.std.specs.Prelude.{◌≡◌, ◌≢◌, ℕ, ◌+◌, ◌≤◌, [], ◌++◌, length, MatchOption, MatchResult, IfOk, OnOk, IfSome};
 ghost use Rattle.fleet_observe.specs.Body.{positive_body, negative_body, AreRdatas, IsDenial};
-ghost use Rattle.fleet_observe.specs.Fact.{kind_number, expires as end_of, IsFact};
+ghost use Rattle.fleet_observe.specs.Fact.{kind_number, expires as end_of, IsNegativeKind, IsFact};
 ghost use Rattle.fleet_observe.specs.Checks.{denied_kind, denied_type, MakesPositive, IsPositiveFault, MakesNegative, IsNegativeFault};
 
 use crate::body::Body;
@@ -217,7 +217,7 @@ impl<A: Allocator> Observation<A> {
 
     /// The owner and the RDATA of the SOA that a negative observation rests on; `None` of a positive one.
     pub fn soa(&self) -> Option<(&Name<A>, &[u8])>
-        ensures cases { MatchOption result (self.now.kind ≡ 3) (λ p. self.now.kind ≢ 3) }
+        ensures cases { MatchOption result (self.now.kind ≡ 3) (λ p. IsNegativeKind self.now.kind) }
         ensures body { IfSome result (λ p. self.now.body ≡ negative_body p.0.now p.1.now) }
         ensures denial { IfSome result (λ p. IsDenial self.now.name p.0.now p.1.now) }
         ensures lawful { IsFact self.now }
@@ -236,6 +236,14 @@ impl<A: Allocator> Observation<A> {
         self.body.len()
     }
 
+    /// Adds the octets of its body to others: those that `write_body` writes. Where there is no memory for them, some may
+    /// have been added.
+    pub fn append_body<B: Allocator>(&self, octets: &mut Vec<u8, B>) -> Result<(), AllocError>
+        ensures { OnOk result (octets.new.items ≡ octets.old.items ++ self.now.body) }
+    {
+        self.body.push_to(octets)
+    }
+
     /// The octets of its body, of a positive observation the RDATAs: their count, then each behind its length; of a
     /// negative one the SOA: its owner in full, then its RDATA behind its length. Counts and lengths have two octets, the
     /// high one first.
@@ -243,14 +251,14 @@ impl<A: Allocator> Observation<A> {
         ensures { IfOk result (λ v. v.items ≡ self.now.body) }
     {
         let mut octets = Vec::with_capacity(alloc, self.body.len())?;
-        self.body.push_to(&mut octets)?;
+        self.append_body(&mut octets)?;
         Ok(octets)
     }
 
     /// A copy of it.
     pub fn try_clone(&self) -> Result<Observation<A>, AllocError>
     where
-        A: Clone,
+        A: Copy,
         ensures { IfOk result (λ o. o ≡ self.now) }
     {
         let name = self.name.try_clone()?;

@@ -1,14 +1,16 @@
 //! The observations of a digest.
 
-ghost use Rattle.std.specs.Prelude.{◌≡◌, ℕ, ◌++◌, List, IfOk, OnOk, Option, Some};
+ghost use Rattle.std.specs.Prelude.{◌≡◌, ◌≢◌, ◌↔◌, ℕ, ◌≤◌, ◌++◌, List, [], length, IfOk, IfErr, OnOk, IsTrue, Option, Some};
 ghost use Rattle.fleet_name.specs.Name.{labels_of};
 ghost use Rattle.fleet_observe.specs.Members.{Has};
+ghost use Rattle.fleet_observe.specs.Body.{positive_body};
 ghost use Rattle.fleet_observe.specs.Fact.{IsRank, IsNegativeRank, AreFacts};
 ghost use Rattle.fleet_observe.specs.Checks.{IsDeniedType, denied_kind, denied_type};
 ghost use Rattle.fleet_observe.specs.RrSet.{Set, set_of, sets_of, SpellsName};
 ghost use Rattle.fleet_observe.specs.Digest.{soa_in, soa_of, ending_of, denied_by, first_or, IsLawfulSet, IsLawfulLink, IsLawfulSoa, IsLawful};
 ghost use Rattle.fleet_observe.specs.Observed.{positive_facts, negative_facts, answer_rank, negative_rank, link_facts, end_facts, ns_facts, observed_facts};
 
+use crate::checks::are_short;
 use crate::moment::Moment;
 use crate::names::name_of;
 use crate::observation::Observation;
@@ -20,7 +22,7 @@ use fleet_name::{Name, Octets};
 use std::alloc::{AllocError, Allocator};
 
 // Copies of the RDATAs.
-fn copies<A: Allocator + Clone>(
+fn copies<A: Allocator + Copy>(
     alloc: A,
     rdatas: &[Octets<A>],
 ) -> Result<Vec<Octets<A>, A>, AllocError>
@@ -33,8 +35,18 @@ fn copies<A: Allocator + Clone>(
     Ok(all)
 }
 
+// Whether an RRset is observed: its TTL is not zero and its body not too long.
+fn is_observed<A: Allocator>(set: &RrSet<A>) -> bool
+    ensures { IsTrue result ↔ ((1 ≤ set.now.ttl) × (length (positive_body set.now.rdatas) ≤ 8192)) }
+{
+    if set.ttl == 0 {
+        return false;
+    }
+    are_short(set.rdatas.as_slice())
+}
+
 // Adds the observation of an RRset, unless its TTL is zero or its body too long.
-fn put_set<A: Allocator + Clone>(
+fn put_set<A: Allocator + Copy>(
     alloc: A,
     set: &RrSet<A>,
     rank: u8,
@@ -43,21 +55,24 @@ fn put_set<A: Allocator + Clone>(
 ) -> Result<(), AllocError>
     requires lawful { IsLawfulSet (set_of set.now) }
     requires ranked { IsRank rank }
-    ensures { OnOk result (out.new.items ≡ out.old.items ++ positive_facts (set_of set.now) rank stamp) }
+    ensures added { OnOk result (out.new.items ≡ out.old.items ++ positive_facts (set_of set.now) rank stamp) }
+    ensures memory { IfErr result (λ _. positive_facts (set_of set.now) rank stamp ≢ []) }
 {
+    if !is_observed(set) {
+        return Ok(());
+    }
     let rdatas = copies(alloc, set.rdatas.as_slice())?;
     let name = set.name.try_clone()?;
-    match Observation::positive(name, set.rtype, rank, stamp, set.ttl, rdatas) {
-        Ok(observation) => {
-            out.push(observation)?;
-            Ok(())
-        }
-        Err(_) => Ok(()),
-    }
+    let made = Observation::positive(name, set.rtype, rank, stamp, set.ttl, rdatas);
+    let Ok(observation) = made else {
+        unreachable!()
+    };
+    out.push(observation)?;
+    Ok(())
 }
 
 // Adds the observation of a denial, unless the SOA's TTL is zero.
-fn put_denial<A: Allocator + Clone>(
+fn put_denial<A: Allocator + Copy>(
     alloc: A,
     denied: &[u8],
     rtype: Option<u16>,
@@ -70,21 +85,24 @@ fn put_denial<A: Allocator + Clone>(
     requires typed { IsDeniedType rtype }
     requires ranked { IsNegativeRank rank }
     requires lawful { IsLawfulSoa (labels_of denied.now) (soa_of soa.now) }
-    ensures { OnOk result (out.new.items ≡ out.old.items ++ negative_facts (denied_kind rtype) (labels_of denied.now) (denied_type rtype) rank stamp (Some (soa_of soa.now))) }
+    ensures added { OnOk result (out.new.items ≡ out.old.items ++ negative_facts (denied_kind rtype) (labels_of denied.now) (denied_type rtype) rank stamp (Some (soa_of soa.now))) }
+    ensures memory { IfErr result (λ _. negative_facts (denied_kind rtype) (labels_of denied.now) (denied_type rtype) rank stamp (Some (soa_of soa.now)) ≢ []) }
 {
+    if soa.ttl == 0 {
+        return Ok(());
+    }
     let name = name_of(alloc, denied)?;
     let copy = Soa {
         owner: soa.owner.try_clone()?,
         ttl: soa.ttl,
         rdata: soa.rdata.try_clone()?,
     };
-    match Observation::negative(name, rtype, rank, stamp, soa.ttl, copy) {
-        Ok(observation) => {
-            out.push(observation)?;
-            Ok(())
-        }
-        Err(_) => Ok(()),
-    }
+    let made = Observation::negative(name, rtype, rank, stamp, soa.ttl, copy);
+    let Ok(observation) = made else {
+        unreachable!()
+    };
+    out.push(observation)?;
+    Ok(())
 }
 
 // The rank of an answer RRset.
@@ -134,31 +152,33 @@ fn denied_at<'a, A: Allocator>(name: &'a Name<A>, chain: &'a [RrSet<A>]) -> &'a 
 }
 
 // Adds the observations of the links.
-fn put_links<A: Allocator + Clone>(
+fn put_links<A: Allocator + Copy>(
     alloc: A,
     digest: &Digest<A>,
     stamp: Moment,
     out: &mut Vec<Observation<A>, A>,
 ) -> Result<(), AllocError>
-    ensures { OnOk result (out.new.items ≡ out.old.items ++ link_facts digest.now.aa digest.now.name stamp digest.now.chain) }
+    ensures added { OnOk result (out.new.items ≡ out.old.items ++ link_facts digest.now.aa digest.now.name stamp digest.now.chain) }
+    ensures memory { IfErr result (λ _. link_facts digest.now.aa digest.now.name stamp digest.now.chain ≢ []) }
 {
     let name = digest.name();
     let aa = digest.aa();
     for link in digest.chain() {
         let rank = rank_of(aa, name, &link.name);
-        put_set(alloc.clone()?, link, rank, stamp, out)?;
+        put_set(alloc, link, rank, stamp, out)?;
     }
     Ok(())
 }
 
 // Adds the observation of the end.
-fn put_end<A: Allocator + Clone>(
+fn put_end<A: Allocator + Copy>(
     alloc: A,
     digest: &Digest<A>,
     stamp: Moment,
     out: &mut Vec<Observation<A>, A>,
 ) -> Result<(), AllocError>
-    ensures { OnOk result (out.new.items ≡ out.old.items ++ end_facts digest.now stamp digest.now.end) }
+    ensures added { OnOk result (out.new.items ≡ out.old.items ++ end_facts digest.now stamp digest.now.end) }
+    ensures memory { IfErr result (λ _. end_facts digest.now stamp digest.now.end ≢ []) }
 {
     let name = digest.name();
     let aa = digest.aa();
@@ -177,34 +197,37 @@ fn put_end<A: Allocator + Clone>(
 }
 
 // Adds the observations of the NS RRsets.
-fn put_ns<A: Allocator + Clone>(
+fn put_ns<A: Allocator + Copy>(
     alloc: A,
     digest: &Digest<A>,
     stamp: Moment,
     out: &mut Vec<Observation<A>, A>,
 ) -> Result<(), AllocError>
     ensures added { OnOk result (out.new.items ≡ out.old.items ++ ns_facts stamp digest.now.ns) }
+    ensures memory { IfErr result (λ _. ns_facts stamp digest.now.ns ≢ []) }
     ensures lawful { IsLawful digest.now }
 {
     for set in digest.ns() {
-        put_set(alloc.clone()?, set, 2, stamp, out)?;
+        put_set(alloc, set, 2, stamp, out)?;
     }
     Ok(())
 }
 
 /// The observations of a reply at a moment, in this order: the links, the records or the denial with its SOA, the NS
 /// RRsets. Left out are those of a TTL of zero, RRsets whose body has more than 8192 octets, and a denial without SOA.
-pub fn observations<A: Allocator + Clone>(
+/// Only where there are any is memory wanted.
+pub fn observations<A: Allocator + Copy>(
     alloc: A,
     digest: &Digest<A>,
     stamp: Moment,
 ) -> Result<Vec<Observation<A>, A>, AllocError>
     ensures observed { IfOk result (λ os. os.items ≡ observed_facts digest.now stamp) }
+    ensures memory { IfErr result (λ _. observed_facts digest.now stamp ≢ []) }
     ensures lawful { IfOk result (λ os. AreFacts os.items) }
 {
-    let mut out = Vec::new(alloc.clone()?);
-    put_links(alloc.clone()?, digest, stamp, &mut out)?;
-    put_end(alloc.clone()?, digest, stamp, &mut out)?;
+    let mut out = Vec::new(alloc);
+    put_links(alloc, digest, stamp, &mut out)?;
+    put_end(alloc, digest, stamp, &mut out)?;
     put_ns(alloc, digest, stamp, &mut out)?;
     prove!(stamp.value() <= Moment::LATEST);
     Ok(out)

@@ -42,7 +42,7 @@ fn is_cut_off<A: Allocator>(end: &End<A>) -> bool
 }
 
 // Adds the records of an RRset to the answer section.
-fn put_set<A: Allocator + Clone>(outline: &mut Outline<A>, set: &RrSet<A>) -> Result<(), AllocError>
+fn put_set<A: Allocator + Copy>(outline: &mut Outline<A>, set: &RrSet<A>) -> Result<(), AllocError>
     ensures { OnOk result (outline.new ≡ with_answers outline.old (set_lines (set_of set.now))) }
 {
     for rdata in set.rdatas.as_slice() {
@@ -52,7 +52,7 @@ fn put_set<A: Allocator + Clone>(outline: &mut Outline<A>, set: &RrSet<A>) -> Re
 }
 
 // Adds an SOA, if there is one, to the authority section.
-fn put_soa<A: Allocator + Clone>(
+fn put_soa<A: Allocator + Copy>(
     outline: &mut Outline<A>,
     soa: &Option<Soa<A>>,
 ) -> Result<(), AllocError>
@@ -65,7 +65,7 @@ fn put_soa<A: Allocator + Clone>(
 }
 
 // Adds the records of an end.
-fn put_end<A: Allocator + Clone>(outline: &mut Outline<A>, end: &End<A>) -> Result<(), AllocError>
+fn put_end<A: Allocator + Copy>(outline: &mut Outline<A>, end: &End<A>) -> Result<(), AllocError>
     ensures { OnOk result (outline.new ≡ with_end outline.old (ending_of end.now)) }
 {
     match end {
@@ -78,7 +78,7 @@ fn put_end<A: Allocator + Clone>(outline: &mut Outline<A>, end: &End<A>) -> Resu
 }
 
 // An outline that says what the digest says.
-fn outline_of<A: Allocator + Clone>(
+fn outline_of<A: Allocator + Copy>(
     alloc: A,
     digest: &Digest<A>,
     question: &Question<A>,
@@ -102,7 +102,7 @@ fn outline_of<A: Allocator + Clone>(
 /// spelling, the links, and then the records, or the SOA of a denial in the authority section (RFC 1035 4.1). TTLs are
 /// the digest's. A reply of another RCODE has that code and the question alone, one that was cut off RCODE 0, TC and
 /// the question. Where all of it would have more than 512 octets, it is header and question with TC.
-pub fn relay<A: Allocator + Clone>(
+pub fn relay<A: Allocator + Copy>(
     alloc: A,
     digest: &Digest<A>,
     question: &Question<A>,
@@ -111,6 +111,6 @@ pub fn relay<A: Allocator + Clone>(
 ) -> Result<Vec<u8, A>, AllocError>
     ensures { IfOk result (λ v. v.items ≡ octets_of_outline (relayed digest.now (asked question.now) id rd)) }
 {
-    let outline = outline_of(alloc.clone()?, digest, question, id, rd)?;
+    let outline = outline_of(alloc, digest, question, id, rd)?;
     write_reply(alloc, &outline)
 }

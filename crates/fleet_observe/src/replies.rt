@@ -1,9 +1,13 @@
 //! Replies as octets, and what they tell.
 
-use crate::{DigestFault, Kind, Moment, Observation, digest, observations, relay};
+use crate::{DigestFault, End, Kind, Moment, Observation, digest, observations, relay};
 use fleet_wire::{read_query, read_reply};
 use std::alloc::Global;
 use std::test::Fail;
+
+// www.example. is an alias of a.example., and this one of b.example., which is not there.
+const TWO_ALIASES: [u8; 99] =
+    *b"\0\x02\x81\x83\0\x01\0\x02\0\x01\0\0\x03www\x07example\0\0\x01\0\x01\xc0\x0c\0\x05\0\x01\0\0\0\x3c\0\x04\x01a\xc0\x10\xc0\x29\0\x05\0\x01\0\0\0\x3c\0\x04\x01b\xc0\x10\xc0\x10\0\x06\0\x01\0\0\x0e\x10\0\x1a\x02ns\xc0\x10\0\0\0\0\x01\0\0\x0e\x10\0\0\x02\x58\0\x01\x51\x80\0\0\x01\x2c";
 
 // The observations of a message at second 100.
 fn seen(alloc: Global, message: &[u8]) -> Result<Vec<Observation>, Fail> {
@@ -13,10 +17,11 @@ fn seen(alloc: Global, message: &[u8]) -> Result<Vec<Observation>, Fail> {
     Ok(observations(alloc, &told, stamp)?)
 }
 
-// What a client is told of a message, whose question has the identifier 7.
-fn relayed(alloc: Global, message: &[u8]) -> Result<Vec<u8>, Fail> {
-    let asked = b"\0\x07\x01\0\0\x01\0\0\0\0\0\0\x07example\x03com\0\0\x01\0\x01";
-    let (header, question) = read_query(alloc, asked.as_slice())?;
+// What a client that asked so, with identifier 7 and RD, is told of a message.
+fn relayed(alloc: Global, asked: &[u8], message: &[u8]) -> Result<Vec<u8>, Fail> {
+    let head = b"\0\x07\x01\0\0\x01\0\0\0\0\0\0";
+    let query = joined(alloc, head.as_slice(), asked)?;
+    let (header, question) = read_query(alloc, &query)?;
     let reply = read_reply(alloc, message)?;
     let told = digest(alloc, &reply)?;
     Ok(relay(alloc, &told, &question, header.id, header.rd)?)
@@ -31,10 +36,7 @@ fn joined(alloc: Global, front: &[u8], back: &[u8]) -> Result<Vec<u8>, Fail> {
 
 #[test]
 fn two_aliases_of_a_name_that_is_not_there(rt: HostRuntime) -> Result<(), Fail> {
-    let all = seen(
-        rt.alloc(),
-        b"\0\x02\x81\x83\0\x01\0\x02\0\x01\0\0\x03www\x07example\0\0\x01\0\x01\xc0\x0c\0\x05\0\x01\0\0\0\x3c\0\x04\x01a\xc0\x10\xc0\x29\0\x05\0\x01\0\0\0\x3c\0\x04\x01b\xc0\x10\xc0\x10\0\x06\0\x01\0\0\x0e\x10\0\x1a\x02ns\xc0\x10\0\0\0\0\x01\0\0\x0e\x10\0\0\x02\x58\0\x01\x51\x80\0\0\x01\x2c",
-    )?;
+    let all = seen(rt.alloc(), TWO_ALIASES.as_slice())?;
     assert_eq!(rt; all.len(), 3);
     let first = &all[0];
     assert_eq!(rt; first.kind(), Kind::Positive);
@@ -148,16 +150,115 @@ fn a_chain_of_nine(rt: HostRuntime) -> Result<(), Fail> {
 
 #[test]
 fn relays_a_large_ttl_and_a_denial(rt: HostRuntime) -> Result<(), Fail> {
+    let asked = b"\x07example\x03com\0\0\x01\0\x01";
     let twice =
         b"\x12\x34\x81\x80\0\x01\0\x02\0\0\0\0\x07example\x03com\0\0\x01\0\x01\xc0\x0c\0\x01\0\x01\0\0\x01\x2c\0\x04\xc0\0\x02\x01\xc0\x0c\0\x01\0\x01\x80\0\0\x01\0\x04\xc0\0\x02\x01";
     assert_eq!(rt;
-        relayed(rt.alloc(), twice.as_slice())?.as_slice(),
+        relayed(rt.alloc(), asked.as_slice(), twice.as_slice())?.as_slice(),
         b"\0\x07\x81\x80\0\x01\0\x01\0\0\0\0\x07example\x03com\0\0\x01\0\x01\x07example\x03com\0\0\x01\0\x01\0\0\0\0\0\x04\xc0\0\x02\x01".as_slice()
     );
     let denial = b"\x12\x34\x81\x83\0\x01\0\0\0\0\0\0\x07example\x03com\0\0\x01\0\x01";
     assert_eq!(rt;
-        relayed(rt.alloc(), denial.as_slice())?.as_slice(),
+        relayed(rt.alloc(), asked.as_slice(), denial.as_slice())?.as_slice(),
         b"\0\x07\x81\x83\0\x01\0\0\0\0\0\0\x07example\x03com\0\0\x01\0\x01".as_slice()
     );
+    Ok(())
+}
+
+// The flags of a reply with an NS record, and those of what its client is told: RCODE 0 and TC where TC is set, else its
+// own RCODE.
+#[test]
+fn relays_what_was_cut_off_and_other_codes(rt: HostRuntime) -> Result<(), Fail> {
+    let alloc = rt.alloc();
+    let rest =
+        b"\0\x01\0\0\0\x01\0\0\x07example\x03com\0\0\x01\0\x01\xc0\x0c\0\x02\0\x01\0\0\x02\x58\0\x05\x02ns\xc0\x0c";
+    let asked = b"\x07Example\x03COM\0\0\x01\0\x01";
+    let counts = b"\0\x01\0\0\0\0\0\0";
+    for (flags, told) in [
+        (b"\x12\x34\x87\x80", b"\0\x07\x83\x80"),
+        (b"\x12\x34\x87\x83", b"\0\x07\x83\x80"),
+        (b"\x12\x34\x85\x82", b"\0\x07\x81\x82"),
+        (b"\x12\x34\x85\x85", b"\0\x07\x81\x85"),
+    ] {
+        let message = joined(alloc, flags.as_slice(), rest.as_slice())?;
+        assert_eq!(rt; seen(alloc, &message)?.len(), 0);
+        let head = joined(alloc, told.as_slice(), counts.as_slice())?;
+        let reply = joined(alloc, &head, asked.as_slice())?;
+        assert_eq!(rt;
+            relayed(alloc, asked.as_slice(), &message)?.as_slice(),
+            reply.as_slice()
+        );
+    }
+    Ok(())
+}
+
+// The same flags: what the digest holds.
+#[test]
+fn digests_what_was_cut_off_and_other_codes(rt: HostRuntime) -> Result<(), Fail> {
+    let alloc = rt.alloc();
+    let cut = b"\x12\x34\x87\x83\0\x01\0\x05\0\x01\0\0\x07example\x03com\0\0\x01\0\x01";
+    let told = digest(alloc, &read_reply(alloc, cut.as_slice())?)?;
+    assert!(rt; matches!(told.end(), End::Truncated));
+    assert_eq!(rt; told.name().octets(), b"\x07example\x03com\0".as_slice());
+    assert!(rt; told.aa() && told.rtype() == 1 && told.chain().is_empty() && told.ns().is_empty());
+    let refused = b"\x12\x34\x81\x85\0\x01\0\0\0\0\0\0\x07example\x03com\0\0\x1c\0\x01";
+    let told = digest(alloc, &read_reply(alloc, refused.as_slice())?)?;
+    assert!(rt; matches!(told.end(), End::Code(5)));
+    assert_eq!(rt; told.name().octets(), b"\x07example\x03com\0".as_slice());
+    assert!(rt;
+        !told.aa() && told.rtype() == 28 && told.chain().is_empty() && told.ns().is_empty()
+    );
+    Ok(())
+}
+
+#[test]
+fn relays_aliases_of_a_name_that_is_not_there(rt: HostRuntime) -> Result<(), Fail> {
+    let asked = b"\x03www\x07example\0\0\x01\0\x01";
+    assert_eq!(rt;
+        relayed(rt.alloc(), asked.as_slice(), TWO_ALIASES.as_slice())?.as_slice(),
+        b"\0\x07\x81\x83\0\x01\0\x02\0\x01\0\0\x03www\x07example\0\0\x01\0\x01\x03www\x07example\0\0\x05\0\x01\0\0\0\x3c\0\x0b\x01a\x07example\0\x01a\x07example\0\0\x05\0\x01\0\0\0\x3c\0\x0b\x01b\x07example\0\x07example\0\0\x06\0\x01\0\0\x01\x2c\0\x21\x02ns\x07example\0\0\0\0\0\x01\0\0\x0e\x10\0\0\x02\x58\0\x01\x51\x80\0\0\x01\x2c".as_slice()
+    );
+    Ok(())
+}
+
+#[test]
+fn no_data_behind_an_alias(rt: HostRuntime) -> Result<(), Fail> {
+    let message =
+        b"\0\x02\x85\x80\0\x01\0\x01\0\x01\0\0\x03www\x07example\0\0\x1c\0\x01\xc0\x0c\0\x05\0\x01\0\0\0\x3c\0\x04\x01a\xc0\x10\xc0\x10\0\x06\0\x01\0\0\x0e\x10\0\x1a\x02ns\xc0\x10\0\0\0\0\x01\0\0\x0e\x10\0\0\x02\x58\0\x01\x51\x80\0\0\x01\x2c";
+    let all = seen(rt.alloc(), message.as_slice())?;
+    assert_eq!(rt; all.len(), 2);
+    assert_eq!(rt; all[0].name().octets(), b"\x03www\x07example\0".as_slice());
+    assert_eq!(rt; (all[0].rtype(), all[0].rank(), all[0].life()), (5, 3, 60));
+    assert_eq!(rt; all[1].kind(), Kind::NoData);
+    assert_eq!(rt; all[1].name().octets(), b"\x01a\x07example\0".as_slice());
+    assert_eq!(rt;
+        (all[1].rtype(), all[1].rank(), all[1].life()),
+        (28, 1, 300)
+    );
+    let asked = b"\x03www\x07example\0\0\x1c\0\x01";
+    assert_eq!(rt;
+        relayed(rt.alloc(), asked.as_slice(), message.as_slice())?.as_slice(),
+        b"\0\x07\x81\x80\0\x01\0\x01\0\x01\0\0\x03www\x07example\0\0\x1c\0\x01\x03www\x07example\0\0\x05\0\x01\0\0\0\x3c\0\x0b\x01a\x07example\0\x07example\0\0\x06\0\x01\0\0\x01\x2c\0\x21\x02ns\x07example\0\0\0\0\0\x01\0\0\x0e\x10\0\0\x02\x58\0\x01\x51\x80\0\0\x01\x2c".as_slice()
+    );
+    Ok(())
+}
+
+// com. first, with TTLs of 600 and 700, then example.com.; net. is no ancestor of the question's name.
+#[test]
+fn two_sets_of_name_servers(rt: HostRuntime) -> Result<(), Fail> {
+    let message =
+        b"\0\x01\x85\x80\0\x01\0\x01\0\x04\0\0\x07example\x03com\0\0\x01\0\x01\xc0\x0c\0\x01\0\x01\0\0\x01\x2c\0\x04\xc0\0\x02\x01\xc0\x14\0\x02\0\x01\0\0\x02\xbc\0\x05\x02nt\xc0\x14\xc0\x0c\0\x02\0\x01\0\0\x01\xf4\0\x05\x02ns\xc0\x0c\x03net\0\0\x02\0\x01\0\0\x02\x58\0\x05\x02ns\xc0\x0c\xc0\x14\0\x02\0\x01\0\0\x02\x58\0\x05\x02ns\xc0\x14";
+    let all = seen(rt.alloc(), message.as_slice())?;
+    assert_eq!(rt; all.len(), 3);
+    assert_eq!(rt; (all[0].rtype(), all[0].rank(), all[0].life()), (1, 3, 300));
+    assert_eq!(rt; all[1].name().octets(), b"\x03com\0".as_slice());
+    assert_eq!(rt; (all[1].rtype(), all[1].rank(), all[1].life()), (2, 2, 600));
+    let body = all[1].write_body(rt.alloc())?;
+    assert_eq!(rt;
+        body.as_slice(),
+        b"\0\x02\0\x08\x02ns\x03com\0\0\x08\x02nt\x03com\0".as_slice()
+    );
+    assert_eq!(rt; all[2].name().octets(), b"\x07example\x03com\0".as_slice());
+    assert_eq!(rt; (all[2].rtype(), all[2].rank(), all[2].life()), (2, 2, 500));
     Ok(())
 }

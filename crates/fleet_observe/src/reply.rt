@@ -46,23 +46,22 @@ fn is_answered(rcode: u8) -> bool
 ///
 /// In this order: `NotReply` where it is no reply or one to a question that is not served; `BadChain` where a walk is
 /// asked for (TC clear, RCODE 0 or 3) and there is none: aliases that fork or loop, or a ninth link; `OutOfMemory`.
-pub fn digest<A: Allocator + Clone>(
-    alloc: A,
-    message: &Message<A>,
-) -> Result<Digest<A>, DigestFault>
+pub fn digest<A: Allocator + Copy>(alloc: A, message: &Message<A>) -> Result<Digest<A>, DigestFault>
     ensures { MatchResult result (IsMeaning message.now) (IsFault message.now) }
 {
     if !is_served(message) {
         return Err(DigestFault::NotReply);
     }
     let header = message.header();
+    let question = message.question();
     if header.tc {
-        return Ok(short(alloc, message, End::Truncated)?);
+        let name = question.name.try_clone()?;
+        return Ok(short(alloc, message, name, End::Truncated));
     }
     if !is_answered(header.rcode) {
-        return Ok(short(alloc, message, End::Code(header.rcode))?);
+        let name = question.name.try_clone()?;
+        return Ok(short(alloc, message, name, End::Code(header.rcode)));
     }
-    let question = message.question();
     if !has_walk(message.answer(), question.name.octets(), question.rtype) {
         return Err(DigestFault::BadChain);
     }

@@ -6,7 +6,7 @@ ghost use Rattle.fleet_wire.specs.Record.{told, all_told};
 ghost use Rattle.fleet_observe.specs.Members.{Has, IsAscending};
 ghost use Rattle.fleet_observe.specs.RrSet.{SpellsName, Belongs, InSet, IsTtl, IsRrSet, read_ttl, set_of, count_below};
 
-use crate::checks::is_data_type;
+use crate::checks::{LONGEST_LIFE, is_data_type};
 use crate::rdatas::Rdatas;
 use fleet_name::{Name, Octets};
 use fleet_wire::Record;
@@ -26,20 +26,20 @@ pub struct RrSet<A: Allocator = Global> {
 }
 
 /// Whether the record is of the RRset at this name, in full, and type.
-pub(crate) fn belongs<A: Allocator>(record: &Record<A>, name: &[u8], rtype: u16) -> bool
+pub(crate) fn belongs<A: Allocator>(candidate: &Record<A>, name: &[u8], rtype: u16) -> bool
     requires { SpellsName name.now }
-    ensures { IsTrue result ↔ Belongs (labels_of name.now) rtype (told record.now) }
+    ensures { IsTrue result ↔ Belongs (labels_of name.now) rtype (told candidate.now) }
 {
-    if record.class != 1 {
+    if candidate.class != 1 {
         return false;
     }
-    if record.rtype != rtype {
+    if candidate.rtype != rtype {
         return false;
     }
     if !is_data_type(rtype) {
         return false;
     }
-    record.name.octets() == name
+    candidate.name.octets() == name
 }
 
 /// A TTL as it is read: zero with its top bit set (RFC 2181 8), and at most a day.
@@ -49,7 +49,7 @@ pub(crate) fn bounded(ttl: u32) -> u32
     if ttl >= 0x8000_0000 {
         0
     } else {
-        ttl.min(86400)
+        ttl.min(LONGEST_LIFE)
     }
 }
 
@@ -59,7 +59,7 @@ fn least_ttl<A: Allocator>(section: &[Record<A>], name: &[u8], rtype: u16) -> u3
     requires some { (d : List ℕ) × InSet (all_told section.now) (labels_of name.now) rtype d }
     ensures { IsTtl (all_told section.now) (labels_of name.now) rtype result }
 {
-    let mut least = 86400;
+    let mut least = LONGEST_LIFE;
     for record in section {
         if belongs(record, name, rtype) {
             least = bounded(record.ttl).min(least);
@@ -93,7 +93,7 @@ fn place<A: Allocator>(rdatas: &[Octets<A>], rdata: &[u8]) -> usize
 }
 
 // Adds an RDATA at its place, if it is not there.
-fn add<A: Allocator + Clone>(
+fn add<A: Allocator + Copy>(
     alloc: A,
     rdatas: &mut Vec<Octets<A>, A>,
     rdata: &[u8],
@@ -111,7 +111,7 @@ fn add<A: Allocator + Clone>(
 }
 
 /// The RRset at this name and type, where there is one.
-pub(crate) fn gather<A: Allocator + Clone>(
+pub(crate) fn gather<A: Allocator + Copy>(
     alloc: A,
     section: &[Record<A>],
     owner: &Name<A>,
@@ -121,10 +121,10 @@ pub(crate) fn gather<A: Allocator + Clone>(
     ensures { IfOk result (λ x. IsRrSet (all_told section.now) owner.now rtype (set_of x)) }
 {
     let name = owner.octets();
-    let mut rdatas = Vec::new(alloc.clone()?);
+    let mut rdatas = Vec::new(alloc);
     for record in section {
         if belongs(record, name, rtype) {
-            add(alloc.clone()?, &mut rdatas, record.rdata.as_slice())?;
+            add(alloc, &mut rdatas, record.rdata.as_slice())?;
         }
     }
     Ok(RrSet {

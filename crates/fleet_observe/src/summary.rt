@@ -101,7 +101,7 @@ struct Followed<'a, A: Allocator> {
 }
 
 // Follows the walk.
-fn follow<'a, A: Allocator + Clone>(
+fn follow<'a, A: Allocator + Copy>(
     alloc: A,
     answer: &'a [Record<A>],
     name: &'a [u8],
@@ -112,10 +112,10 @@ fn follow<'a, A: Allocator + Clone>(
     requires walk { HasWalk (all_told answer.now) rtype (labels_of name.now) }
     ensures { IfOk result (IsFollowed (all_told answer.now) rtype (labels_of name.now)) }
 {
-    let mut chain = Vec::new(alloc.clone()?);
+    let mut chain = Vec::new(alloc);
     let mut at = name;
     while let Step::Alias(alias) = step_at(answer, at, rtype) {
-        let link = gather(alloc.clone()?, answer, &alias.name, CNAME)?;
+        let link = gather(alloc, answer, &alias.name, CNAME)?;
         chain.push(link)?;
         at = alias.rdata.as_slice();
     }
@@ -123,7 +123,7 @@ fn follow<'a, A: Allocator + Clone>(
 }
 
 // How a walk ends.
-fn end_of<A: Allocator + Clone>(
+fn end_of<A: Allocator + Copy>(
     alloc: A,
     message: &Message<A>,
     at: &[u8],
@@ -140,7 +140,7 @@ fn end_of<A: Allocator + Clone>(
         let records = gather(alloc, answer, &record.name, rtype)?;
         return Ok(End::Records(records));
     }
-    let denied = name_of(alloc.clone()?, at)?;
+    let denied = name_of(alloc, at)?;
     let soa = soa_for(alloc, message.authority(), &denied)?;
     if message.header().rcode == 0 {
         return Ok(End::NoData(soa));
@@ -148,30 +148,31 @@ fn end_of<A: Allocator + Clone>(
     Ok(End::NxDomain(soa))
 }
 
-/// What a reply that asks for no walk tells.
-pub(crate) fn short<A: Allocator + Clone>(
+/// What a reply that asks for no walk tells, with a copy of the question's name. This takes no memory.
+pub(crate) fn short<A: Allocator + Copy>(
     alloc: A,
     message: &Message<A>,
+    name: Name<A>,
     end: End<A>,
-) -> Result<Digest<A>, AllocError>
+) -> Digest<A>
     requires served { IsServed message.now }
+    requires named { name ≡ message.now.question.name }
     requires tells { Tells message.now [] (ending_of end) }
     requires idle { ¬ AsksWalk message.now }
-    ensures { IfOk result (IsMeaning message.now) }
+    ensures { IsMeaning message.now result }
 {
-    let question = message.question();
-    Ok(Digest {
-        name: question.name.try_clone()?,
-        rtype: question.rtype,
+    Digest {
+        name,
+        rtype: message.question().rtype,
         aa: message.header().aa,
-        chain: Vec::new(alloc.clone()?),
+        chain: Vec::new(alloc),
         end,
         ns: Vec::new(alloc),
-    })
+    }
 }
 
 /// What a reply with a walk tells.
-pub(crate) fn walked<A: Allocator + Clone>(
+pub(crate) fn walked<A: Allocator + Copy>(
     alloc: A,
     message: &Message<A>,
 ) -> Result<Digest<A>, AllocError>
@@ -183,8 +184,8 @@ pub(crate) fn walked<A: Allocator + Clone>(
     let question = message.question();
     let name = question.name.octets();
     let rtype = question.rtype;
-    let Followed { chain, at } = follow(alloc.clone()?, message.answer(), name, rtype)?;
-    let end = end_of(alloc.clone()?, message, at)?;
+    let Followed { chain, at } = follow(alloc, message.answer(), name, rtype)?;
+    let end = end_of(alloc, message, at)?;
     let ns = authority_sets(alloc, message)?;
     Ok(Digest {
         name: question.name.try_clone()?,

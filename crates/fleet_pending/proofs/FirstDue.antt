@@ -1,11 +1,11 @@
 -- The entry that is to be served first, of the first so many.
-use Rattle.std.proofs.Common.{◌≡◌, ℕ, ◌+◌, ◌<◌, ◌≤◌, ◌⊎◌, inl, inr, List, Option, Some, None, length, sym, ◌∙◌, subst, ap, arith, ◌≢◌, MatchOption, Bor}
+use Rattle.std.proofs.Common.{◌≡◌, ℕ, ◌+◌, ◌<◌, ◌≤◌, ◌⊎◌, inl, inr, List, Option, Some, None, length, refl, sym, ◌∙◌, subst, ap, arith, ◌≢◌, MatchOption, Bor, map}
 use Rattle.std.proofs.lemmas.Option.{slice_get_within}
 use Rattle.std.proofs.lemmas.Bool.{cases_eq}
-use Rattle.fleet_pending.specs.Places.{At}
-use Rattle.fleet_pending.specs.Entry.{opened}
+use Rattle.fleet_name.specs.Places.{At}
+use Rattle.fleet_pending.specs.Entry.{opened, table}
 use Rattle.fleet_pending.specs.Due.{NotAfter, NoneDue, IsFirstDue}
-use Rattle.fleet_pending.specs.Outstanding.{Open}
+use Rattle.fleet_pending.specs.Outstanding.{Open, Outstanding, IsOutstanding, IsOpen}
 use Rattle.fleet_pending.specs.declared.entry.Entry.{Entry}
 use Rattle.fleet_pending.proofs.Placed.{NoneBefore, same_at}
 
@@ -55,3 +55,22 @@ first_new {A} es moment n r x t h d m = record { place = n; there = t; due = d; 
 
 pub first_new_is : {A : Type 0} (es : List Open) (moment n : ℕ) (r r' : Option (Bor (Entry A))) (b : Bor (Entry A)) → r' ≡ Some b → At es n (opened b.now) → FirstTo es moment n r → b.now.deadline ≤ moment → MatchOption r (Unit {0}) (λ o. NotAfter (opened b.now) (opened o.now)) → FirstTo es moment (n + 1) r'
 first_new_is es moment n r r' b q t h d m = subst (FirstTo es moment (n + 1)) (sym q) (first_new es moment n r (opened b.now) t h d m)
+
+-- the first due one of a table as it lies in memory
+pub due_first : {A : Type 0} (o : Outstanding) (u t moment : ℕ) (es rs : List (Entry A)) (e : Open) → table u es ≡ o → rs ≡ es → t ≡ moment → IsFirstDue (map opened rs) t e → IsFirstDue o.entries moment e
+due_first o u t moment es rs e v q p d =
+    let a : IsFirstDue (map opened es) t e = subst (λ xs. IsFirstDue (map opened xs) t e) q d in
+    let b : IsFirstDue (map opened es) moment e = subst (λ k. IsFirstDue (map opened es) k e) p a in
+    subst (λ x. IsFirstDue x.entries moment e) v b
+
+pub due_none : {A : Type 0} (o : Outstanding) (u t moment : ℕ) (es rs : List (Entry A)) → table u es ≡ o → rs ≡ es → t ≡ moment → NoneDue (map opened rs) t → NoneDue o.entries moment
+due_none o u t moment es rs v q p d =
+    let a : NoneDue (map opened es) t = subst (λ xs. NoneDue (map opened xs) t) q d in
+    let b : NoneDue (map opened es) moment = subst (λ k. NoneDue (map opened es) k) p a in
+    subst (λ x. NoneDue x.entries moment) v b
+
+pub first_open : {A : Type 0} (u t : ℕ) (es rs : List (Entry A)) (e : Open) → IsOutstanding (table u es) → rs ≡ es → IsFirstDue (map opened rs) t e → IsOpen e
+first_open u t es rs e h q d = let f = due_first (table u es) u t t es rs e refl q refl d in h.open_ones f.place e f.there
+
+pub first_asks : {A : Type 0} (u t : ℕ) (es rs : List (Entry A)) (e : Open) → IsOutstanding (table u es) → rs ≡ es → IsFirstDue (map opened rs) t e → e.upstream < u
+first_asks u t es rs e h q d = let f = due_first (table u es) u t t es rs e refl q refl d in h.asking f.place e f.there

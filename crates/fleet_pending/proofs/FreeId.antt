@@ -6,7 +6,7 @@ use Rattle.std.proofs.lemmas.Option.{slice_get_within}
 use Rattle.std.proofs.lemmas.Bool.{cases_eq}
 use Rattle.std.proofs.lemmas.List.{get_or-set_other, get_or-replicate}
 use Rattle.std.proofs.lemmas.Grind.{get_or-set_at}
-use Rattle.fleet_pending.specs.Places.{At}
+use Rattle.fleet_name.specs.Places.{At}
 use Rattle.fleet_pending.specs.FreeId.{TakenTo, AreTaken}
 use Rattle.fleet_pending.specs.Outstanding.{Open, UsesId}
 use Rattle.fleet_pending.proofs.Placed.{NoneBefore, same_at, at_left}

@@ -3,10 +3,10 @@ use Rattle.std.proofs.Common.{◌≡◌, ℕ, zero, suc, ◌+◌, ◌<◌, ◌�
 use Rattle.std.specs.List.{remove}
 use Rattle.std.proofs.lemmas.List.Edits.{length-remove}
 use Rattle.std.proofs.lemmas.Option.{slice_get_within, same_Some}
-use Rattle.fleet_pending.specs.Places.{At, NoneIs, NoTwo}
+use Rattle.fleet_name.specs.Places.{At, NoneIs, NoTwo}
 use Rattle.fleet_pending.specs.Asker.{Asker, Waits, SameAsker}
 use Rattle.fleet_pending.specs.FreeId.{IsFirstFree}
-use Rattle.fleet_pending.specs.Outstanding.{Open, Outstanding, IsOutstanding, IsOpen, IsFor, SameId, SameQuestion, UsesId, AsksFor}
+use Rattle.fleet_pending.specs.Outstanding.{Open, Outstanding, IsOutstanding, IsOpen, SameId, SameQuestion, UsesId, AsksFor}
 use Rattle.fleet_pending.specs.Asking.{Joins, Opens, with_waiter, new_entry, moved_on}
 use Rattle.fleet_pending.specs.declared.answer.Asked.{Asked}
 use Rattle.fleet_pending.specs.declared.answer.Asked.TheVariants.{Again, Joined, Send}
@@ -15,24 +15,24 @@ use Rattle.fleet_pending.specs.declared.answer.PendingFault.TheVariants.{Full, W
 use Rattle.fleet_pending.proofs.Placed.{at_set, at_push, at_remove, no_two_set, no_two_push, no_two_remove}
 
 -- an entry with one more waiter
-pub joined_open : (e : Open) (w : Asker) → IsOpen e → AsksFor w.question e → w.question.class ≡ 1 → (Waits w e.waiters → ⊥) → length e.waiters < 32 → IsOpen (with_waiter e w)
-joined_open e w h a c n l =
+pub joined_open : (e : Open) (w : Asker) → IsOpen e → AsksFor w.question e → (Waits w e.waiters → ⊥) → length e.waiters < 32 → IsOpen (with_waiter e w)
+joined_open e w h a n l =
     let m : length (e.waiters ++ w ∷ []) ≡ length e.waiters + 1 = length-append e.waiters (w ∷ []) in
     record {
       some = omega arith;
       few = omega arith;
-      waiting = λ i v t. elim (at_push e.waiters i w v t) [ inl p ↦ let o = h.waiting i v p in record { asks = o.asks; class = o.class } | inr p ↦ new i v p.1 ];
+      waiting = λ i v t. elim (at_push e.waiters i w v t) [ inl p ↦ h.waiting i v p | inr p ↦ new v p.1 ];
       once = no_two_push SameAsker e.waiters w h.once (λ i v t s. n (i, (v, t, s))) (λ i v t s. n (i, (v, t, (sym s.0, sym s.1))));
     }
   where
-    new : (i : ℕ) (v : Asker) → v ≡ w → IsFor (with_waiter e w) v
-    new i v p = subst (IsFor (with_waiter e w)) (sym p) (record { asks = a; class = c })
+    new : (v : Asker) → v ≡ w → AsksFor v.question e
+    new v p = subst (λ x. AsksFor x.question e) (sym p) a
 
-pub new_open : (w : Asker) (moment id : ℕ) → w.question.class ≡ 1 → IsOpen (new_entry w moment id)
-new_open w moment id c = record { some = omega arith; few = omega arith; waiting = all; once = one }
+pub new_open : (w : Asker) (moment id : ℕ) → IsOpen (new_entry w moment id)
+new_open w moment id = record { some = omega arith; few = omega arith; waiting = all; once = one }
   where
-    all : (i : ℕ) (v : Asker) → At (w ∷ []) i v → IsFor (new_entry w moment id) v
-    all zero v t = subst (IsFor (new_entry w moment id)) (same_Some w v t) (record { asks = (refl, refl); class = c })
+    all : (i : ℕ) (v : Asker) → At (w ∷ []) i v → AsksFor v.question (new_entry w moment id)
+    all zero v t = subst (λ x. AsksFor x.question (new_entry w moment id)) (same_Some w v t) (refl, refl)
     all (suc i) v t = absurd (let q : None ≡ Some v = t in cc)
 
     one : NoTwo SameAsker (w ∷ [])
@@ -41,7 +41,7 @@ new_open w moment id c = record { some = omega arith; few = omega arith; waiting
     one (suc i) j u v s t a = absurd (let q : None ≡ Some u = s in cc)
 
 pub moved_open : (e : Open) (moment : ℕ) → IsOpen e → IsOpen (moved_on e moment)
-moved_open e moment h = record { some = h.some; few = h.few; waiting = λ i v t. let o = h.waiting i v t in record { asks = o.asks; class = o.class }; once = h.once }
+moved_open e moment h = record { some = h.some; few = h.few; waiting = h.waiting; once = h.once }
 
 -- a write of an entry for the same question, under the same id
 pub set_keeps : (o : Outstanding) (i : ℕ) (e f : Open) → IsOutstanding o → At o.entries i e → f.id ≡ e.id → f.name ≡ e.name → f.rtype ≡ e.rtype → IsOpen f → f.upstream < o.upstreams → IsOutstanding (record o { entries = slice_set o.entries i f })
@@ -80,22 +80,22 @@ remove_keeps o i e h t = record {
 same_keeps : (o : Outstanding) (i : ℕ) (e f : Open) → IsOutstanding o → At o.entries i e → f ≡ e → IsOutstanding (record o { entries = slice_set o.entries i f })
 same_keeps o i e f h t p = set_keeps o i e f h t (ap (λ x. x.id) p) (ap (λ x. x.name) p) (ap (λ x. x.rtype) p) (subst IsOpen (sym p) (h.open_ones i e t)) (subst (λ x. x.upstream < o.upstreams) (sym p) (h.asking i e t))
 
-pub joins_keeps : (o : Outstanding) (i : ℕ) (e f : Open) (w : Asker) (r : Result Asked PendingFault) → IsOutstanding o → w.question.class ≡ 1 → At o.entries i e → AsksFor w.question e → Joins e w r f → IsOutstanding (record o { entries = slice_set o.entries i f })
-joins_keeps o i e f w (Ok Again) h c t a j = same_keeps o i e f h t j.1
-joins_keeps o i e f w (Ok Joined) h c t a j =
-    let k : IsOpen f = subst IsOpen (sym j.2) (joined_open e w (h.open_ones i e t) a c j.0 j.1) in
+pub joins_keeps : (o : Outstanding) (i : ℕ) (e f : Open) (w : Asker) (r : Result Asked PendingFault) → IsOutstanding o → At o.entries i e → AsksFor w.question e → Joins e w r f → IsOutstanding (record o { entries = slice_set o.entries i f })
+joins_keeps o i e f w (Ok Again) h t a j = same_keeps o i e f h t j.1
+joins_keeps o i e f w (Ok Joined) h t a j =
+    let k : IsOpen f = subst IsOpen (sym j.2) (joined_open e w (h.open_ones i e t) a j.0 j.1) in
     set_keeps o i e f h t (ap (λ x. x.id) j.2) (ap (λ x. x.name) j.2) (ap (λ x. x.rtype) j.2) k (subst (λ x. x.upstream < o.upstreams) (sym j.2) (h.asking i e t))
-joins_keeps o i e f w (Ok (Send upstream id)) h c t a j = absurd j
-joins_keeps o i e f w (Err Full) h c t a j = absurd j
-joins_keeps o i e f w (Err WaitersFull) h c t a j = same_keeps o i e f h t j.2
-joins_keeps o i e f w (Err OutOfMemory) h c t a j = same_keeps o i e f h t j.2
+joins_keeps o i e f w (Ok (Send upstream id)) h t a j = absurd j
+joins_keeps o i e f w (Err Full) h t a j = absurd j
+joins_keeps o i e f w (Err WaitersFull) h t a j = same_keeps o i e f h t j.2
+joins_keeps o i e f w (Err OutOfMemory) h t a j = same_keeps o i e f h t j.2
 
-pub opens_keeps : (o : Outstanding) (w : Asker) (moment word : ℕ) (r : Result Asked PendingFault) (fs : List Open) → IsOutstanding o → w.question.class ≡ 1 → NoneIs (AsksFor w.question) o.entries → Opens o.entries w moment word r fs → IsOutstanding (record o { entries = fs })
-opens_keeps o w moment word (Ok Again) fs h c n p = absurd p
-opens_keeps o w moment word (Ok Joined) fs h c n p = absurd p
-opens_keeps o w moment word (Ok (Send upstream id)) fs h c n p =
+pub opens_keeps : (o : Outstanding) (w : Asker) (moment word : ℕ) (r : Result Asked PendingFault) (fs : List Open) → IsOutstanding o → NoneIs (AsksFor w.question) o.entries → Opens o.entries w moment word r fs → IsOutstanding (record o { entries = fs })
+opens_keeps o w moment word (Ok Again) fs h n p = absurd p
+opens_keeps o w moment word (Ok Joined) fs h n p = absurd p
+opens_keeps o w moment word (Ok (Send upstream id)) fs h n p =
     let free : IsFirstFree word o.entries id = p.2 in
-    subst (λ xs. IsOutstanding (record o { entries = xs })) (sym p.3) (push_keeps o (new_entry w moment id) h free.free n p.0 (new_open w moment id c) h.some)
-opens_keeps o w moment word (Err Full) fs h c n p = subst (λ xs. IsOutstanding (record o { entries = xs })) (sym p.1) h
-opens_keeps o w moment word (Err WaitersFull) fs h c n p = absurd p
-opens_keeps o w moment word (Err OutOfMemory) fs h c n p = subst (λ xs. IsOutstanding (record o { entries = xs })) (sym p.1) h
+    subst (λ xs. IsOutstanding (record o { entries = xs })) (sym p.3) (push_keeps o (new_entry w moment id) h free.free n p.0 (new_open w moment id) h.some)
+opens_keeps o w moment word (Err Full) fs h n p = subst (λ xs. IsOutstanding (record o { entries = xs })) (sym p.1) h
+opens_keeps o w moment word (Err WaitersFull) fs h n p = absurd p
+opens_keeps o w moment word (Err OutOfMemory) fs h n p = subst (λ xs. IsOutstanding (record o { entries = xs })) (sym p.1) h

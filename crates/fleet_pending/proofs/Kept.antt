@@ -3,11 +3,11 @@ use Rattle.std.proofs.Common.{◌≡◌, ℕ, zero, suc, ◌+◌, List, [], ◌�
 use Rattle.std.specs.List.{count_by, flat_map, remove}
 use Rattle.std.proofs.lemmas.List.Sums.{sum_by-append}
 use Rattle.std.proofs.lemmas.List.Concat.{flat_map-append}
-use Rattle.fleet_pending.specs.Places.{At}
+use Rattle.fleet_name.specs.Places.{At}
 use Rattle.fleet_pending.specs.Asker.{Asker}
 use Rattle.fleet_pending.specs.Outstanding.{Open, Outstanding}
 use Rattle.fleet_pending.specs.Asking.{Joins, Opens, joins, opens, new_entry, moved_on}
-use Rattle.fleet_pending.specs.Calls.{Call, ask, settle, advance, Does, Run, accepted, given_back, open_waiters, EachAsOften}
+use Rattle.fleet_pending.specs.Calls.{Call, ask, settle, advance, clear, Does, Run, accepted, given_back, cleared, open_waiters, EachAsOften}
 use Rattle.fleet_pending.specs.declared.answer.Asked.{Asked}
 use Rattle.fleet_pending.specs.declared.answer.Asked.TheVariants.{Again, Joined, Send}
 use Rattle.fleet_pending.specs.declared.answer.PendingFault.{PendingFault}
@@ -98,7 +98,7 @@ open_step test es fs moment word w (Err OutOfMemory) j =
 abbrev all_open : (Asker → Bool) → Outstanding → ℕ
 all_open test o = count_by test (open_waiters o)
 
-step : (test : Asker → Bool) (o n : Outstanding) (c : Call) → Does o c n → all_open test o + count_by test (accepted c) ≡ count_by test (given_back c) + all_open test n
+step : (test : Asker → Bool) (o n : Outstanding) (c : Call) → Does o c n → all_open test o + count_by test (accepted c) ≡ count_by test (given_back c) + (count_by test (cleared c) + all_open test n)
 step test o n (ask w moment word r) (joins i e f t a j q) =
     let s = join_step test o.entries i moment word e f w r t j in
     let d : all_open test n ≡ in_all test (slice_set o.entries i f) = ap (all_open test) q in
@@ -127,8 +127,13 @@ step test o n (advance id moment true) h =
     let d : all_open test n ≡ in_all test (slice_set o.entries h.0 (moved_on h.1.0 moment)) = ap (all_open test) h.1.4 in
     let z : count_by test [] ≡ 0 = refl in
     omega (arith, s, d, z)
+step test o n (clear ws) h =
+    let d : count_by test ws ≡ all_open test o = ap (count_by test) h.0 in
+    let e : all_open test n ≡ 0 = ap (all_open test) h.1 in
+    let z : count_by test [] ≡ 0 = refl in
+    omega (arith, d, e, z)
 
-run : (test : Asker → Bool) (o n : Outstanding) (cs : List Call) → Run o cs n → all_open test o + count_by test (flat_map accepted cs) ≡ count_by test (flat_map given_back cs) + all_open test n
+run : (test : Asker → Bool) (o n : Outstanding) (cs : List Call) → Run o cs n → all_open test o + count_by test (flat_map accepted cs) ≡ count_by test (flat_map given_back cs) + (count_by test (flat_map cleared cs) + all_open test n)
 run test o n [] h =
     let d : all_open test n ≡ all_open test o = ap (all_open test) h in
     let z : count_by test [] ≡ 0 = refl in
@@ -138,11 +143,13 @@ run test o n (c ∷ cs) h =
     let r = run test h.0 n cs h.2 in
     let a = count-append test (accepted c) (flat_map accepted cs) in
     let b = count-append test (given_back c) (flat_map given_back cs) in
-    omega (arith, s, r, a, b)
+    let d = count-append test (cleared c) (flat_map cleared cs) in
+    omega (arith, s, r, a, b, d)
 
 pub each_as_often : EachAsOften
 each_as_often o n cs h test =
     let r = run test o n cs h in
     let a = count-append test (open_waiters o) (flat_map accepted cs) in
-    let b = count-append test (flat_map given_back cs) (open_waiters n) in
-    omega (arith, r, a, b)
+    let b = count-append test (flat_map given_back cs) (flat_map cleared cs ++ open_waiters n) in
+    let d = count-append test (flat_map cleared cs) (open_waiters n) in
+    omega (arith, r, a, b, d)

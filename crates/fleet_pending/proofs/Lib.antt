@@ -6,3 +6,8 @@ pub mod FirstDue
 pub mod Table
 pub mod Undone
 pub mod Refused
+pub mod Settled
+pub mod NewEntry
+pub mod Waiting
+pub mod DueCount
+pub mod Unchanged

@@ -3,7 +3,7 @@ use Rattle.std.proofs.Common.{◌≡◌, ℕ, zero, suc, ◌+◌, ◌<◌, ◌�
 use Rattle.std.specs.List.{remove}
 use Rattle.std.proofs.lemmas.Option.{slice_get_within, same_Some, slice_get-get_or}
 use Rattle.std.proofs.lemmas.Bool.{cases_eq, cases_lt}
-use Rattle.fleet_pending.specs.Places.{At, NoneIs, NoTwo, IsPlace}
+use Rattle.fleet_name.specs.Places.{At, NoneIs, NoTwo, IsPlace}
 
 -- none of the first n is like this
 abbrev pub NoneBefore : {X : Type 0} → (X → Type 0) → List X → ℕ → Type 0
@@ -28,6 +28,10 @@ at_push [] zero y x h = inr (refl, sym (same_Some y x h))
 at_push [] (suc j) y x h = absurd (let e : None ≡ Some x = h in cc)
 at_push (z ∷ xs) zero y x h = inl h
 at_push (z ∷ xs) (suc j) y x h = elim (at_push xs j y x h) [ inl p ↦ inl p | inr p ↦ inr (ap (λ n. suc n) p.0, p.1) ]
+
+pub last_at : {X : Type 0} (xs : List X) (y : X) → At (xs ++ y ∷ []) (length xs) y
+last_at [] y = refl
+last_at (x ∷ xs) y = last_at xs y
 
 -- what is left after one is taken out stood before it or after it
 pub at_remove : {X : Type 0} (xs : List X) (i j : ℕ) (x : X) → At (remove xs i) j x → (k : ℕ) × At xs k x × (j < i → k ≡ j) × (i ≤ j → k ≡ j + 1)

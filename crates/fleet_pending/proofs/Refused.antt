@@ -1,6 +1,6 @@
 -- Where a waiter is refused.
 use Rattle.std.proofs.Common.{◌≡◌, ℕ, ◌<◌, ◌≤◌, List, Result, Ok, Err, length, refl, sym, ◌∙◌, subst, arith}
-use Rattle.fleet_pending.specs.Places.{At}
+use Rattle.fleet_name.specs.Places.{At}
 use Rattle.fleet_pending.specs.Asker.{Asker, Waits}
 use Rattle.fleet_pending.specs.Outstanding.{Open}
 use Rattle.fleet_pending.specs.Refusal.{NoPlace, RefusesExactly}

@@ -4,7 +4,7 @@ use Rattle.std.specs.List.{remove}
 use Rattle.std.proofs.lemmas.List.{length-map}
 use Rattle.std.proofs.lemmas.Option.{slice_get_within}
 use Rattle.fleet_wire.specs.Question.{Asked as Question}
-use Rattle.fleet_pending.specs.Places.{At, NoneIs, IsPlace, Finds}
+use Rattle.fleet_name.specs.Places.{At, NoneIs, IsPlace, Finds}
 use Rattle.fleet_pending.specs.Asker.{Asker}
 use Rattle.fleet_pending.specs.Entry.{opened, table}
 use Rattle.fleet_pending.specs.Outstanding.{Open, Outstanding, IsOutstanding, IsOpen, UsesId, AsksFor, Matches}
@@ -53,18 +53,18 @@ asks_join u i moment word o es rs e f w r v q p g j =
     let m : table u (slice_set es i f) ≡ record { upstreams = u; entries = slice_set (map opened es) i (opened f) } = ap (λ xs. record { upstreams = u; entries = xs }) (set_seen opened es i f) in
     subst (λ x. Asks x w moment word r (table u (slice_set es i f))) v (joins i (opened e) (opened f) k.there k.is j m)
 
-pub joined_keeps : {A : Type 0} (u i : ℕ) (es rs : List (Entry A)) (e f : Entry A) (w : Asker) (r : Result Asked PendingFault) → IsOutstanding (table u es) → w.question.class ≡ 1 → rs ≡ es → IsPlace (AsksFor w.question) (map opened rs) (Some i) → e ≡ get_or es i e → Joins (opened e) w r (opened f) → IsOutstanding (table u (slice_set es i f))
-joined_keeps u i es rs e f w r h c q p g j =
+pub joined_keeps : {A : Type 0} (u i : ℕ) (es rs : List (Entry A)) (e f : Entry A) (w : Asker) (r : Result Asked PendingFault) → IsOutstanding (table u es) → rs ≡ es → IsPlace (AsksFor w.question) (map opened rs) (Some i) → e ≡ get_or es i e → Joins (opened e) w r (opened f) → IsOutstanding (table u (slice_set es i f))
+joined_keeps u i es rs e f w r h q p g j =
     let k = held (AsksFor w.question) es rs i e q p g in
-    subst (λ xs. IsOutstanding (record { upstreams = u; entries = xs })) (sym (set_seen opened es i f)) (joins_keeps (table u es) i (opened e) (opened f) w r h c k.there k.is j)
+    subst (λ xs. IsOutstanding (record { upstreams = u; entries = xs })) (sym (set_seen opened es i f)) (joins_keeps (table u es) i (opened e) (opened f) w r h k.there k.is j)
 
 pub asks_open : {A : Type 0} (u moment word : ℕ) (o : Outstanding) (es rs fs : List (Entry A)) (w : Asker) (r : Result Asked PendingFault) → table u es ≡ o → rs ≡ es → IsPlace (AsksFor w.question) (map opened rs) None → Opens (map opened es) w moment word r (map opened fs) → Asks o w moment word r (table u fs)
 asks_open u moment word o es rs fs w r v q p j =
     subst (λ x. Asks x w moment word r (table u fs)) v (opens (map opened fs) (subst (λ xs. NoneIs (AsksFor w.question) (map opened xs)) q p) j refl)
 
-pub opened_keeps : {A : Type 0} (u moment word : ℕ) (es rs fs : List (Entry A)) (w : Asker) (r : Result Asked PendingFault) → IsOutstanding (table u es) → w.question.class ≡ 1 → rs ≡ es → IsPlace (AsksFor w.question) (map opened rs) None → Opens (map opened es) w moment word r (map opened fs) → IsOutstanding (table u fs)
-opened_keeps u moment word es rs fs w r h c q p j =
-    opens_keeps (table u es) w moment word r (map opened fs) h c (subst (λ xs. NoneIs (AsksFor w.question) (map opened xs)) q p) j
+pub opened_keeps : {A : Type 0} (u moment word : ℕ) (es rs fs : List (Entry A)) (w : Asker) (r : Result Asked PendingFault) → IsOutstanding (table u es) → rs ≡ es → IsPlace (AsksFor w.question) (map opened rs) None → Opens (map opened es) w moment word r (map opened fs) → IsOutstanding (table u fs)
+opened_keeps u moment word es rs fs w r h q p j =
+    opens_keeps (table u es) w moment word r (map opened fs) h (subst (λ xs. NoneIs (AsksFor w.question) (map opened xs)) q p) j
 
 none_matches : (o : Outstanding) (u id i : ℕ) (q : Question) (e : Open) → IsOutstanding o → At o.entries i e → UsesId id e → ((e.upstream ≡ u) × AsksFor q e × (q.class ≡ 1) → ⊥) → NoneIs (Matches u id q) o.entries
 none_matches o u id i q e h t p n j x a m =

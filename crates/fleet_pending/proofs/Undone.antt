@@ -1,20 +1,16 @@
 -- A new entry that is given back at once.
 use Rattle.std.proofs.Common.{◌≡◌, ℕ, ◌⊎◌, inl, inr, List, [], ◌∷◌, ◌++◌, Option, Some, None, length, refl, ◌∙◌, subst, ap}
 use Rattle.std.specs.List.{remove}
-use Rattle.fleet_pending.specs.Places.{At, NoneIs}
+use Rattle.fleet_name.specs.Places.{At, NoneIs}
 use Rattle.fleet_pending.specs.FreeId.{IsFirstFree}
 use Rattle.fleet_pending.specs.Outstanding.{Open, Outstanding, UsesId}
 use Rattle.fleet_pending.specs.Asking.{Settles, joins, opens, new_entry}
 use Rattle.fleet_pending.specs.Undone.{IsUndone}
-use Rattle.fleet_pending.proofs.Placed.{at_push}
+use Rattle.fleet_pending.proofs.Placed.{at_push, last_at}
 
 remove_last : {X : Type 0} (xs : List X) (y : X) → remove (xs ++ y ∷ []) (length xs) ≡ xs
 remove_last [] y = refl
 remove_last (x ∷ xs) y = ap (λ ys. x ∷ ys) (remove_last xs y)
-
-last_at : {X : Type 0} (xs : List X) (y : X) → At (xs ++ y ∷ []) (length xs) y
-last_at [] y = refl
-last_at (x ∷ xs) y = last_at xs y
 
 settled : (o m : Outstanding) (id : ℕ) (x : Open) (r : Option Open) → NoneIs (UsesId id) o.entries → x.id ≡ id → Settles (record o { entries = o.entries ++ x ∷ [] }) id r m → (r ≡ Some x) × (m ≡ o)
 settled o m id x None f p s = absurd (s.0 (length o.entries) x (last_at o.entries x) p)

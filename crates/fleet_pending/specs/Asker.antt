@@ -2,7 +2,7 @@
 use Rattle.std.specs.Prelude.{◌≡◌, ℕ, List}
 use Rattle.fleet_wire.specs.Question.{Asked}
 use Rattle.fleet_pending.specs.declared.waiter.Addr.{Addr}
-use Rattle.fleet_pending.specs.Places.{At}
+use Rattle.fleet_name.specs.Places.{At}
 
 pub record Asker : Type 0 where
   pub from : Addr

@@ -4,7 +4,7 @@ use Rattle.std.specs.List.{remove}
 use Rattle.fleet_pending.specs.Asker.{Asker, Waits}
 use Rattle.fleet_pending.specs.Outstanding.{Open, Outstanding, UsesId, AsksFor}
 use Rattle.fleet_pending.specs.FreeId.{IsFirstFree}
-use Rattle.fleet_pending.specs.Places.{At, NoneIs}
+use Rattle.fleet_name.specs.Places.{At, NoneIs}
 use Rattle.fleet_pending.specs.declared.answer.Asked.{Asked}
 use Rattle.fleet_pending.specs.declared.answer.Asked.TheVariants.{Again, Joined, Send}
 use Rattle.fleet_pending.specs.declared.answer.PendingFault.{PendingFault}

@@ -1,8 +1,8 @@
 -- What is to be done first at a moment.
-use Rattle.std.specs.Prelude.{◌≡◌, ℕ, ◌+◌, ◌<◌, ◌≤◌, ◌⊎◌, List, Option, Some, None}
+use Rattle.std.specs.Prelude.{◌≡◌, ℕ, ◌+◌, ◌<◌, ◌≤◌, ◌⊎◌, List, Option, Some, None, count_by, nat_le}
 use Rattle.fleet_pending.specs.Entry.{opened}
 use Rattle.fleet_pending.specs.Outstanding.{Open, Outstanding}
-use Rattle.fleet_pending.specs.Places.{At, NoneIs}
+use Rattle.fleet_name.specs.Places.{At, NoneIs}
 use Rattle.fleet_pending.specs.declared.answer.Due.{Due}
 use Rattle.fleet_pending.specs.declared.answer.Due.TheVariants.{Retry, Failed}
 
@@ -25,3 +25,12 @@ abbrev pub Dues : {A : Type 0} → Outstanding → ℕ → Option (Due A) → Ty
 Dues o moment None = NoneDue o.entries moment
 Dues o moment (Some (Retry upstream id e)) = IsFirstDue o.entries moment (opened e.now) × (id ≡ e.now.id) × (upstream ≡ e.now.upstream + 1) × (upstream < o.upstreams)
 Dues o moment (Some (Failed id e)) = IsFirstDue o.entries moment (opened e.now) × (id ≡ e.now.id) × (o.upstreams ≤ e.now.upstream + 1)
+
+-- the entry that is due
+abbrev pub opened_due : {A : Type 0} → Due A → Open
+opened_due (Retry upstream id e) = opened e.now
+opened_due (Failed id e) = opened e.now
+
+-- how many are due at this moment
+abbrev pub due_at : Outstanding → ℕ → ℕ
+due_at o moment = count_by (λ e. nat_le e.deadline moment) o.entries

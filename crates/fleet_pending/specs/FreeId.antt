@@ -1,7 +1,7 @@
 -- The first id that no entry has.
 use Rattle.std.specs.Prelude.{◌≡◌, ℕ, ◌+◌, ◌%◌, ◌<◌, Bool, true, false, List, slice_index_or}
 use Rattle.fleet_pending.specs.Outstanding.{Open, UsesId}
-use Rattle.fleet_pending.specs.Places.{At, NoneIs}
+use Rattle.fleet_name.specs.Places.{At, NoneIs}
 
 -- each of the first n ids from this word upwards, modulo 65536, has an entry
 abbrev pub TakenTo : ℕ → List Open → ℕ → Type 0

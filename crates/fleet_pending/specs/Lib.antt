@@ -1,4 +1,3 @@
-pub mod Places
 pub mod Asker
 pub mod Waiter
 pub mod Outstanding
@@ -9,3 +8,7 @@ pub mod Due
 pub mod Calls
 pub mod Refusal
 pub mod Undone
+pub mod Settled
+pub mod NewEntry
+pub mod Waiting
+pub mod DueCount

@@ -2,7 +2,7 @@
 use Rattle.std.specs.Prelude.{◌≡◌, ℕ, ◌<◌, ◌≤◌, List, length}
 use Rattle.fleet_wire.specs.Question.{Asked}
 use Rattle.fleet_pending.specs.Asker.{Asker, SameAsker}
-use Rattle.fleet_pending.specs.Places.{At, NoTwo}
+use Rattle.fleet_name.specs.Places.{At, NoTwo}
 
 -- an open question: what it asks, under which id, which upstream, until when, and who waits
 pub record Open : Type 0 where
@@ -24,16 +24,11 @@ UsesId id e = e.id ≡ id
 abbrev pub AsksFor : Asked → Open → Type 0
 AsksFor q e = (e.name ≡ q.name) × (e.rtype ≡ q.rtype)
 
--- what the waiter asked is this entry's question, of class 1 (IN)
-pub record IsFor (e : Open) (w : Asker) : Type 0 where
-  pub asks : AsksFor w.question e
-  pub class : w.question.class ≡ 1
-
--- at least one waiter and at most 32, each for the entry's question, and none twice
+-- at least one waiter and at most 32, each for the entry's name and type, and none twice
 pub record IsOpen (e : Open) : Type 0 where
   pub some : 0 < length e.waiters
   pub few : length e.waiters ≤ 32
-  pub waiting : (i : ℕ) (w : Asker) → At e.waiters i w → IsFor e w
+  pub waiting : (i : ℕ) (w : Asker) → At e.waiters i w → AsksFor w.question e
   pub once : NoTwo SameAsker e.waiters
 
 abbrev pub SameId : Open → Open → Type 0

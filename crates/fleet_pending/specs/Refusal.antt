@@ -3,7 +3,7 @@ use Rattle.std.specs.Prelude.{◌≡◌, ◌↔◌, ℕ, ◌≤◌, Result, Err,
 use Rattle.fleet_pending.specs.Asker.{Asker, Waits}
 use Rattle.fleet_pending.specs.Asking.{Asks}
 use Rattle.fleet_pending.specs.Outstanding.{Open, Outstanding, IsOutstanding, AsksFor}
-use Rattle.fleet_pending.specs.Places.{At, NoneIs}
+use Rattle.fleet_name.specs.Places.{At, NoneIs}
 use Rattle.fleet_pending.specs.declared.answer.Asked.{Asked}
 use Rattle.fleet_pending.specs.declared.answer.PendingFault.{PendingFault}
 use Rattle.fleet_pending.specs.declared.answer.PendingFault.TheVariants.{Full, WaitersFull}

@@ -1,6 +1,6 @@
 //! Open questions.
 
-ghost use Rattle.std.specs.Prelude.{◌≡◌, ◌≤◌, ◌^◌, IfErr, IfOk, MatchResult};
+ghost use Rattle.std.specs.Prelude.{◌≡◌, ◌≤◌, ◌^◌, IfErr, MatchResult};
 ghost use Rattle.fleet_pending.specs.Asking.{Joins, asked_or_fault, new_entry};
 ghost use Rattle.fleet_pending.specs.Entry.{opened};
 ghost use Rattle.fleet_pending.specs.Waiter.{asker};
@@ -9,7 +9,7 @@ use crate::answer::{Asked, PendingFault, Unasked};
 use crate::waiter::Waiter;
 use crate::waiters::Waiters;
 use fleet_name::Name;
-use std::alloc::{AllocError, Allocator, Global};
+use std::alloc::{Allocator, Global};
 
 /// How many may wait for one question.
 const MOST_WAITERS: usize = 32;
@@ -35,8 +35,8 @@ pub struct Entry<A: Allocator = Global> {
 }
 
 /// An entry for one waiter, and the first upstream.
-pub(crate) fn make_entry<A: Allocator + Clone>(
-    alloc: &A,
+pub(crate) fn make_entry<A: Allocator + Copy>(
+    alloc: A,
     waiter: Waiter<A>,
     moment: u64,
     id: u16,
@@ -44,8 +44,8 @@ pub(crate) fn make_entry<A: Allocator + Clone>(
     requires { moment ≤ 2 ^ 40 }
     ensures { MatchResult result (λ e. opened e ≡ new_entry (asker waiter) moment id) (λ w. w ≡ waiter) }
 {
-    let (name, alloc) = match make_parts(alloc, &waiter) {
-        Ok(parts) => parts,
+    let name = match waiter.question.name.try_clone() {
+        Ok(name) => name,
         Err(_) => return Err(waiter),
     };
     let rtype = waiter.question.rtype;
@@ -60,17 +60,6 @@ pub(crate) fn make_entry<A: Allocator + Clone>(
         }),
         Err(waiter) => Err(waiter),
     }
-}
-
-/// The name of a waiter's question, and an allocator for its entry.
-fn make_parts<A: Allocator + Clone>(
-    alloc: &A,
-    waiter: &Waiter<A>,
-) -> Result<(Name<A>, A), AllocError>
-    ensures { IfOk result (λ p. p.0 ≡ waiter.now.question.name) }
-{
-    let name = waiter.question.name.try_clone()?;
-    Ok((name, alloc.clone()?))
 }
 
 /// The waiter meets an entry for its question.

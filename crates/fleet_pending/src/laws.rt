@@ -3,6 +3,10 @@
 ghost use Rattle.fleet_pending.specs.Refusal.{RefusesExactly};
 ghost use Rattle.fleet_pending.specs.Undone.{IsUndone};
 ghost use Rattle.fleet_pending.specs.Calls.{EachAsOften};
+ghost use Rattle.fleet_pending.specs.DueCount.{CountsDue};
+ghost use Rattle.fleet_pending.specs.NewEntry.{OpensLast};
+ghost use Rattle.fleet_pending.specs.Settled.{SettlesItsEntry};
+ghost use Rattle.fleet_pending.specs.Waiting.{WaitersStay};
 
 /// `Full` is answered exactly where no entry has the question and 256 are open, `WaitersFull`
 /// exactly where its entry has 32 waiters and not this one.
@@ -10,8 +14,8 @@ pub fn refusals_are_exact()
     ensures { RefusesExactly }
 {}
 
-/// Over any list of calls each waiter that was accepted is given back by `settle` or still waits,
-/// as often as it was accepted.
+/// Over any list of calls each waiter that was accepted is given back by `settle`, went with a
+/// `clear` or still waits, as often as it was accepted.
 pub fn waiters_kept()
     ensures { EachAsOften }
 {}
@@ -19,4 +23,25 @@ pub fn waiters_kept()
 /// A new entry that is given back at once leaves the table as it was before it was asked.
 pub fn settling_undoes_asking()
     ensures { IsUndone }
+{}
+
+/// Where an entry has an id, settling under it gives back that entry and takes out no other.
+pub fn settling_gives_its_entry()
+    ensures { SettlesItsEntry }
+{}
+
+/// A new entry stands last, alone under its id, and the asker is its first waiter.
+pub fn new_entry_is_last()
+    ensures { OpensLast }
+{}
+
+/// Who waits after a call waited before it, or is the one who asked.
+pub fn waiters_stay()
+    ensures { WaitersStay }
+{}
+
+/// None is due exactly where the count is 0, at most 256 are due, and once the first due entry has
+/// moved on or is settled one fewer is due at that moment.
+pub fn serving_leaves_fewer_due()
+    ensures { CountsDue }
 {}

@@ -1,12 +1,12 @@
 //! The table of open questions.
 
-ghost use Rattle.std.specs.Prelude.{◌≡◌, ◌<◌, ◌≤◌, [], IfErr, IfSome, map, option_copied, IsTrue, ◌↔◌};
+ghost use Rattle.std.specs.Prelude.{◌≡◌, ◌<◌, ◌≤◌, [], IfErr, IfSome, OnErr, MatchOption, map, option_copied, IsTrue, ◌↔◌};
 ghost use Rattle.fleet_wire.specs.Question.{asked};
 ghost use Rattle.fleet_pending.specs.Asking.{Asks, Opens, Settles, Advances, asked_or_fault, moved_on};
-ghost use Rattle.fleet_pending.specs.Due.{Dues};
+ghost use Rattle.fleet_pending.specs.Due.{Dues, due_at, opened_due};
 ghost use Rattle.fleet_pending.specs.Entry.{opened, opened_in};
 ghost use Rattle.fleet_pending.specs.Outstanding.{UsesId, AsksFor, Matches, IsOpen, IsOutstanding};
-ghost use Rattle.fleet_pending.specs.Places.{Finds};
+ghost use Rattle.fleet_name.specs.Places.{Finds};
 ghost use Rattle.fleet_pending.specs.Waiter.{asker};
 
 use crate::answer::{Asked, Due, PendingFault, Unasked};
@@ -54,8 +54,8 @@ impl<A: Allocator> Pending<A> {
         }
     }
 
-    /// A waiter asks, at a moment; `word` is where the search for an id begins. The question is of
-    /// class 1 (IN).
+    /// A waiter asks, at a moment; `word` is where the search for an id begins. The question's class
+    /// is not looked at; that all who wait asked of one class follows by `waiters_stay`.
     ///
     /// An entry with the same name and type, where the same address waits under the same id:
     /// `Again`; where 32 others wait: `WaitersFull`; else `Joined`. No such entry: where 256 are
@@ -64,10 +64,11 @@ impl<A: Allocator> Pending<A> {
     /// or waiter finds no memory: `OutOfMemory`. A fault changes nothing, and hands the waiter back.
     pub fn ask(&mut self, waiter: Waiter<A>, moment: Moment, word: u16) -> Result<Asked, Unasked<A>>
     where
-        A: Clone,
-        requires class_one { waiter.question.class ≡ 1 }
+        A: Copy,
         ensures asks { Asks self.old (asker waiter) moment word (asked_or_fault result) self.new }
         ensures back { IfErr result (λ u. u.waiter ≡ waiter) }
+        ensures unchanged { OnErr result (self.new ≡ self.old) }
+        ensures upstreams { self.new.upstreams ≡ self.old.upstreams }
         ensures outstanding { IsOutstanding self.new }
     {
         match place_of_question(self.entries.as_slice(), &waiter.question) {
@@ -87,7 +88,7 @@ impl<A: Allocator> Pending<A> {
     }
 
     /// The entry that a reply is for: it asks this upstream now, under this id, for this name and
-    /// type, and the reply's question is of class 1 (IN).
+    /// type, and the reply's question is of class 1 (IN), whatever its waiters' classes are.
     pub fn find(&self, upstream: u8, id: u16, question: &Question<A>) -> Option<&Entry<A>>
         ensures finds { Finds (Matches upstream id (asked question.now)) self.now.entries
             (opened_in (option_copied result)) }
@@ -107,10 +108,19 @@ impl<A: Allocator> Pending<A> {
     pub fn settle(&mut self, id: u16) -> Option<Entry<A>>
         ensures settles { Settles self.old id (opened_in result) self.new }
         ensures is_open { IfSome result (λ e. IsOpen (opened e)) }
+        ensures upstreams { self.new.upstreams ≡ self.old.upstreams }
         ensures outstanding { IsOutstanding self.new }
     {
         let i = place_of_id(self.entries.as_slice(), id)?;
         Some(self.entries.remove(i))
+    }
+
+    /// Removes all entries, as of a new table; the room is kept.
+    pub fn clear(&mut self)
+        ensures cleared { self.new ≡ record self.old { entries = [] } }
+        ensures outstanding { IsOutstanding self.new }
+    {
+        self.entries.clear();
     }
 
     /// What is to be done first at a moment: of the entries whose deadline is not after it, the one
@@ -118,6 +128,8 @@ impl<A: Allocator> Pending<A> {
     /// upstream, or has failed after the last.
     pub fn due(&self, moment: Moment) -> Option<Due<'_, A>>
         ensures dues { Dues self.now moment result }
+        ensures is_open { IfSome result (λ d. IsOpen (opened_due d)) }
+        ensures count { MatchOption result (due_at self.now moment ≡ 0) (λ _. 0 < due_at self.now moment) }
         ensures outstanding { IsOutstanding self.now }
     {
         let entry = first_due(self.entries.as_slice(), moment.value())?;
@@ -138,6 +150,7 @@ impl<A: Allocator> Pending<A> {
     /// False, where there is no such entry or no further upstream: then nothing changes.
     pub fn advance(&mut self, id: u16, moment: Moment) -> bool
         ensures advances { Advances self.old id moment result self.new }
+        ensures upstreams { self.new.upstreams ≡ self.old.upstreams }
         ensures outstanding { IsOutstanding self.new }
     {
         match place_of_id(self.entries.as_slice(), id) {
@@ -175,7 +188,7 @@ fn matches<A: Allocator>(entry: &Entry<A>, upstream: u8, question: &Question<A>)
 }
 
 /// The waiter's question is new.
-fn add_entry<A: Allocator + Clone>(
+fn add_entry<A: Allocator + Copy>(
     entries: &mut Vec<Entry<A>, A>,
     waiter: Waiter<A>,
     moment: Moment,
@@ -194,7 +207,7 @@ fn add_entry<A: Allocator + Clone>(
         return Err(Unasked { fault, waiter });
     }
     let id = first_free(entries.as_slice(), word);
-    match make_entry(entries.allocator(), waiter, moment.value(), id) {
+    match make_entry(*entries.allocator(), waiter, moment.value(), id) {
         Ok(entry) => {
             entries.push_reserved(entry);
             Ok(Asked::Send { upstream: 0, id })

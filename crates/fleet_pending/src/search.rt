@@ -6,7 +6,7 @@ ghost use Rattle.fleet_pending.specs.Entry.{opened};
 ghost use Rattle.fleet_pending.specs.FreeId.{AreTaken, IsFirstFree};
 ghost use Rattle.fleet_pending.specs.Due.{IsFirstDue, NoneDue, NotAfter};
 ghost use Rattle.fleet_pending.specs.Outstanding.{UsesId, AsksFor};
-ghost use Rattle.fleet_pending.specs.Places.{IsPlace};
+ghost use Rattle.fleet_name.specs.Places.{IsPlace};
 
 use crate::entry::Entry;
 use fleet_wire::Question;

@@ -1,6 +1,6 @@
 //! Rows of calls with their answers.
 
-use crate::{Addr, Asked, Due, Pending, PendingFault, Unasked, Waiter};
+use crate::{Addr, Asked, Due, Pending, PendingFault, Waiter, Waiters};
 use fleet_observe::Moment;
 use fleet_wire::{Question, read_query};
 use std::alloc::Global;
@@ -19,48 +19,45 @@ fn question(alloc: Global, number: u16) -> Result<Question, Fail> {
     Ok(question)
 }
 
-/// What one who asks from a port under an id is told.
-fn ask(
+fn moment(seconds: u64) -> Result<Moment, Fail> {
+    Ok(Moment::new(seconds).ok_or("moment")?)
+}
+
+/// What one who asks at 100 is told: from a port of 127.0.0.1, under an id.
+fn told(
     table: &mut Pending,
     question: Question,
     asker: (u16, u16),
-    seconds: u64,
     word: u16,
-) -> Result<Result<Asked, Unasked>, Fail> {
+) -> Result<Result<Asked, PendingFault>, Fail> {
     let (port, id) = asker;
-    let from = Addr {
-        host: 0x7f00_0001,
-        port,
-    };
-    let moment = Moment::new(seconds).ok_or("moment")?;
-    if question.class != 1 {
-        return Err("class".into());
-    }
+    let host = 0x7f00_0001;
+    let from = Addr { host, port };
     let waiter = Waiter { from, id, question };
-    Ok(table.ask(waiter, moment, word))
+    match table.ask(waiter, moment(100)?, word) {
+        Ok(asked) => Ok(Ok(asked)),
+        Err(unasked) => Ok(Err(unasked.fault)),
+    }
 }
 
-fn moment(seconds: u64) -> Result<Moment, Fail> {
-    Ok(Moment::new(seconds).ok_or("moment")?)
+/// A query with this id goes to the first upstream.
+fn sent(id: u16) -> Result<Asked, PendingFault> {
+    Ok(Asked::Send { upstream: 0, id })
 }
 
 #[test]
 fn each_waiter_is_answered_once(rt: HostRuntime) -> Result<(), Fail> {
     let mut table = Pending::new(rt.alloc(), 2);
-    let sent = ask(&mut table, question(rt.alloc(), 0)?, (6001, 7), 100, 0x1234)?;
-    assert!(rt;
-        matches!(
-            sent,
-            Ok(Asked::Send {
-                upstream: 0,
-                id: 0x1234
-            })
-        )
-    );
-    let joined = ask(&mut table, question(rt.alloc(), 0)?, (6002, 8), 100, 9)?;
-    assert!(rt; matches!(joined, Ok(Asked::Joined)));
-    let again = ask(&mut table, question(rt.alloc(), 0)?, (6001, 7), 100, 0x1234)?;
-    assert!(rt; matches!(again, Ok(Asked::Again)));
+    let asks = [
+        (6001, 7, 0x1234, sent(0x1234)),
+        (6002, 8, 9, Ok(Asked::Joined)),
+        (6001, 7, 0x1234, Ok(Asked::Again)),
+        (6001, 9, 0x1234, Ok(Asked::Joined)),
+    ];
+    for (port, id, word, answer) in asks {
+        let asked = question(rt.alloc(), 0)?;
+        assert_eq!(rt; told(&mut table, asked, (port, id), word)?, answer);
+    }
 
     let asked = question(rt.alloc(), 0)?;
     assert!(rt; table.find(1, 0x1234, &asked).is_none());
@@ -69,7 +66,7 @@ fn each_waiter_is_answered_once(rt: HostRuntime) -> Result<(), Fail> {
     assert!(rt; table.find(0, 0x1234, &asked).is_some());
     let entry = table.settle(0x1234).ok_or("no entry")?;
     let ids = entry.waiters.as_slice().iter().map(|w| (w.from.port, w.id));
-    assert!(rt; ids.eq([(6001, 7), (6002, 8)]));
+    assert!(rt; ids.eq([(6001, 7), (6002, 8), (6001, 9)]));
     assert!(rt; table.find(0, 0x1234, &asked).is_none());
     assert!(rt; table.settle(0x1234).is_none());
     Ok(())
@@ -79,29 +76,20 @@ fn each_waiter_is_answered_once(rt: HostRuntime) -> Result<(), Fail> {
 fn at_most_256_are_open(rt: HostRuntime) -> Result<(), Fail> {
     let mut table = Pending::new(rt.alloc(), 2);
     for number in 0..256u16 {
-        let told = ask(
-            &mut table,
-            question(rt.alloc(), number)?,
-            (6001, 7),
-            100,
-            65535,
-        )?;
-        let first = number.wrapping_sub(1);
-        assert!(rt; matches!(told, Ok(Asked::Send { upstream: 0, id }) if id == first));
+        let asked = question(rt.alloc(), number)?;
+        let answer = sent(number.wrapping_sub(1));
+        assert_eq!(rt; told(&mut table, asked, (6001, 7), 65535)?, answer);
     }
-    match ask(
-        &mut table,
-        question(rt.alloc(), 256)?,
-        (6001, 7),
-        100,
-        65535,
-    )? {
-        Err(unasked) => {
-            assert_eq!(rt; unasked.fault, PendingFault::Full);
-            assert_eq!(rt; unasked.waiter.id, 7);
-        }
-        Ok(_) => return Err("taken".into()),
-    }
+    let last = question(rt.alloc(), 256)?;
+    assert_eq!(rt;
+        told(&mut table, last, (6001, 7), 65535)?,
+        Err(PendingFault::Full)
+    );
+    let joins = question(rt.alloc(), 255)?;
+    assert_eq!(rt;
+        told(&mut table, joins, (6002, 7), 65535)?,
+        Ok(Asked::Joined)
+    );
     assert!(rt; table.due(moment(101)?).is_none());
     let name = question(rt.alloc(), 1)?.name;
     match table.due(moment(102)?) {
@@ -124,31 +112,81 @@ fn at_most_256_are_open(rt: HostRuntime) -> Result<(), Fail> {
 #[test]
 fn at_most_32_wait_for_one_question(rt: HostRuntime) -> Result<(), Fail> {
     let mut table = Pending::new(rt.alloc(), 1);
-    let sent = ask(&mut table, question(rt.alloc(), 0)?, (6001, 7), 100, 0x1234)?;
-    assert!(rt;
-        matches!(
-            sent,
-            Ok(Asked::Send {
-                upstream: 0,
-                id: 0x1234
-            })
-        )
+    for port in 6001..6034u16 {
+        let asked = question(rt.alloc(), 0)?;
+        let answer = match port {
+            6001 => sent(0x1234),
+            6033 => Err(PendingFault::WaitersFull),
+            _ => Ok(Asked::Joined),
+        };
+        assert_eq!(rt; told(&mut table, asked, (port, 7), 0x1234)?, answer);
+    }
+    let again = question(rt.alloc(), 0)?;
+    assert_eq!(rt;
+        told(&mut table, again, (6001, 7), 0x1234)?,
+        Ok(Asked::Again)
     );
-    for port in 6002..6033u16 {
-        let told = ask(&mut table, question(rt.alloc(), 0)?, (port, 7), 100, 0x1234)?;
-        assert!(rt; matches!(told, Ok(Asked::Joined)));
-    }
-    match ask(&mut table, question(rt.alloc(), 0)?, (6033, 7), 100, 0x1234)? {
-        Err(unasked) => assert_eq!(rt; unasked.fault, PendingFault::WaitersFull),
-        Ok(_) => return Err("taken".into()),
-    }
-    let again = ask(&mut table, question(rt.alloc(), 0)?, (6001, 7), 100, 0x1234)?;
-    assert!(rt; matches!(again, Ok(Asked::Again)));
     assert!(rt;
         matches!(
             table.due(moment(102)?),
             Some(Due::Failed { id: 0x1234, .. })
         )
     );
+    Ok(())
+}
+
+#[test]
+fn a_question_of_another_class_waits(rt: HostRuntime) -> Result<(), Fail> {
+    let mut table = Pending::new(rt.alloc(), 1);
+    let mut chaos = question(rt.alloc(), 0)?;
+    chaos.class = 3;
+    assert_eq!(rt; told(&mut table, chaos, (6001, 7), 1)?, sent(1));
+    let internet = question(rt.alloc(), 0)?;
+    assert_eq!(rt;
+        told(&mut table, internet, (6002, 7), 1)?,
+        Ok(Asked::Joined)
+    );
+    let mut replied = question(rt.alloc(), 0)?;
+    assert!(rt; table.find(0, 1, &replied).is_some());
+    replied.class = 3;
+    assert!(rt; table.find(0, 1, &replied).is_none());
+    Ok(())
+}
+
+#[test]
+fn a_cleared_table_is_as_new(rt: HostRuntime) -> Result<(), Fail> {
+    let mut table = Pending::new(rt.alloc(), 2);
+    for number in 0..3u16 {
+        let asked = question(rt.alloc(), number)?;
+        assert_eq!(rt; told(&mut table, asked, (6001, 7), 1)?, sent(number + 1));
+    }
+    table.clear();
+    assert!(rt; table.entry(1).is_none());
+    assert!(rt; table.due(moment(102)?).is_none());
+    let asked = question(rt.alloc(), 2)?;
+    assert_eq!(rt; told(&mut table, asked, (6001, 7), 1)?, sent(1));
+    assert!(rt;
+        matches!(
+            table.due(moment(102)?),
+            Some(Due::Retry {
+                upstream: 1,
+                id: 1,
+                ..
+            })
+        )
+    );
+    Ok(())
+}
+
+#[test]
+fn waiters_stand_in_order(rt: HostRuntime) -> Result<(), Fail> {
+    let mut items = Vec::new(rt.alloc());
+    for id in [9, 7, 8] {
+        let from = Addr { host: 1, port: 53 };
+        let question = question(rt.alloc(), 0)?;
+        items.push(Waiter { from, id, question })?;
+    }
+    let waiters = Waiters::new(items);
+    assert!(rt; waiters.as_slice().iter().map(|w| w.id).eq([9, 7, 8]));
     Ok(())
 }

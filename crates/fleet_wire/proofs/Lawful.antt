@@ -1,15 +1,14 @@
 -- What is read is lawful: a question spells its name, and the RDATA of a record is plain.
-use Rattle.std.proofs.Common.{◌≡◌, ℕ, ◌+◌, ◌≤◌, List, [], ◌∷◌, length, take, drop, refl, sym, ap, ◌∙◌, subst, arith, Option, Some, None, Bool, true, false, get_or}
+use Rattle.std.proofs.Common.{◌≡◌, ℕ, ◌+◌, List, [], ◌∷◌, length, take, drop, sym, ap, ◌∙◌, subst, arith, Option, Some, None, Bool, true, false, get_or}
 use Rattle.std.proofs.lemmas.List.{length-take-le, length-drop}
 use Rattle.std.specs.Prelude.{IsTrue}
 use Rattle.std.specs.List.{AllByRecursion}
-use Rattle.fleet_name.specs.Name.{wire, lower, lower_all, IsLabel, IsName, labels_of, IsSpelling}
+use Rattle.fleet_name.specs.Name.{wire, lower, lower_all, IsLabel, IsName}
 use Rattle.fleet_wire.specs.Number.{u16_at}
-use Rattle.fleet_wire.specs.NameAt.{NameAt}
-use Rattle.fleet_wire.specs.Question.{Asked, IsAsked, IsQuestion, HasQuestion}
+use Rattle.fleet_wire.specs.Question.{Asked, IsAsked, IsQuestion}
 use Rattle.fleet_wire.specs.Shape.{shape_of, PartsAt, ShapeAt, ArePlain, HasShape}
 use Rattle.fleet_wire.specs.Record.{Told, RecordAt, RecordsAt, IsPlainRecord}
-use Rattle.fleet_wire.specs.Message.{IsHeader, IsRead, HasOneQuestion, IsQuery, HasQuery, IsReply, SectionsAt, header_of, reply_with}
+use Rattle.fleet_wire.specs.Message.{IsHeader, IsRead, HasOneQuestion, IsQuery, IsReply, SectionsAt, header_of, reply_with}
 use Rattle.fleet_wire.specs.declared.header.Header.{Header}
 use Rattle.fleet_wire.specs.declared.shape.Part.{Part}
 use Rattle.fleet_wire.specs.declared.shape.Part.TheVariants.{Plain, Name}
@@ -26,14 +25,6 @@ pub header_lawful : (m : List ℕ) (h : Header) → h ≡ header_of m → IsHead
 header_lawful m h is =
     let lawful : IsHeader (header_of m) = record { opcode = omega arith; rcode = omega arith } in
     subst (λ (x : Header). IsHeader x) (sym is) lawful
-
--- where a name is read and four octets follow, a question stands
-pub question_stands : (m : List ℕ) (p past : ℕ) (octets : List ℕ) → NameAt m p p (labels_of octets) past → IsSpelling octets → past + 4 ≤ length m → HasQuestion m p
-question_stands m p past octets at spelled fits = (
-  record { spelled = octets; name = lower_all (labels_of octets); rtype = u16_at m past; class = u16_at m (past + 2) },
-  past + 4,
-  record { labels = labels_of octets; past = past; stands = at; spelled = spelled.whole; name = refl; named = spelled.lawful; fits = fits; rtype = refl; class = refl; end_is = refl },
-)
 
 pub question_asked : (m : List ℕ) (p : ℕ) (q : Asked) (e : ℕ) → IsQuestion m p q e → IsAsked q
 question_asked m p q e is = record { spelled = spells_name q.spelled is.labels q.name is.spelled is.name is.named; named = is.named }
@@ -69,9 +60,6 @@ module _ (m : List ℕ) (h : Header) (q : Asked) (past : ℕ) (is : IsQuery m h 
 
   pub cut_reply : IsTrue h.tc → (a b : List Told) → a ≡ [] → b ≡ [] → IsReply m (reply_with h q a b)
   cut_reply cut a b none none' = record { past = past; query = is; sections = subst (λ (x : Bool). SectionsAt m past x a b) (sym cut) (none, none') }
-
-  pub has_query : HasQuery m
-  has_query = (q, past, record { counted = is.counted; header = refl; question = is.question })
 
   pub whole_read : h.tc ≡ false → (a b : List Told) (middle end : ℕ) → RecordsAt m past a middle → RecordsAt m middle b end → IsRead (reply_with h q a b)
   unfolding IsClear

@@ -5,22 +5,13 @@ use Rattle.std.proofs.Math.ListN.{drop_of_length-le}
 use Rattle.std.proofs.lemmas.List.{append-nil}
 use Rattle.fleet_name.specs.Name.{wire, lower_all, IsName}
 use Rattle.fleet_wire.specs.NameAt.{ReadsName}
-use Rattle.fleet_wire.specs.Fault.{NameFails, OrMemory}
+use Rattle.fleet_wire.specs.Fault.{NameFails}
 use Rattle.fleet_wire.specs.Shape.{PartsAt, PartsFail, ShapeAt, ShapeFails}
 use Rattle.fleet_wire.specs.declared.fault.ReadFault.{ReadFault}
-use Rattle.fleet_wire.specs.declared.fault.ReadFault.TheVariants.{OutOfMemory}
+use Rattle.fleet_wire.specs.declared.fault.ReadFault.TheVariants.{Truncated, BadRdata, OutOfMemory}
 use Rattle.fleet_wire.specs.declared.shape.Part.{Part}
 use Rattle.fleet_wire.specs.declared.shape.Part.TheVariants.{Plain, Name}
-use Rattle.fleet_wire.proofs.Readings.{one_reading, none_from_fails, ends_within}
-
--- what is told further up
-pub or_mapped : (f : ReadFault) (P Q : Type 0) → (P → Q) → OrMemory f P → OrMemory f Q
-or_mapped f P Q more (inl e) = inl e
-or_mapped f P Q more (inr h) = inr (more h)
-
-pub or_only : (f : ReadFault) (P : Type 0) → (P → ⊥) → OrMemory f P → f ≡ OutOfMemory
-or_only f P never (inl e) = e
-or_only f P never (inr h) = absurd (never h)
+use Rattle.fleet_wire.proofs.Readings.{one_reading, none_from_fails, ends_within, no_memory}
 
 pub name_or_fault : (m : List ℕ) (p : ℕ) (n : List (List ℕ)) (e : ℕ) (f : ReadFault) → ReadsName m p n e → NameFails m p f → ⊥
 name_or_fault m p n e f r h = none_from_fails m p f r.spelled e h (subst (λ (x : List (List ℕ)). IsName x) r.lowered r.named) r.stands
@@ -63,6 +54,19 @@ pub shape_or_fault : (m : List ℕ) (p k : ℕ) (s : Option (List Part)) (o : Li
 shape_or_fault m p k None o f r h = h
 shape_or_fault m p k (Some parts) o f r (inl h) = parts_or_fault m parts p o (p + k) f r h
 shape_or_fault m p k (Some parts) o f r (inr h) = h.3 (one_parts m parts p h.0 o h.1 (p + k) h.2 r).1
+
+-- want of memory is no fault of parts, nor of RDATA
+parts_no_memory : (m : List ℕ) (parts : List Part) (p : ℕ) (f : ReadFault) → PartsFail m parts p f → f ≡ OutOfMemory → ⊥
+parts_no_memory m [] p f h e = h
+parts_no_memory m (Plain n ∷ parts) p f (inl h) e = let t : Truncated ≡ OutOfMemory = sym h.1 ∙ e in absurd (cc)
+parts_no_memory m (Plain n ∷ parts) p f (inr h) e = parts_no_memory m parts (p + n) f h.1 e
+parts_no_memory m (Name ∷ parts) p f (inl h) e = no_memory m p p 1 f h e
+parts_no_memory m (Name ∷ parts) p f (inr h) e = parts_no_memory m parts h.1 f h.3 e
+
+pub shape_no_memory : (m : List ℕ) (p k : ℕ) (s : Option (List Part)) (f : ReadFault) → ShapeFails m p k s f → f ≡ OutOfMemory → ⊥
+shape_no_memory m p k None f h e = h
+shape_no_memory m p k (Some parts) f (inl h) e = parts_no_memory m parts p f h e
+shape_no_memory m p k (Some parts) f (inr h) e = let t : BadRdata ≡ OutOfMemory = sym h.4 ∙ e in absurd (cc)
 
 -- The parts read so far, and what is read from here on.
 module _ (m : List ℕ) (parts rest more : List Part) (p at : ℕ) (items new : List ℕ)

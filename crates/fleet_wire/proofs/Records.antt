@@ -6,13 +6,13 @@ use Rattle.fleet_wire.specs.Number.{u16_at, u32_at}
 use Rattle.fleet_wire.specs.NameAt.{ReadsName}
 use Rattle.fleet_wire.specs.Question.{Asked, IsQuestion, QuestionFails}
 use Rattle.fleet_wire.specs.Shape.{shape_of, ShapeAt, ShapeFails}
-use Rattle.fleet_wire.specs.Record.{Told, RecordAt, FixedFails, RecordFails, RecordsAt, RecordsFail}
-use Rattle.fleet_wire.specs.Message.{header_of, HasOneQuestion, HeaderFails, IsQuery, QueryFails, Reply, IsReply, ReplyFails, SectionsAt, SectionsFail}
+use Rattle.fleet_wire.specs.Record.{Told, RecordAt, FixedFails, RecordFails, RecordsAt, HasRecords, RecordsFail}
+use Rattle.fleet_wire.specs.Message.{header_of, HasOneQuestion, HeaderFails, IsQuery, QueryFails, Reply, IsReply, HasReply, ReplyFails, SectionsAt, SectionsFail}
 use Rattle.fleet_wire.specs.declared.fault.ReadFault.{ReadFault}
 use Rattle.fleet_wire.specs.declared.fault.ReadFault.TheVariants as faults
 use Rattle.fleet_wire.specs.declared.header.Header.{Header}
-use Rattle.fleet_wire.proofs.Readings.{one_reading}
-use Rattle.fleet_wire.proofs.Parts.{one_reads, name_or_fault, one_shape, shape_or_fault}
+use Rattle.fleet_wire.proofs.Readings.{one_reading, no_memory}
+use Rattle.fleet_wire.proofs.Parts.{one_reads, name_or_fault, one_shape, shape_or_fault, shape_no_memory}
 
 shape_moved : (m : List ℕ) (past past' t t' : ℕ) (o : List ℕ) → past' ≡ past → t' ≡ t → ShapeAt m (past' + 10) (u16_at m (past' + 8)) (shape_of t') o → ShapeAt m (past + 10) (u16_at m (past + 8)) (shape_of t) o
 shape_moved m past past' t t' o e e' h =
@@ -70,6 +70,17 @@ pub records_more : (m : List ℕ) (p middle e : ℕ) (rs : List Told) (r : Told)
 records_more m p middle e [] r before at = (e, subst (λ (q : ℕ). RecordAt m q r e) before at, refl)
 records_more m p middle e (first ∷ rs) r before at = (before.0, before.1, records_more m before.0 middle e rs r before.2 at)
 
+-- where records stand in a row, the first one doesn't fail, and the others stand behind it
+pub first_stands : (m : List ℕ) (p count : ℕ) (f : ReadFault) → HasRecords m p count → 0 < count → RecordFails m p f → ⊥
+first_stands m p count f ([], e, at, n) some h = omega (arith, n, some)
+first_stands m p count f (r ∷ rs, e, at, n) some h = record_or_fault m p r at.0 f at.1 h
+
+pub others_stand : (m : List ℕ) (p count left : ℕ) (r : Told) (past : ℕ) → HasRecords m p count → count ≡ left + 1 → RecordAt m p r past → HasRecords m past left
+others_stand m p count left r past ([], e, at, n) some one = absurd (omega (arith, n, some))
+others_stand m p count left r past (r' ∷ rs, e, at, n) some one =
+    let same = one_record m p r' r at.0 past at.1 one in
+    (rs, e, subst (λ (q : ℕ). RecordsAt m q rs e) same.1 at.2, omega (arith, n, some))
+
 reads_question : (m : List ℕ) (p : ℕ) (q : Asked) (e : ℕ) → (at : IsQuestion m p q e) → ReadsName m p q.name at.past
 reads_question m p q e at = record { spelled = at.labels; stands = at.stands; lowered = at.name; named = at.named }
 
@@ -110,6 +121,39 @@ one_question m p a b x y one two =
     let rtype : a.rtype ≡ b.rtype = one.rtype ∙ (ap (λ (q : ℕ). u16_at m q) same.1 ∙ sym two.rtype) in
     let class : a.class ≡ b.class = one.class ∙ (ap (λ (q : ℕ). u16_at m (q + 2)) same.1 ∙ sym two.class) in
     (asked_same a b spelled name rtype class, one.end_is ∙ (ap (λ (q : ℕ). q + 4) same.1 ∙ sym two.end_is))
+
+-- want of memory is no fault of a record, nor of a question
+fixed_no_memory : (m : List ℕ) (past : ℕ) (f : ReadFault) → FixedFails m past f → f ≡ faults.OutOfMemory → ⊥
+fixed_no_memory m past f (inl h) e = let t : faults.Truncated ≡ faults.OutOfMemory = sym h.1 ∙ e in absurd (cc)
+fixed_no_memory m past f (inr h) e = shape_no_memory m (past + 10) (u16_at m (past + 8)) (shape_of (u16_at m past)) f h.1 e
+
+record_no_memory : (m : List ℕ) (p : ℕ) (f : ReadFault) → RecordFails m p f → f ≡ faults.OutOfMemory → ⊥
+record_no_memory m p f (inl h) e = no_memory m p p 1 f h e
+record_no_memory m p f (inr h) e = fixed_no_memory m h.1 f h.3 e
+
+records_no_memory : (m : List ℕ) (p count : ℕ) (f : ReadFault) → RecordsFail m p count f → f ≡ faults.OutOfMemory → ⊥
+records_no_memory m p count f h e = record_no_memory m h.1 f h.4 e
+
+pub question_no_memory : (m : List ℕ) (p : ℕ) (f : ReadFault) → QuestionFails m p f → f ≡ faults.OutOfMemory → ⊥
+question_no_memory m p f (inl h) e = no_memory m p p 1 f h e
+question_no_memory m p f (inr h) e = let t : faults.Truncated ≡ faults.OutOfMemory = sym h.4 ∙ e in absurd (cc)
+
+header_no_memory : (m : List ℕ) (f : ReadFault) → HeaderFails m f → f ≡ faults.OutOfMemory → ⊥
+header_no_memory m f h e = let never : HeaderFails m faults.OutOfMemory = subst (λ (x : ReadFault). HeaderFails m x) e h in never
+
+sections_no_memory : (m : List ℕ) (past : ℕ) (tc : Bool) (f : ReadFault) → SectionsFail m past tc f → f ≡ faults.OutOfMemory → ⊥
+sections_no_memory m past true f h e = h
+sections_no_memory m past false f (inl h) e = records_no_memory m past (u16_at m 6) f h e
+sections_no_memory m past false f (inr h) e = records_no_memory m h.1 (u16_at m 8) f h.4 e
+
+-- want of memory is no fault of a query, nor of a reply
+pub query_no_memory : (m : List ℕ) (f : ReadFault) → QueryFails m f → f ≡ faults.OutOfMemory → ⊥
+query_no_memory m f (inl h) e = header_no_memory m f h e
+query_no_memory m f (inr h) e = question_no_memory m 12 f h.1 e
+
+pub reply_no_memory : (m : List ℕ) (f : ReadFault) → ReplyFails m f → f ≡ faults.OutOfMemory → ⊥
+reply_no_memory m f (inl h) e = query_no_memory m f h e
+reply_no_memory m f (inr h) e = sections_no_memory m h.1 (header_of m).tc f h.3 e
 
 sections_or_fault : (m : List ℕ) (past : ℕ) (tc : Bool) (a b : List Told) (f : ReadFault) → SectionsAt m past tc a b → SectionsFail m past tc f → ⊥
 sections_or_fault m past true a b f at h = h
@@ -167,3 +211,23 @@ module _ (m : List ℕ) (h : Header) (q : Asked) (past : ℕ) (f : ReadFault) (i
       let count : length a ≡ u16_at m 6 = n ∙ (e ∙ ap (λ (x : Header). get_or x.counts 1 0) is.header) in
       let count' : l ≡ u16_at m 8 = e' ∙ ap (λ (x : Header). get_or x.counts 2 0) is.header in
       section_fails (inr (a, middle, at, count, subst (λ (n : ℕ). RecordsFail m middle n f) count' fails))
+
+-- and the sections of a reply stand behind the question
+module _ (m : List ℕ) (h : Header) (q : Asked) (past : ℕ) (is : IsQuery m h q past) (whole : h.tc ≡ false) where
+  sections_stand : HasReply m → (a : List Told) × (b : List Told) × SectionsAt m past false a b
+  sections_stand (r, reply) =
+      let same = one_question m 12 r.question q reply.past past reply.query.question is.question in
+      let tc : r.header.tc ≡ false = ap (λ (x : Header). x.tc) (reply.query.header ∙ sym is.header) ∙ whole in
+      (r.answer, r.authority, subst (λ (b : Bool). SectionsAt m past b r.answer r.authority) tc (subst (λ (p : ℕ). SectionsAt m p r.header.tc r.answer r.authority) same.1 reply.sections))
+
+  pub answer_stands : (k : ℕ) → k ≡ get_or h.counts 1 0 → HasReply m → HasRecords m past k
+  answer_stands k e reply =
+      let s = (sections_stand reply).2 in
+      ((sections_stand reply).0, s.0, s.2, s.3 ∙ sym (e ∙ ap (λ (x : Header). get_or x.counts 1 0) is.header))
+
+  pub authority_stands : (k l middle : ℕ) (a : List Told) → k ≡ get_or h.counts 1 0 → l ≡ get_or h.counts 2 0 → RecordsAt m past a middle → length a ≡ k → HasReply m → HasRecords m middle l
+  authority_stands k l middle a e e' at n reply =
+      let s = (sections_stand reply).2 in
+      let count : length a ≡ u16_at m 6 = n ∙ (e ∙ ap (λ (x : Header). get_or x.counts 1 0) is.header) in
+      let same = one_row m past (sections_stand reply).0 a s.0 middle s.2 at (s.3 ∙ sym count) in
+      ((sections_stand reply).1, s.1, subst (λ (p : ℕ). RecordsAt m p (sections_stand reply).1 s.1) same.1 s.4, s.5 ∙ sym (e' ∙ ap (λ (x : Header). get_or x.counts 2 0) is.header))

@@ -91,6 +91,10 @@ pub record IsReply (m : List ℕ) (r : Reply) : Type 0 where
   pub query : IsQuery m r.header r.question past
   pub sections : SectionsAt m past r.header.tc r.answer r.authority
 
+-- the octets are a reply
+abbrev pub HasReply : List ℕ → Type 0
+HasReply m = (r : Reply) × IsReply m r
+
 -- the first fault of a reply
 abbrev pub ReplyFails : List ℕ → ReadFault → Type 0
 ReplyFails m f = QueryFails m f ⊎ ((q : Asked) × (past : ℕ) × IsQuery m (header_of m) q past × SectionsFail m past (header_of m).tc f)

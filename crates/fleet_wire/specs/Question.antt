@@ -1,12 +1,13 @@
 -- What a question is, without where it lies in memory (RFC 1035 4.1.2).
 use Rattle.std.specs.Prelude.{◌≡◌, ℕ, ◌+◌, ◌<◌, ◌≤◌, ◌⊎◌, List, length, Option, Some, None}
-use Rattle.fleet_name.specs.Name.{wire, lower, lower_all, IsName}
+use Rattle.fleet_name.specs.Name.{wire, lower, lower_all, labels_of, IsName}
 use Rattle.fleet_wire.specs.Number.{u16_at}
 use Rattle.fleet_wire.specs.NameAt.{NameAt, ReadsName}
 use Rattle.fleet_wire.specs.Fault.{NameFails}
 use Rattle.fleet_wire.specs.declared.fault.ReadFault.{ReadFault}
 use Rattle.fleet_wire.specs.declared.fault.ReadFault.TheVariants.{Truncated}
 use Rattle.fleet_wire.specs.declared.question.Question.{Question}
+use Rattle.fleet_wire.specs.declared.query.SpelledQuestion.{SpelledQuestion}
 
 -- a question: its name in its own spelling, as octets, and as labels in lower case
 pub record Asked : Type 0 where
@@ -17,6 +18,10 @@ pub record Asked : Type 0 where
 
 abbrev pub asked : {A : Type 0} → Question A → Asked
 asked q = record { spelled = q.spelled; name = q.name; rtype = q.rtype; class = q.class }
+
+-- a question that has taken no memory yet
+abbrev pub asked_spelled : SpelledQuestion → Asked
+asked_spelled q = record { spelled = q.name.octets.items; name = lower_all (labels_of q.name.octets.items); rtype = q.rtype; class = q.class }
 
 abbrev pub asked_in : {A : Type 0} → Option (Question A) → Option Asked
 asked_in None = None
@@ -43,7 +48,3 @@ QuestionFails m p f = NameFails m p f ⊎ ((n : List (List ℕ)) × (past : ℕ)
 pub record IsAsked (q : Asked) : Type 0 where
   pub spelled : lower q.spelled ≡ wire q.name
   pub named : IsName q.name
-
--- a question stands at p
-abbrev pub HasQuestion : List ℕ → ℕ → Type 0
-HasQuestion m p = (q : Asked) × (past : ℕ) × IsQuestion m p q past

@@ -1,6 +1,6 @@
 -- What a record is, without where it lies in memory, and what records stand at a place of a message (RFC 1035 4.1.3).
 use Rattle.std.specs.Prelude.{◌≡◌, ℕ, ◌+◌, ◌<◌, ◌≤◌, ◌⊎◌, List, [], ◌∷◌, length, map}
-use Rattle.fleet_name.specs.Name.{IsName}
+use Rattle.fleet_name.specs.Name.{lower_all, labels_of, IsName}
 use Rattle.fleet_wire.specs.Number.{u16_at, u32_at}
 use Rattle.fleet_wire.specs.NameAt.{ReadsName}
 use Rattle.fleet_wire.specs.Fault.{NameFails}
@@ -8,6 +8,7 @@ use Rattle.fleet_wire.specs.Shape.{shape_of, ShapeAt, ShapeFails, IsPlain}
 use Rattle.fleet_wire.specs.declared.fault.ReadFault.{ReadFault}
 use Rattle.fleet_wire.specs.declared.fault.ReadFault.TheVariants.{Truncated}
 use Rattle.fleet_wire.specs.declared.record.Record.{Record}
+use Rattle.fleet_wire.specs.declared.record.SpelledRecord.{SpelledRecord}
 
 -- a record: its owner as labels, the TTL as it was read, and its RDATA
 pub record Told : Type 0 where
@@ -22,6 +23,10 @@ told r = record { name = r.name; rtype = r.rtype; class = r.class; ttl = r.ttl; 
 
 abbrev pub all_told : {A : Type 0} → List (Record A) → List Told
 all_told rs = map told rs
+
+-- a record that has taken no memory yet
+abbrev pub told_spelled : SpelledRecord → Told
+told_spelled r = record { name = lower_all (labels_of r.owner.octets.items); rtype = r.rtype; class = r.class; ttl = r.ttl; rdata = r.rdata.items }
 
 -- the record r stands at p, and ends before e: a name, ten octets, and the RDATA that the last two of them count
 pub record RecordAt (m : List ℕ) (p : ℕ) (r : Told) (e : ℕ) : Type 0 where
@@ -50,6 +55,10 @@ RecordFails m p f = NameFails m p f ⊎ ((n : List (List ℕ)) × (past : ℕ) �
 abbrev pub RecordsAt : List ℕ → ℕ → List Told → ℕ → Type 0
 RecordsAt m p [] e = e ≡ p
 RecordsAt m p (r ∷ rs) e = (past : ℕ) × RecordAt m p r past × RecordsAt m past rs e
+
+-- so many records stand at p in a row
+abbrev pub HasRecords : List ℕ → ℕ → ℕ → Type 0
+HasRecords m p count = (rs : List Told) × (e : ℕ) × RecordsAt m p rs e × (length rs ≡ count)
 
 -- the first fault of so many records at p: behind fewer of them stands none
 abbrev pub RecordsFail : List ℕ → ℕ → ℕ → ReadFault → Type 0

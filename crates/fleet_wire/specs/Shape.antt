@@ -31,6 +31,12 @@ PartsFail m [] p f = ⊥
 PartsFail m (Plain n ∷ parts) p f = ((length m < p + n) × (f ≡ Truncated)) ⊎ ((p + n ≤ length m) × PartsFail m parts (p + n) f)
 PartsFail m (Name ∷ parts) p f = NameFails m p f ⊎ ((n : List (List ℕ)) × (past : ℕ) × ReadsName m p n past × PartsFail m parts past f)
 
+-- how many octets the parts have at most, with each name in full
+abbrev pub room_of : List Part → ℕ
+room_of [] = 0
+room_of (Plain n ∷ parts) = n + room_of parts
+room_of (Name ∷ parts) = 255 + room_of parts
+
 -- k octets of RDATA at p, read by their shape
 abbrev pub ShapeAt : List ℕ → ℕ → ℕ → Option (List Part) → List ℕ → Type 0
 ShapeAt m p k None octets = octets ≡ take k (drop p m)

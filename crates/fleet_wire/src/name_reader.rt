@@ -2,8 +2,8 @@
 
 ghost use Rattle.std.specs.Prelude.{◌≡◌, ℕ, ◌+◌, ◌-◌, ◌<◌, ◌≤◌, List, ◌++◌, length, slice_index, IfOk, IfErr, MatchResult};
 ghost use Rattle.fleet_name.specs.Name.{frame, lower_all, labels_of, IsSpelling};
-ghost use Rattle.fleet_wire.specs.NameAt.{NameAt, ReadsName};
-ghost use Rattle.fleet_wire.specs.Fault.{FaultAt, NameFails, OrMemory};
+ghost use Rattle.fleet_wire.specs.NameAt.{NameAt};
+ghost use Rattle.fleet_wire.specs.Fault.{FaultAt, NameFails};
 ghost use Rattle.fleet_wire.specs.Step.{IsStep};
 
 use crate::fault::ReadFault;
@@ -136,18 +136,4 @@ pub(crate) fn name_of<A: Allocator>(alloc: A, spelled: &Spelled) -> Result<Name<
 {
     let octets = Vec::from_slice(alloc, spelled.octets.as_slice())?;
     Ok(Name::from_spelled(octets, spelled.labels))
-}
-
-// The name at a place of a message, and where it ends there.
-pub(crate) fn read_name<A: Allocator + Clone>(
-    alloc: &A,
-    message: &[u8],
-    offset: usize,
-) -> Result<(Name<A>, usize), ReadFault>
-    ensures found { IfOk result (λ r. ReadsName message.now offset r.0 r.1) }
-    ensures fault { IfErr result (λ f. OrMemory f (NameFails message.now offset f)) }
-{
-    let spelled = spelled_at(message, offset)?;
-    let name = name_of(alloc.clone()?, &spelled)?;
-    Ok((name, spelled.end))
 }

@@ -10,7 +10,7 @@ pub(crate) fn short_at(message: &[u8], at: usize) -> u16
     requires { at + 2 ≤ length message.now }
     ensures { result ≡ u16_at message.now at }
 {
-    u16::from(message[at]) * 256 + u16::from(message[at + 1])
+    u16::from_be_bytes([message[at], message[at + 1]])
 }
 
 // The number in the four octets at a place.
@@ -18,22 +18,24 @@ pub(crate) fn long_at(message: &[u8], at: usize) -> u32
     requires { at + 4 ≤ length message.now }
     ensures { result ≡ u32_at message.now at }
 {
-    u32::from(short_at(message, at)) * 65536 + u32::from(short_at(message, at + 2))
+    u32::from_be_bytes([
+        message[at],
+        message[at + 1],
+        message[at + 2],
+        message[at + 3],
+    ])
 }
 
 // Adds a number of two octets.
 pub(crate) fn push_short<A: Allocator>(out: &mut Vec<u8, A>, n: u16) -> Result<(), AllocError>
     ensures { OnOk result (out.new.items ≡ out.old.items ++ u16_octets n) }
 {
-    out.push((n / 256) as u8)?;
-    out.push((n % 256) as u8)?;
-    Ok(())
+    out.extend_from_slice(&n.to_be_bytes())
 }
 
 // Adds a number of four octets.
 pub(crate) fn push_long<A: Allocator>(out: &mut Vec<u8, A>, n: u32) -> Result<(), AllocError>
     ensures { OnOk result (out.new.items ≡ out.old.items ++ u32_octets n) }
 {
-    push_short(out, (n / 65536) as u16)?;
-    push_short(out, (n % 65536) as u16)
+    out.extend_from_slice(&n.to_be_bytes())
 }

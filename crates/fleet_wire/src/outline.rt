@@ -40,7 +40,7 @@ impl<A: Allocator> Model for Outline<A> {
     ghost invariant = { λ o. IsSketch (sketch o.id o.opcode o.rd o.rcode o.tc (asked_in o.question) (all_told o.answer.items) (all_told o.authority.items)) };
 }
 
-impl<A: Allocator + Clone> Outline<A> {
+impl<A: Allocator + Copy> Outline<A> {
     /// An outline without lines. Its opcode and RCODE are at most 15 (RFC 1035 4.1.1). `Err` where
     /// there is no memory for its copy of the question.
     pub fn new(
@@ -58,9 +58,9 @@ impl<A: Allocator + Clone> Outline<A> {
         ensures question { IfOk result (λ o. MatchOption question.entry (o.question ≡ None) (λ q. o.question ≡ Some (asked q.now))) }
         ensures empty { IfOk result (λ o. (o.answer ≡ []) × (o.authority ≡ [])) }
     {
-        let question = copy_if_any(&alloc, question)?;
-        let answer = Vec::new(alloc.clone()?);
-        let authority = Vec::new(alloc.clone()?);
+        let question = copy_if_any(alloc, question)?;
+        let answer = Vec::new(alloc);
+        let authority = Vec::new(alloc);
         Ok(Outline {
             alloc,
             id,
@@ -86,7 +86,7 @@ impl<A: Allocator + Clone> Outline<A> {
         ensures ok { OnOk result (self.new ≡ with_answer self.old (line name.now rtype ttl rdata.now)) }
         ensures err { OnErr result (self.new ≡ self.old) }
     {
-        let record = line_of(&self.alloc, name, rtype, ttl, rdata)?;
+        let record = line_of(self.alloc, name, rtype, ttl, rdata)?;
         self.answer.push(record)?;
         Ok(())
     }
@@ -103,7 +103,7 @@ impl<A: Allocator + Clone> Outline<A> {
         ensures ok { OnOk result (self.new ≡ with_authority self.old (line name.now rtype ttl rdata.now)) }
         ensures err { OnErr result (self.new ≡ self.old) }
     {
-        let record = line_of(&self.alloc, name, rtype, ttl, rdata)?;
+        let record = line_of(self.alloc, name, rtype, ttl, rdata)?;
         self.authority.push(record)?;
         Ok(())
     }
@@ -119,15 +119,15 @@ fn copy_of_name<A: Allocator, B: Allocator>(alloc: A, name: &Name<B>) -> Result<
 }
 
 // A copy of a question.
-fn copy_of_question<A: Allocator + Clone>(
-    alloc: &A,
+fn copy_of_question<A: Allocator + Copy>(
+    alloc: A,
     question: &Question<A>,
 ) -> Result<Question<A>, AllocError>
     ensures copy { IfOk result (λ q. asked q ≡ asked question.now) }
     ensures lawful { IfOk result (λ _. IsAsked (asked question.now)) }
 {
-    let name = copy_of_name(alloc.clone()?, &question.name)?;
-    let spelled = Octets::copy_of(alloc.clone()?, question.spelled.as_slice())?;
+    let name = copy_of_name(alloc, &question.name)?;
+    let spelled = Octets::copy_of(alloc, question.spelled.as_slice())?;
     Ok(Question {
         spelled,
         name,
@@ -137,8 +137,8 @@ fn copy_of_question<A: Allocator + Clone>(
 }
 
 // A copy of a question, if there is one.
-fn copy_if_any<A: Allocator + Clone>(
-    alloc: &A,
+fn copy_if_any<A: Allocator + Copy>(
+    alloc: A,
     question: Option<&Question<A>>,
 ) -> Result<Option<Question<A>>, AllocError>
     ensures copy { IfOk result (λ o. MatchOption question.entry (asked_in o ≡ None) (λ q. asked_in o ≡ Some (asked q.now))) }
@@ -151,8 +151,8 @@ fn copy_if_any<A: Allocator + Clone>(
 }
 
 // A record of the class IN.
-fn line_of<A: Allocator + Clone, B: Allocator>(
-    alloc: &A,
+fn line_of<A: Allocator + Copy, B: Allocator>(
+    alloc: A,
     name: &Name<B>,
     rtype: u16,
     ttl: u32,
@@ -161,8 +161,8 @@ fn line_of<A: Allocator + Clone, B: Allocator>(
     ensures line { IfOk result (λ r. told r ≡ line name.now rtype ttl rdata.now) }
     ensures named { IfOk result (λ _. IsName name.now) }
 {
-    let name = copy_of_name(alloc.clone()?, name)?;
-    let rdata = Octets::copy_of(alloc.clone()?, rdata)?;
+    let name = copy_of_name(alloc, name)?;
+    let rdata = Octets::copy_of(alloc, rdata)?;
     Ok(Record {
         name,
         rtype,

@@ -1,23 +1,12 @@
 //! Whether RDATA is plain: each name in full and in lower case.
 
 ghost use Rattle.std.specs.Prelude.{◌≡◌, ℕ, List, ◌++◌, ◌↔◌, IsTrue, IsFalse, MatchOption};
-ghost use Rattle.fleet_name.specs.Name.{wire, lower, IsName};
+ghost use Rattle.fleet_name.specs.Name.{wire, IsName};
 ghost use Rattle.fleet_wire.specs.Shape.{ArePlain, IsPlain};
 
 use crate::name_reader::{Step, step_at};
 use crate::shape::{Part, parts_of};
-
-fn is_lower(label: &[u8]) -> bool
-    ensures yes { IsTrue result → lower label.now ≡ label.now }
-    ensures no { IsFalse result → lower label.now ≡ label.now → ⊥ }
-{
-    for octet in label {
-        if octet.to_ascii_lowercase() != *octet {
-            return false;
-        }
-    }
-    true
-}
+use fleet_name::is_lower;
 
 // The octets behind a name in full and in lower case, if one stands first.
 fn after_name(octets: &[u8]) -> Option<&[u8]>

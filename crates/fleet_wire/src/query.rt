@@ -1,8 +1,8 @@
 //! Queries: the header and the question of a message (RFC 1035 4.1.1, 4.1.2).
 
 ghost use Rattle.std.specs.Prelude.{◌≡◌, ℕ, ◌+◌, ◌≤◌, ◌++◌, length, IfOk, OnOk, IfErr, MatchResult};
-ghost use Rattle.fleet_name.specs.Name.{labels_of, lower_all, IsSpelling};
-ghost use Rattle.fleet_wire.specs.Question.{Asked, asked, IsQuestion, QuestionFails, HasQuestion};
+ghost use Rattle.fleet_name.specs.Name.{labels_of, IsSpelling};
+ghost use Rattle.fleet_wire.specs.Question.{Asked, asked, asked_spelled, IsQuestion, QuestionFails};
 ghost use Rattle.fleet_wire.specs.Fault.{OrMemory};
 ghost use Rattle.fleet_wire.specs.Message.{header_of, IsHeader, HasOneQuestion, HeaderFails, IsQuery, QueryFails, HasQuery};
 ghost use Rattle.fleet_wire.specs.Query.{query_head, query_octets, query_header, lowered};
@@ -34,46 +34,53 @@ pub(crate) fn counted_header(message: &[u8]) -> Result<Header, ReadFault>
     Ok(header)
 }
 
-// The question of a name that was spelled.
-fn question_of<A: Allocator + Clone>(
-    alloc: &A,
-    spelled: &Spelled,
-    rtype: u16,
-    class: u16,
-) -> Result<Question<A>, AllocError>
-    requires spelled { IsSpelling spelled.now.octets.items }
-    requires counted { spelled.now.labels ≡ length (labels_of spelled.now.octets.items) }
-    ensures { IfOk result (λ q. asked q ≡ record { spelled = spelled.now.octets.items; name = lower_all (labels_of spelled.now.octets.items); rtype = rtype; class = class }) }
-{
-    let name = name_of(alloc.clone()?, spelled)?;
-    let octets = Octets::copy_of(alloc.clone()?, spelled.octets.as_slice())?;
-    Ok(Question {
-        spelled: octets,
-        name,
-        rtype,
-        class,
-    })
+// A question that has taken no memory yet.
+#[derive(Drop)]
+pub(crate) struct SpelledQuestion {
+    pub(crate) name: Spelled,
+    pub(crate) rtype: u16,
+    pub(crate) class: u16,
+    // Where it ends in the message.
+    pub(crate) end: usize,
 }
 
-// The question at a place of a message, and where it ends.
-pub(crate) fn read_question<A: Allocator + Clone>(
-    alloc: &A,
-    message: &[u8],
-    offset: usize,
-) -> Result<(Question<A>, usize), ReadFault>
-    ensures found { IfOk result (λ r. IsQuestion message.now offset (asked r.0) r.1) }
-    ensures fault { IfErr result (λ f. OrMemory f (QuestionFails message.now offset f)) }
-    ensures memory { IfErr result (λ f. f ≡ OutOfMemory → HasQuestion message.now offset) }
+// The question at a place of a message.
+pub(crate) fn question_at(message: &[u8], offset: usize) -> Result<SpelledQuestion, ReadFault>
+    ensures found { IfOk result (λ q. IsQuestion message.now offset (asked_spelled q) q.end) }
+    ensures spelled { IfOk result (λ q. IsSpelling q.name.octets.items) }
+    ensures counted { IfOk result (λ q. q.name.labels ≡ length (labels_of q.name.octets.items)) }
+    ensures fault { IfErr result (λ f. QuestionFails message.now offset f) }
 {
-    let spelled = spelled_at(message, offset)?;
-    let past = spelled.end;
+    let name = spelled_at(message, offset)?;
+    let past = name.end;
     if message.len() - past < 4 {
         return Err(ReadFault::Truncated);
     }
-    let rtype = short_at(message, past);
-    let class = short_at(message, past + 2);
-    let question = question_of(alloc, &spelled, rtype, class)?;
-    Ok((question, past + 4))
+    Ok(SpelledQuestion {
+        name,
+        rtype: short_at(message, past),
+        class: short_at(message, past + 2),
+        end: past + 4,
+    })
+}
+
+// The question that was spelled, in memory of its own.
+pub(crate) fn question_of<A: Allocator + Copy>(
+    alloc: A,
+    spelled: &SpelledQuestion,
+) -> Result<Question<A>, AllocError>
+    requires spelled { IsSpelling spelled.now.name.octets.items }
+    requires counted { spelled.now.name.labels ≡ length (labels_of spelled.now.name.octets.items) }
+    ensures { IfOk result (λ q. asked q ≡ asked_spelled spelled.now) }
+{
+    let name = name_of(alloc, &spelled.name)?;
+    let octets = Octets::copy_of(alloc, spelled.name.octets.as_slice())?;
+    Ok(Question {
+        spelled: octets,
+        name,
+        rtype: spelled.rtype,
+        class: spelled.class,
+    })
 }
 
 /// The header and the question of a message (RFC 1035 4.1.1, 4.1.2). What follows the question is
@@ -82,7 +89,7 @@ pub(crate) fn read_question<A: Allocator + Clone>(
 /// The first fault is told: `TooShort` under 12 octets, `TooLong` over 512, `QuestionCount` where
 /// there is not one question, then what the question's name meets, and `Truncated` where its type
 /// or class is cut off. `OutOfMemory` is told only where there is none of these.
-pub fn read_query<A: Allocator + Clone>(
+pub fn read_query<A: Allocator + Copy>(
     alloc: A,
     message: &[u8],
 ) -> Result<(Header, Question<A>), ReadFault>
@@ -93,7 +100,8 @@ pub fn read_query<A: Allocator + Clone>(
     ensures memory { IfErr result (λ f. f ≡ OutOfMemory → HasQuery message.now) }
 {
     let header = counted_header(message)?;
-    let (question, _) = read_question(&alloc, message, 12)?;
+    let spelled = question_at(message, 12)?;
+    let question = question_of(alloc, &spelled)?;
     Ok((header, question))
 }
 

@@ -28,7 +28,7 @@ impl<A: Allocator> Question<A> {
     /// A copy of the question, or `Err` where there is no memory for it.
     pub fn try_clone(&self) -> Result<Question<A>, AllocError>
     where
-        A: Clone,
+        A: Copy,
         ensures { IfOk result (λ q. asked q ≡ asked self.now) }
     {
         let spelled = self.spelled.try_clone()?;

@@ -1,15 +1,15 @@
 //! Records (RFC 1035 4.1.3).
 
-ghost use Rattle.std.specs.Prelude.{◌≡◌, ℕ, ◌+◌, ◌≤◌, length, IfOk, IfErr};
-ghost use Rattle.fleet_wire.specs.Fault.{OrMemory};
-ghost use Rattle.fleet_wire.specs.Record.{told, all_told, RecordAt, RecordFails, RecordsAt, RecordsFail};
+ghost use Rattle.std.specs.Prelude.{◌≡◌, ℕ, ◌≤◌, List, length, IfOk, IfErr};
+ghost use Rattle.fleet_name.specs.Name.{labels_of, IsSpelling};
+ghost use Rattle.fleet_wire.specs.Record.{Told, told, told_spelled, all_told, RecordAt, RecordFails, RecordsAt, HasRecords, RecordsFail};
 
 use crate::fault::ReadFault;
-use crate::name_reader::read_name;
+use crate::name_reader::{Spelled, name_of, spelled_at};
 use crate::number::{long_at, short_at};
-use crate::shape::read_rdata;
+use crate::shape::{Rdata, rdata_at};
 use fleet_name::{Name, Octets};
-use std::alloc::{Allocator, Global};
+use std::alloc::{AllocError, Allocator, Global};
 
 /// A record of a message (RFC 1035 4.1.3).
 #[derive(Drop)]
@@ -26,56 +26,100 @@ pub struct Record<A: Allocator = Global> {
     pub rdata: Octets<A>,
 }
 
-// The record at a place, and where it ends.
-fn read_record<A: Allocator + Clone>(
-    alloc: &A,
-    message: &[u8],
-    offset: usize,
-) -> Result<(Record<A>, usize), ReadFault>
-    ensures found { IfOk result (λ r. RecordAt message.now offset (told r.0) r.1) }
-    ensures fault { IfErr result (λ f. OrMemory f (RecordFails message.now offset f)) }
+// A record that has taken no memory yet.
+#[derive(Drop)]
+pub(crate) struct SpelledRecord {
+    pub(crate) owner: Spelled,
+    pub(crate) rtype: u16,
+    pub(crate) class: u16,
+    pub(crate) ttl: u32,
+    pub(crate) rdata: Rdata,
+    // Where it ends in the message.
+    pub(crate) end: usize,
+}
+
+// The record at a place of a message.
+fn record_at(message: &[u8], offset: usize) -> Result<SpelledRecord, ReadFault>
+    requires short { length message.now ≤ 512 }
+    ensures found { IfOk result (λ r. RecordAt message.now offset (told_spelled r) r.end) }
+    ensures spelled { IfOk result (λ r. IsSpelling r.owner.octets.items) }
+    ensures counted { IfOk result (λ r. r.owner.labels ≡ length (labels_of r.owner.octets.items)) }
+    ensures fault { IfErr result (λ f. RecordFails message.now offset f) }
 {
-    let (name, past) = read_name(alloc, message, offset)?;
+    let owner = spelled_at(message, offset)?;
+    let past = owner.end;
     if message.len() - past < 10 {
         return Err(ReadFault::Truncated);
     }
     let rtype = short_at(message, past);
-    let class = short_at(message, past + 2);
-    let ttl = long_at(message, past + 4);
     let count = short_at(message, past + 8) as usize;
     if message.len() - past - 10 < count {
         return Err(ReadFault::Truncated);
     }
-    let rdata = read_rdata(alloc, message, past + 10, count, rtype)?;
-    Ok((
-        Record {
-            name,
-            rtype,
-            class,
-            ttl,
-            rdata,
-        },
-        past + 10 + count,
-    ))
+    let rdata = rdata_at(message, past + 10, count, rtype)?;
+    Ok(SpelledRecord {
+        owner,
+        rtype,
+        class: short_at(message, past + 2),
+        ttl: long_at(message, past + 4),
+        rdata,
+        end: past + 10 + count,
+    })
 }
 
-// So many records at a place in a row, and where they end.
-pub(crate) fn read_records<A: Allocator + Clone>(
-    alloc: &A,
+// Where so many records in a row end that stand at a place of a message.
+pub(crate) fn records_end(message: &[u8], offset: usize, count: u16) -> Result<usize, ReadFault>
+    requires short { length message.now ≤ 512 }
+    ensures found { IfOk result (λ e. (rs : List Told) × RecordsAt message.now offset rs e × (length rs ≡ count)) }
+    ensures fault { IfErr result (λ f. RecordsFail message.now offset count f) }
+{
+    let mut at = offset;
+    for _ in 0..count {
+        at = record_at(message, at)?.end;
+    }
+    Ok(at)
+}
+
+// The record that was spelled, in memory of its own.
+fn record_of<A: Allocator + Copy>(
+    alloc: A,
+    spelled: &SpelledRecord,
+) -> Result<Record<A>, AllocError>
+    requires spelled { IsSpelling spelled.now.owner.octets.items }
+    requires counted { spelled.now.owner.labels ≡ length (labels_of spelled.now.owner.octets.items) }
+    ensures { IfOk result (λ r. told r ≡ told_spelled spelled.now) }
+{
+    let name = name_of(alloc, &spelled.owner)?;
+    let rdata = Octets::copy_of(alloc, spelled.rdata.as_slice())?;
+    Ok(Record {
+        name,
+        rtype: spelled.rtype,
+        class: spelled.class,
+        ttl: spelled.ttl,
+        rdata,
+    })
+}
+
+// So many records in a row at a place of a message where they stand, and where they end.
+pub(crate) fn records_of<A: Allocator + Copy>(
+    alloc: A,
     message: &[u8],
     offset: usize,
     count: u16,
-) -> Result<(Vec<Record<A>, A>, usize), ReadFault>
+) -> Result<(Vec<Record<A>, A>, usize), AllocError>
+    requires short { length message.now ≤ 512 }
+    requires stand { HasRecords message.now offset count }
     ensures found { IfOk result (λ r. RecordsAt message.now offset (all_told r.0.items) r.1) }
     ensures counted { IfOk result (λ r. length (all_told r.0.items) ≡ count) }
-    ensures fault { IfErr result (λ f. OrMemory f (RecordsFail message.now offset count f)) }
 {
-    let mut records = Vec::new(alloc.clone()?);
+    let mut records = Vec::new(alloc);
     let mut at = offset;
     for _ in 0..count {
-        let (record, past) = read_record(alloc, message, at)?;
-        records.push(record)?;
-        at = past;
+        let Ok(spelled) = record_at(message, at) else {
+            unreachable!()
+        };
+        records.push(record_of(alloc, &spelled)?)?;
+        at = spelled.end;
     }
     Ok((records, at))
 }

@@ -1,31 +1,58 @@
 //! Reading a reply (RFC 1035 4.1).
 
-ghost use Rattle.std.specs.Prelude.{◌≡◌, IfOk, IfErr};
+ghost use Rattle.std.specs.Prelude.{◌≡◌, length, IfOk, IfErr};
+ghost use Rattle.fleet_name.specs.Name.{labels_of, IsSpelling};
+ghost use Rattle.fleet_wire.specs.Question.{asked_spelled};
 ghost use Rattle.fleet_wire.specs.Fault.{OrMemory};
-ghost use Rattle.fleet_wire.specs.Message.{HasQuery, Reply, IsReply, ReplyFails};
+ghost use Rattle.fleet_wire.specs.Message.{IsQuery, Reply, IsReply, HasReply, ReplyFails};
 ghost use Rattle.fleet_wire.specs.declared.fault.ReadFault.TheVariants.{OutOfMemory};
 
 use crate::fault::ReadFault;
+use crate::header::Header;
 use crate::message::Message;
-use crate::query::{counted_header, read_question};
-use crate::record::read_records;
-use std::alloc::Allocator;
+use crate::query::{SpelledQuestion, counted_header, question_at, question_of};
+use crate::record::{records_end, records_of};
+use std::alloc::{AllocError, Allocator};
 
-// A whole reply.
-fn reply_at<A: Allocator + Clone>(alloc: &A, message: &[u8]) -> Result<Message<A>, ReadFault>
-    ensures found { IfOk result (λ r. IsReply message.now r) }
-    ensures fault { IfErr result (λ f. OrMemory f (ReplyFails message.now f)) }
-    ensures memory { IfErr result (λ f. f ≡ OutOfMemory → HasQuery message.now) }
+// The header and the question of a message that is a reply. Its records are read too, and not kept.
+fn reply_head(message: &[u8]) -> Result<(Header, SpelledQuestion), ReadFault>
+    ensures query { IfOk result (λ r. IsQuery message.now r.0 (asked_spelled r.1) r.1.end) }
+    ensures whole { IfOk result (λ _. HasReply message.now) }
+    ensures spelled { IfOk result (λ r. IsSpelling r.1.name.octets.items) }
+    ensures counted { IfOk result (λ r. r.1.name.labels ≡ length (labels_of r.1.name.octets.items)) }
+    ensures fault { IfErr result (λ f. ReplyFails message.now f) }
 {
     let header = counted_header(message)?;
-    let (question, past) = read_question(alloc, message, 12)?;
+    let question = question_at(message, 12)?;
     if header.tc {
-        let answer = Vec::new(alloc.clone()?);
-        let authority = Vec::new(alloc.clone()?);
+        return Ok((header, question));
+    }
+    let middle = records_end(message, question.end, header.counts[1])?;
+    records_end(message, middle, header.counts[2])?;
+    Ok((header, question))
+}
+
+// The reply that a message with this header and this question is.
+fn message_of<A: Allocator + Copy>(
+    alloc: A,
+    message: &[u8],
+    header: Header,
+    spelled: &SpelledQuestion,
+) -> Result<Message<A>, AllocError>
+    requires query { IsQuery message.now header (asked_spelled spelled.now) spelled.now.end }
+    requires whole { HasReply message.now }
+    requires spelled { IsSpelling spelled.now.name.octets.items }
+    requires counted { spelled.now.name.labels ≡ length (labels_of spelled.now.name.octets.items) }
+    ensures { IfOk result (λ r. IsReply message.now r) }
+{
+    let question = question_of(alloc, spelled)?;
+    if header.tc {
+        let answer = Vec::new(alloc);
+        let authority = Vec::new(alloc);
         return Ok(Message::of_parts(header, question, answer, authority));
     }
-    let (answer, middle) = read_records(alloc, message, past, header.counts[1])?;
-    let (authority, _) = read_records(alloc, message, middle, header.counts[2])?;
+    let (answer, middle) = records_of(alloc, message, spelled.end, header.counts[1])?;
+    let (authority, _) = records_of(alloc, message, middle, header.counts[2])?;
     Ok(Message::of_parts(header, question, answer, authority))
 }
 
@@ -36,12 +63,13 @@ fn reply_at<A: Allocator + Clone>(alloc: &A, message: &[u8]) -> Result<Message<A
 /// The first fault is told, in the order of the octets: those of `read_query`, then for each record
 /// what its name meets, `Truncated` where its ten fixed octets or its RDATA pass the end, then what
 /// the parts of its RDATA meet, and `BadRdata` where they end at another octet than it does.
-/// `OutOfMemory` is told at the growth that met it, behind a question without a fault.
-pub fn read_reply<A: Allocator + Clone>(alloc: A, message: &[u8]) -> Result<Message<A>, ReadFault>
+/// `OutOfMemory` is told only where there is none of these.
+pub fn read_reply<A: Allocator + Copy>(alloc: A, message: &[u8]) -> Result<Message<A>, ReadFault>
     ensures found { IfOk result (λ r. IsReply message.now r) }
     ensures fault { IfErr result (λ f. OrMemory f (ReplyFails message.now f)) }
     ensures only { (r : Reply) → IsReply message.now r → IfErr result (λ f. f ≡ OutOfMemory) }
-    ensures memory { IfErr result (λ f. f ≡ OutOfMemory → HasQuery message.now) }
+    ensures memory { IfErr result (λ f. f ≡ OutOfMemory → HasReply message.now) }
 {
-    reply_at(&alloc, message)
+    let (header, spelled) = reply_head(message)?;
+    Ok(message_of(alloc, message, header, &spelled)?)
 }

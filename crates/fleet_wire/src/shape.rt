@@ -1,17 +1,16 @@
 //! What RDATA holds (RFC 1035 3.3, RFC 2782).
 
-ghost use Rattle.std.specs.Prelude.{◌≡◌, ℕ, ◌+◌, ◌<◌, ◌≤◌, List, ◌++◌, length, take, drop, Some, None, IfOk, IfErr, OnOk, MatchOption, MatchResult};
+ghost use Rattle.std.specs.Prelude.{◌≡◌, ℕ, ◌+◌, ◌<◌, ◌≤◌, List, ◌++◌, length, take, drop, Some, None, IfOk, IfErr, IfSome, MatchOption, MatchResult};
 ghost use Rattle.fleet_name.specs.Name.{lower, wire};
 ghost use Rattle.fleet_wire.specs.NameAt.{ReadsName};
-ghost use Rattle.fleet_wire.specs.Fault.{NameFails, OrMemory};
-ghost use Rattle.fleet_wire.specs.Shape.{shape_of, PartsAt, PartsFail, ShapeAt, ShapeFails};
+ghost use Rattle.fleet_wire.specs.Fault.{NameFails};
+ghost use Rattle.fleet_wire.specs.Shape.{shape_of, room_of, PartsAt, PartsFail, ShapeAt, ShapeFails};
 ghost use Rattle.fleet_wire.specs.declared.fault.ReadFault.TheVariants.{Truncated};
 
 use crate::fault::ReadFault;
 use crate::name_reader::spelled_at;
 use crate::rtype::{CNAME, MB, MD, MF, MG, MINFO, MR, MX, NS, PTR, SOA, SRV};
-use fleet_name::Octets;
-use std::alloc::{AllocError, Allocator};
+use arrayvec::ArrayVec;
 
 // A part of RDATA.
 #[derive(Clone, Copy, Debug, PartialEq, Eq)]
@@ -21,9 +20,16 @@ pub(crate) enum Part {
     Name,
 }
 
+// The most octets that the RDATA of a message of 512 octets has with each name in full: an SOA's.
+pub(crate) const LONGEST_RDATA: usize = 530;
+
+// RDATA that has taken no memory yet.
+pub(crate) type Rdata = ArrayVec<u8, LONGEST_RDATA>;
+
 // The parts of a type's RDATA, if it has names.
 pub(crate) fn parts_of(rtype: u16) -> Option<&'static [Part]>
-    ensures { MatchOption result (shape_of rtype ≡ None) (λ s. shape_of rtype ≡ Some s.now) }
+    ensures parts { MatchOption result (shape_of rtype ≡ None) (λ s. shape_of rtype ≡ Some s.now) }
+    ensures room { IfSome result (λ s. room_of s.now ≤ LONGEST_RDATA) }
 {
     match rtype {
         NS | MD | MF | CNAME | MB | MG | MR | PTR => Some(&[Part::Name]),
@@ -48,48 +54,49 @@ fn plain_at(message: &[u8], at: usize, count: usize) -> Result<&[u8], ReadFault>
     Ok(octets)
 }
 
-// Adds octets in lower case.
-fn append_lowered<A: Allocator>(out: &mut Vec<u8, A>, octets: &[u8]) -> Result<(), AllocError>
-    ensures { OnOk result (out.new.items ≡ out.old.items ++ lower octets.now) }
+// Adds octets as they are.
+fn append_plain(out: &mut Rdata, octets: &[u8])
+    requires room { length out.old.items + length octets.now ≤ LONGEST_RDATA }
+    ensures { out.new.items ≡ out.old.items ++ octets.now }
 {
-    out.reserve(octets.len())?;
+    let _ = out.try_extend_from_slice(octets);
+}
+
+// Adds octets in lower case.
+fn append_lowered(out: &mut Rdata, octets: &[u8])
+    requires room { length out.old.items + length octets.now ≤ LONGEST_RDATA }
+    ensures { out.new.items ≡ out.old.items ++ lower octets.now }
+{
     for octet in octets {
-        out.push_reserved(octet.to_ascii_lowercase());
+        out.push(octet.to_ascii_lowercase());
     }
-    Ok(())
 }
 
 // Adds the name at a place, in full and in lower case, and tells where it ends.
-fn append_name<A: Allocator>(
-    out: &mut Vec<u8, A>,
-    message: &[u8],
-    at: usize,
-) -> Result<usize, ReadFault>
+fn append_name(out: &mut Rdata, message: &[u8], at: usize) -> Result<usize, ReadFault>
+    requires room { length out.old.items + 255 ≤ LONGEST_RDATA }
     ensures found { IfOk result (λ past. (n : List (List ℕ)) × ReadsName message.now at n past × (out.new.items ≡ out.old.items ++ wire n)) }
-    ensures fault { IfErr result (λ f. OrMemory f (NameFails message.now at f)) }
+    ensures room { length out.new.items ≤ length out.old.items + 255 }
+    ensures fault { IfErr result (λ f. NameFails message.now at f) }
 {
     let spelled = spelled_at(message, at)?;
-    append_lowered(out, spelled.octets.as_slice())?;
+    append_lowered(out, spelled.octets.as_slice());
     Ok(spelled.end)
 }
 
 // The parts at a place, with each name in full, and where they end.
-fn read_parts<A: Allocator + Clone>(
-    alloc: &A,
-    message: &[u8],
-    parts: &[Part],
-    offset: usize,
-) -> Result<(Vec<u8, A>, usize), ReadFault>
-    requires { offset ≤ length message.now }
+fn parts_at(message: &[u8], parts: &[Part], offset: usize) -> Result<(Rdata, usize), ReadFault>
+    requires within { offset ≤ length message.now }
+    requires room { room_of parts.now ≤ LONGEST_RDATA }
     ensures found { IfOk result (λ r. PartsAt message.now parts.now offset r.0.items r.1) }
-    ensures fault { IfErr result (λ f. OrMemory f (PartsFail message.now parts.now offset f)) }
+    ensures fault { IfErr result (λ f. PartsFail message.now parts.now offset f) }
 {
-    let mut octets = Vec::new(alloc.clone()?);
+    let mut octets = ArrayVec::new();
     let mut at = offset;
     for part in parts {
         match part {
             Part::Plain(count) => {
-                octets.extend_from_slice(plain_at(message, at, *count)?)?;
+                append_plain(&mut octets, plain_at(message, at, *count)?);
                 at += *count;
             }
             Part::Name => at = append_name(&mut octets, message, at)?,
@@ -99,24 +106,25 @@ fn read_parts<A: Allocator + Clone>(
 }
 
 // So many octets of RDATA of a type at a place, with each name in full.
-pub(crate) fn read_rdata<A: Allocator + Clone>(
-    alloc: &A,
+pub(crate) fn rdata_at(
     message: &[u8],
     at: usize,
     count: usize,
     rtype: u16,
-) -> Result<Octets<A>, ReadFault>
-    requires { at + count ≤ length message.now }
-    ensures found { IfOk result (λ r. ShapeAt message.now at count (shape_of rtype) r) }
-    ensures fault { IfErr result (λ f. OrMemory f (ShapeFails message.now at count (shape_of rtype) f)) }
+) -> Result<Rdata, ReadFault>
+    requires within { at + count ≤ length message.now }
+    requires short { length message.now ≤ 512 }
+    ensures found { IfOk result (λ r. ShapeAt message.now at count (shape_of rtype) r.items) }
+    ensures fault { IfErr result (λ f. ShapeFails message.now at count (shape_of rtype) f) }
 {
     let Some(parts) = parts_of(rtype) else {
-        let octets = plain_at(message, at, count)?;
-        return Ok(Octets::copy_of(alloc.clone()?, octets)?);
+        let mut octets = ArrayVec::new();
+        append_plain(&mut octets, plain_at(message, at, count)?);
+        return Ok(octets);
     };
-    let (octets, end) = read_parts(alloc, message, parts, at)?;
+    let (octets, end) = parts_at(message, parts, at)?;
     if end != at + count {
         return Err(ReadFault::BadRdata);
     }
-    Ok(Octets::new(octets))
+    Ok(octets)
 }

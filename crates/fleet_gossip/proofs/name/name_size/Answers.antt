@@ -13,7 +13,7 @@ returns-in_err-label c =
 pub returns-then-is_empty : goal.returns-then-is_empty
 returns-then-is_empty c =
     let i = c.loop-label.invariant in let at = c.in_ok-label.ensures i.before (sym i.counted) in
-    (i.before, c.read_label.new.reader, name_ends _ _ _ _ i.before i.whole i.named at (empty_from _ c.if-is_empty.ensures), i.counted)
+    name_ends _ _ _ _ i.before i.whole i.named at (empty_from _ c.if-is_empty.ensures) _ i.counted
 
 pub loop-label-preserved : goal.loop-label-preserved
 loop-label-preserved c =

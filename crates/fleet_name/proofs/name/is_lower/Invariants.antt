@@ -4,6 +4,6 @@ use Rattle.fleet_name.proofs.name.is_lower.Given as goal
 
 abbrev pub invariant-loop-octet : goal.invariant-loop-octet
 invariant-loop-octet l = record {
-  yes : lower (drop l.octet-index l.label) ≡ drop l.octet-index l.label → lower l.label ≡ l.label;
-  no : lower l.label ≡ l.label → lower (drop l.octet-index l.label) ≡ drop l.octet-index l.label;
+  yes : lower (drop l.octet-index l.octets) ≡ drop l.octet-index l.octets → lower l.octets ≡ l.octets;
+  no : lower l.octets ≡ l.octets → lower (drop l.octet-index l.octets) ≡ drop l.octet-index l.octets;
 }

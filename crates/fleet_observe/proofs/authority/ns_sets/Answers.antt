@@ -2,11 +2,12 @@ use Rattle.std.proofs.Common.{◌<◌, ◌≤◌, ◌∷◌, ◌∙◌, [], inl,
 use mathlib.Core.Bool.{false≢true}
 use Rattle.fleet_wire.specs.Record.{all_told, told}
 use Rattle.fleet_observe.specs.RrSet.{set_of, sets_of}
-use Rattle.fleet_observe.specs.Meaning.{owners_of, IsRepeated}
+use Rattle.fleet_observe.specs.Meaning.{HasNs, owners_of, IsRepeated}
 use Rattle.fleet_observe.proofs.Sections.{told_member, told-item, told-all, sets_of-append}
+use Rattle.fleet_observe.proofs.Results.{if_err}
 use Rattle.fleet_observe.proofs.Owners.{ns_in, owners_of-append, owners_new, owners_same, owner_known, owner_kept, each_more}
 use Rattle.fleet_observe.proofs.authority.ns_sets.Goals as goal
-use Rattle.fleet_observe.proofs.authority.ns_sets.Goals.{then-is_ns+then-not-owns+in_ok-clone-2+in_ok-set+in_ok-push, else-is_ns, else-is_ns-via-then-is_ns+else-not-owns, else-is_ns-via-else-is_ns}
+use Rattle.fleet_observe.proofs.authority.ns_sets.Goals.{then-is_ns+then-not-owns+in_ok-set+in_ok-push, else-is_ns, else-is_ns-via-then-is_ns+else-not-owns, else-is_ns-via-else-is_ns}
 
 pub loop-record-init : goal.loop-record-init
 loop-record-init g c = rw c.new-sets.ensures.items (record { owners = refl; each = λ x h. absurd h })
@@ -25,7 +26,7 @@ loop-record-preserved g c =
     let e = told-item xs i item within c.record-item.is in
     let seen = all_told (take i xs) in
     elim c.if-is_ns.branch [
-      | then-is_ns+then-not-owns+in_ok-clone-2+in_ok-set+in_ok-push w ↦
+      | then-is_ns+then-not-owns+in_ok-set+in_ok-push w ↦
           let ns = c.is_ns.ensures.0 w.if-is_ns.true in
           let new : ¬ IsRepeated q seen (told item) = λ r.
           elim (owner_kept q [] seen (owners_of (sets_of sets)) r.earlier inv.owners r.member r.ns) [
@@ -50,7 +51,19 @@ loop-record-preserved g c =
           })
     ]
 
-pub returns : goal.returns
-returns g c =
+pub returns-in_err-set-clause-memory : goal.returns-in_err-set-clause-memory
+returns-in_err-set-clause-memory g c =
+    let xs = c.args.authority.now in let i = c.loop-record.record-index in let item = c.record-item.result in
+    let there : i < length xs = omega arith in
+    if_err (HasNs c.args.name.now (all_told xs)) _ (told item, told_member xs i item there c.record-item.is, c.is_ns.ensures.0 c.if-is_ns.true)
+
+pub returns-in_err-push-clause-memory : goal.returns-in_err-push-clause-memory
+returns-in_err-push-clause-memory g c =
+    let xs = c.args.authority.now in let i = c.loop-record.record-index in let item = c.record-item.result in
+    let there : i < length xs = omega arith in
+    if_err (HasNs c.args.name.now (all_told xs)) _ (told item, told_member xs i item there c.record-item.is, c.is_ns.ensures.0 c.if-is_ns.true)
+
+pub returns-clause-sets : goal.returns-clause-sets
+returns-clause-sets g c =
     let all : length c.args.authority.now ≤ c.loop-record.record-index = omega arith in
     record { owners = rw (told-all c.args.authority.now c.loop-record.record-index all) at c.loop-record.invariant.owners; each = c.loop-record.invariant.each }

@@ -4,19 +4,19 @@ use Rattle.fleet_wire.specs.Record.{told}
 use Rattle.fleet_observe.proofs.Soas.{none_counts, other_counts, first_member, soa_long}
 use Rattle.fleet_observe.proofs.denial.soa_for.Goals as goal
 
-pub returns-in_default : goal.returns-in_default
-returns-in_default g c = none_counts _ _ c.in_default.ensures
+pub returns-in_default-clause-soa : goal.returns-in_default-clause-soa
+returns-in_default-clause-soa g c = none_counts _ _ c.in_default.ensures
 
-pub returns-then-not-is_under : goal.returns-then-not-is_under
-returns-then-not-is_under g c = other_counts _ _ _ c.in-Some.ensures (λ u. false≢true (sym c.if-not-is_under.true ∙ c.is_under.ensures.1 u))
+pub returns-then-not-is_under-clause-soa : goal.returns-then-not-is_under-clause-soa
+returns-then-not-is_under-clause-soa g c = other_counts _ _ _ c.in-Some.ensures (λ u. false≢true (sym c.if-not-is_under.true ∙ c.is_under.ensures.1 u))
 
 pub minimum-requires : goal.minimum-requires
 minimum-requires g c =
     let r = told c.in-Some.record.now in let is = c.in-Some.ensures in
     rw c.as_slice.ensures (soa_long r.rdata (rw is.soa.rtype at (c.requires r (first_member _ _ is)).rdata))
 
-pub returns : goal.returns
-returns g c = record {
+pub returns-clause-soa : goal.returns-clause-soa
+returns-clause-soa g c = record {
   carrier = told c.in-Some.record.now;
   counts = record { first = c.in-Some.ensures; under = c.is_under.ensures.0 c.if-not-is_under.false };
   owner = c.in_ok-try_clone.ensures;

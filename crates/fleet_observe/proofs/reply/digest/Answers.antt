@@ -11,7 +11,7 @@ pub short-requires : goal.short-requires
 short-requires g c =
     let served = rw c.if-not-is_served.false at c.is_served.ensures in
     let cut = sym (ap (λ (x : Header). x.tc) c.header-header.ensures.header) ∙ c.if-header.true in
-    record { served = served; tells = (cut, refl); idle = no_walk_cut _ cut }
+    record { served = served; named = c.in_ok-name.ensures ∙ ap (λ (x : Asked). x.name) c.question-question.ensures.question; tells = (cut, refl); idle = no_walk_cut _ cut }
 
 pub short-requires-then-not-is_answered : goal.short-requires-then-not-is_answered
 short-requires-then-not-is_answered g c =
@@ -19,7 +19,7 @@ short-requires-then-not-is_answered g c =
     let whole = sym (ap (λ (x : Header). x.tc) c.header-header.ensures.header) ∙ c.if-header.false in
     let is = ap (λ (x : Header). x.rcode) c.header-header.ensures.header in
     let code = rw (c.if-not-is_answered.true, is) at c.is_answered.ensures in
-    record { served = served; tells = (whole, code.0, code.1, is, refl); idle = no_walk_coded _ code.0 code.1 }
+    record { served = served; named = c.in_ok-name-2.ensures ∙ ap (λ (x : Asked). x.name) c.question-question.ensures.question; tells = (whole, code.0, code.1, is, refl); idle = no_walk_coded _ code.0 code.1 }
 
 pub has_walk-requires-clause-spelled : goal.has_walk-requires-clause-spelled
 has_walk-requires-clause-spelled g c = spells c.octets.result.now c.question-question.result.now.name c.octets.ensures.named c.octets.ensures.octets
@@ -49,16 +49,16 @@ walked-requires g c =
     let code = rw (c.if-not-is_answered.false, ap (λ (x : Header). x.rcode) c.header-header.ensures.header) at c.is_answered.ensures in
     record { served = served; asks = record { whole = whole; code = code }; walk = walk.0 c.if-not-has_walk.false }
 
-pub returns-in_err-short : goal.returns-in_err-short
-returns-in_err-short g c =
+pub returns-in_err-name : goal.returns-in_err-name
+returns-in_err-name g c =
     let r = c.from_residual in let p = err_from_is_err_and r.result r.ensures.1 in
     let served = rw c.if-not-is_served.false at c.is_served.ensures in
     let cut = sym (ap (λ (x : Header). x.tc) c.header-header.ensures.header) ∙ c.if-header.true in
     rw (p.1, p.2) (served, λ asks. absurd (no_walk_cut _ cut asks))
 
-pub returns-in_err-short-2 : goal.returns-in_err-short-2
-returns-in_err-short-2 g c =
-    let r = c.from_residual-in_err-short-2 in let p = err_from_is_err_and r.result r.ensures.1 in
+pub returns-in_err-name-2 : goal.returns-in_err-name-2
+returns-in_err-name-2 g c =
+    let r = c.from_residual-in_err-name-2 in let p = err_from_is_err_and r.result r.ensures.1 in
     let served = rw c.if-not-is_served.false at c.is_served.ensures in
     let is = ap (λ (x : Header). x.rcode) c.header-header.ensures.header in
     let code = rw (c.if-not-is_answered.true, is) at c.is_answered.ensures in

@@ -7,12 +7,12 @@ use Rattle.fleet_observe.proofs.rrset.belongs.Goals as goal
 
 pub returns : goal.returns
 returns g c =
-    let name = c.args.name.now in let owner = c.args.record.now.name in let ok = c.octets.ensures in
+    let name = c.args.name.now in let owner = c.args.candidate.now.name in let ok = c.octets.ensures in
     let d = slice_eq-Decides Decides-eqb c.octets.result.now name _ refl in (
       λ same.
           let e = sym (d.0 (sym c.eq.ensures ∙ same)) ∙ ok.octets in record {
-            class = c.if-record-ne1.false;
-            rtype = c.if-record-rtype.false;
+            class = c.if-candidate-ne1.false;
+            rtype = c.if-candidate-rtype.false;
             typed = c.is_data_type.ensures.0 c.if-not-is_data_type.false;
             owner = sym (labels_of-spelled name owner ok.named e);
           },

@@ -5,7 +5,7 @@ use Rattle.fleet_observe.proofs.Sections.{told-item, told-all}
 use Rattle.fleet_observe.proofs.Spelling.{spells, labels_of-spelled}
 use Rattle.fleet_observe.proofs.Sets.{those_none, those_kept, those_more}
 use Rattle.fleet_observe.proofs.rrset.gather.Goals as goal
-use Rattle.fleet_observe.proofs.rrset.gather.Goals.{then-belongs+in_ok-clone-2+in_ok-add, else-belongs}
+use Rattle.fleet_observe.proofs.rrset.gather.Goals.{then-belongs+in_ok-add, else-belongs}
 
 pub loop-record-init : goal.loop-record-init
 loop-record-init g c = those_none _ _ _ c.new-rdatas.ensures.items
@@ -21,7 +21,7 @@ loop-record-preserved g c =
     let is = labels_of-spelled c.octets-name.result.now c.args.owner.now c.octets-name.ensures.named c.octets-name.ensures.octets in
     let b = rw is at c.belongs.ensures in
     elim c.if-belongs.branch [
-      | then-belongs+in_ok-clone-2+in_ok-add w ↦ rw (w.rdatas-is, e) (those_more (all_told (take i xs)) _ _ (told item) c.loop-record.rdatas.items _ c.loop-record.invariant (b.0 w.if-belongs.true) w.in_ok-add.ensures.ascending (rw w.as_slice.ensures at w.in_ok-add.ensures.members))
+      | then-belongs+in_ok-add w ↦ rw (w.rdatas-is, e) (those_more (all_told (take i xs)) _ _ (told item) c.loop-record.rdatas.items _ c.loop-record.invariant (b.0 w.if-belongs.true) w.in_ok-add.ensures.ascending (rw w.as_slice.ensures at w.in_ok-add.ensures.members))
       | else-belongs w ↦ rw (w.rdatas-is, e) (those_kept (all_told (take i xs)) _ _ (told item) _ c.loop-record.invariant (λ h. false≢true (sym w.if-belongs.false ∙ b.1 h)))
     ]
 

@@ -17,4 +17,4 @@ pub returns : goal.returns
 returns g c =
     let rtype : c.question.result.now.rtype ≡ c.args.message.now.question.rtype = ap (λ (q : Asked). q.rtype) c.question.ensures.question in
     let code : c.args.message.now.header.rcode ≡ 3 = elim c.requires.asks.code [ inl e ↦ absurd (c.if-header-eq0.false (rw c.header.ensures.header e)) | inr e ↦ e ] in
-    (rw (c.answer-answer.ensures.answer, rtype) at c.in_default.ensures, code, rw (c.authority.ensures.authority, c.in_ok-denied.ensures) at c.in_ok-soa.ensures)
+    (rw (c.answer-answer.ensures.answer, rtype) at c.in_default.ensures, code, rw (c.authority.ensures.authority, c.in_ok-denied.ensures) at c.in_ok-soa.ensures.soa)

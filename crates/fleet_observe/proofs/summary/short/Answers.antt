@@ -1,4 +1,4 @@
-use Rattle.std.proofs.Common.{◌∙◌, ap}
+use Rattle.std.proofs.Common.{ap}
 use Rattle.fleet_wire.specs.Question.{Asked}
 use Rattle.fleet_wire.specs.declared.header.Header.{Header}
 use Rattle.fleet_observe.specs.RrSet.{sets_of}
@@ -8,15 +8,15 @@ use Rattle.fleet_observe.proofs.summary.short.Goals as goal
 
 pub invariant_of-result : goal.invariant_of-result
 invariant_of-result g c =
-    let m = c.args.message.now in let q = c.question-question.ensures.question in
-    let meaning = short_meaning m c.in_ok-try_clone.field-0 c.question-question.result.now.rtype c.header.result.aa (sets_of c.new.result.items) (ending_of c.args.end) (sets_of c.new-2.result.items) c.requires.served
-    (c.in_ok-try_clone.ensures ∙ ap (λ (x : Asked). x.name) q) (ap (λ (x : Asked). x.rtype) q) (ap (λ (x : Header). x.aa) c.header.ensures.header)
+    let m = c.args.message.now in let q = c.question.ensures.question in
+    let meaning = short_meaning m c.args.name c.question.result.now.rtype c.header.result.aa (sets_of c.new.result.items) (ending_of c.args.end) (sets_of c.new-2.result.items) c.requires.served
+    c.requires.named (ap (λ (x : Asked). x.rtype) q) (ap (λ (x : Header). x.aa) c.header.ensures.header)
     (ap sets_of c.new.ensures.items) c.requires.tells c.requires.idle (ap sets_of c.new-2.ensures.items) in
     lawful_meaning m _ c.header.ensures.read meaning
 
 pub returns : goal.returns
 returns g c =
-    let m = c.args.message.now in let q = c.question-question.ensures.question in
-    short_meaning m c.in_ok-try_clone.field-0 c.question-question.result.now.rtype c.header.result.aa (sets_of c.new.result.items) (ending_of c.args.end) (sets_of c.new-2.result.items) c.requires.served
-    (c.in_ok-try_clone.ensures ∙ ap (λ (x : Asked). x.name) q) (ap (λ (x : Asked). x.rtype) q) (ap (λ (x : Header). x.aa) c.header.ensures.header)
+    let m = c.args.message.now in let q = c.question.ensures.question in
+    short_meaning m c.args.name c.question.result.now.rtype c.header.result.aa (sets_of c.new.result.items) (ending_of c.args.end) (sets_of c.new-2.result.items) c.requires.served
+    c.requires.named (ap (λ (x : Asked). x.rtype) q) (ap (λ (x : Header). x.aa) c.header.ensures.header)
     (ap sets_of c.new.ensures.items) c.requires.tells c.requires.idle (ap sets_of c.new-2.ensures.items)

@@ -31,7 +31,7 @@ invariant_of-result g c =
     record { asks = c.requires.asks; later = f.later; walk = f.walk; links = f.links; end_is = rw f.stands at c.in_ok-end.ensures } in
     lawful_meaning m _ c.header.ensures.read
     (walked_meaning m c.in_ok-try_clone.field-0 c.question-question.result.now.rtype c.header.result.aa (sets_of c.in_ok-chain.field-0.chain.items) (ending_of c.in_ok-end.end) (sets_of c.in_ok-ns.ns.items)
-    c.requires.served (c.in_ok-try_clone.ensures ∙ ap (λ (x : Asked). x.name) q) rtype (ap (λ (x : Header). x.aa) c.header.ensures.header) tells c.in_ok-ns.ensures)
+    c.requires.served (c.in_ok-try_clone.ensures ∙ ap (λ (x : Asked). x.name) q) rtype (ap (λ (x : Header). x.aa) c.header.ensures.header) tells c.in_ok-ns.ensures.sets)
 
 pub returns : goal.returns
 returns g c =
@@ -43,4 +43,4 @@ returns g c =
     let tells : TellsWalk m (sets_of c.in_ok-chain.field-0.chain.items) (ending_of c.in_ok-end.end) =
     record { asks = c.requires.asks; later = f.later; walk = f.walk; links = f.links; end_is = rw f.stands at c.in_ok-end.ensures } in
     walked_meaning m c.in_ok-try_clone.field-0 c.question-question.result.now.rtype c.header.result.aa (sets_of c.in_ok-chain.field-0.chain.items) (ending_of c.in_ok-end.end) (sets_of c.in_ok-ns.ns.items)
-    c.requires.served (c.in_ok-try_clone.ensures ∙ ap (λ (x : Asked). x.name) q) rtype (ap (λ (x : Header). x.aa) c.header.ensures.header) tells c.in_ok-ns.ensures
+    c.requires.served (c.in_ok-try_clone.ensures ∙ ap (λ (x : Asked). x.name) q) rtype (ap (λ (x : Header). x.aa) c.header.ensures.header) tells c.in_ok-ns.ensures.sets

@@ -1,4 +1,5 @@
 use Rattle.std.proofs.Common.{◌++◌, ◌∷◌, [], refl}
+use mathlib.Core.Bool.{false≢true}
 use Rattle.fleet_wire.proofs.Spelled.{named_root}
 use Rattle.fleet_wire.proofs.PlainNames.{no_name, no_capital, more_whole, more_size, more_named, more_only}
 use Rattle.fleet_wire.proofs.plain.after_name.Goals as goal
@@ -10,7 +11,7 @@ pub returns-then-not-is_lower : goal.returns-then-not-is_lower
 returns-then-not-is_lower c =
     let i = c.loop-rest.invariant in
     let found = rw (c.in-Ok-Label.field-0-is, c.in-Ok-Label.label-is) at c.in-Ok-Label.ensures in
-    no_capital c.args.octets.now c.loop-rest.at i.before i.whole i.size i.named i.only c.in-Ok-Label.label.now found.0 (c.is_lower.ensures.no c.if-not-is_lower.true)
+    no_capital c.args.octets.now c.loop-rest.at i.before i.whole i.size i.named i.only c.in-Ok-Label.label.now found.0 (λ h. false≢true ((rw c.if-not-is_lower.true at c.is_lower.ensures).1 h))
 
 pub returns-in-Err : goal.returns-in-Err
 returns-in-Err c =
@@ -21,7 +22,7 @@ pub loop-rest-preserved : goal.loop-rest-preserved
 loop-rest-preserved c =
     let i = c.loop-rest.invariant in let label = c.in-Ok-Label.label.now in let m = c.args.octets.now in let at = c.loop-rest.at in
     let found = rw (c.in-Ok-Label.field-0-is, c.in-Ok-Label.label-is) at c.in-Ok-Label.ensures in
-    let low = c.is_lower.ensures.yes c.if-not-is_lower.false in
+    let low = (rw c.if-not-is_lower.false at c.is_lower.ensures).0 refl in
     record {
       before = i.before ++ label ∷ [];
       whole = more_whole m at i.before i.whole i.size i.named i.only label found.0 low found.1;

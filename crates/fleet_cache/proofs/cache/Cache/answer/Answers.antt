@@ -2,14 +2,23 @@ use Rattle.std.proofs.Common.{◌≡◌, max, IfOk, sym, ap, ◌∙◌, subst, a
 use Rattle.fleet_cache.specs.Cached.{Held, IsCached}
 use Rattle.fleet_cache.specs.Answer.{answer_of}
 use Rattle.fleet_cache.specs.Told.{told}
+use Rattle.fleet_cache.proofs.KindsOfParts.{kinds_told}
 use Rattle.fleet_cache.proofs.cache.Cache.answer.Goals as goal
 
-pub returns : goal.returns
-returns g c s cached =
+pub returns-clause-kinds : goal.returns-clause-kinds
+returns-clause-kinds g c =
+    let i = c.self.inside in
+    let q = c.args.question.now in
+    let own : IsCached i.items.items i.floor c.deref.result.now = subst (IsCached i.items.items i.floor) (sym c.deref.ensures.value) c.self.invariant.own in
+    kinds_told c.follow.result i.items.items c.value.result q.rtype q.name own.lawful
+    (c.follow.ensures.told q.name c.octets.ensures.octets i.items.items i.floor (omega (arith, c.later-at.ensures, c.value.ensures.value)) own)
+
+pub returns-clause-told : goal.returns-clause-told
+returns-clause-told g c s cached =
     let i = c.self.inside in
     let q = c.args.question.now in
     let held : IsCached s i.floor c.deref.result.now = subst (IsCached s i.floor) (sym c.deref.ensures.value) (subst (λ v. IsCached s v.floor v.items) (sym c.self.view_is) cached) in
     let same : i.floor ≡ c.args.self.now.floor = ap (λ (v : Held). v.floor) c.self.view_is in
-    let moment : c.max-at.result ≡ max c.args.self.now.floor c.args.moment = c.max-at.ensures ∙ (ap (λ v. max v c.value-2.result) (c.value.ensures.value ∙ same) ∙ ap (max c.args.self.now.floor) c.value-2.ensures.value) in
+    let moment : c.value.result ≡ max c.args.self.now.floor c.args.moment = c.value.ensures.value ∙ (c.later-at.ensures ∙ ap (λ v. max v c.args.moment) same) in
     subst (λ v. IfOk c.follow.result (λ a. told a ≡ answer_of s v q.name q.rtype)) moment
-    (c.follow.ensures.told q.name c.octets.ensures.octets s i.floor (omega (arith, c.max-at.ensures, c.value.ensures.value)) held)
+    (c.follow.ensures.told q.name c.octets.ensures.octets s i.floor (omega (arith, c.later-at.ensures, c.value.ensures.value)) held)

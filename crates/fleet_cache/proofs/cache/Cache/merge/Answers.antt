@@ -1,7 +1,8 @@
-use Rattle.std.proofs.Common.{ℕ, List, ◌+◌, ◌≡◌, ◌≤◌, ◌++◌, ◌∷◌, [], max, length, take, sym, ap, ◌∙◌, subst, arith}
+use Rattle.std.proofs.Common.{ℕ, List, ◌+◌, ◌≡◌, ◌≤◌, ◌++◌, ◌∷◌, [], max, length, take, slice_get, Some, refl, sym, ap, ◌∙◌, subst, arith}
 use Rattle.std.proofs.lemmas.List.{take_more, take_all}
+use Rattle.std.proofs.lemmas.Option.{slice_get_read}
 use Rattle.fleet_observe.specs.Fact.{Fact}
-use Rattle.fleet_cache.specs.Cached.{Held, IsCached}
+use Rattle.fleet_cache.specs.Cached.{Held, IsCached, IsNeedless}
 use Rattle.fleet_cache.proofs.Caches.{HasTaken, taken_none, taken_more, at_ok, at_err, cached_both}
 use Rattle.fleet_cache.proofs.cache.Cache.merge.Goals as goal
 
@@ -14,6 +15,16 @@ returns-then-is_err-clause-stopped g c s cached =
     let same : c.take_copy.new.self ≡ c.loop-taken.self = at_err c.take_copy.result c.if-is_err.ensures.value c.take_copy.ensures.err in
     subst (λ v. IsCached (take c.loop-taken.taken v ++ s) c.take_copy.new.self.floor c.take_copy.new.self.items) items
     (subst (λ v. IsCached (take c.loop-taken.taken c.deref-item-items.result.now ++ s) v.floor v.items) (sym same) (c.loop-taken.invariant.cached s cached))
+
+pub returns-then-is_err-clause-memory : goal.returns-then-is_err-clause-memory
+returns-then-is_err-clause-memory g c =
+    let items : c.deref-item-items.result.now ≡ c.args.other.now.items = c.deref-item-items.ensures.value ∙ ap (λ (v : Held). v.items) c.other.view_is in
+    let o = c.item-item.result in
+    let same : c.take_copy.new.self ≡ c.loop-taken.self = at_err c.take_copy.result c.if-is_err.ensures.value c.take_copy.ensures.err in (
+      o,
+      subst (λ v. slice_get v c.loop-taken.taken ≡ Some o) items (slice_get_read c.deref-item-items.result.now (length c.deref-item-items.result.now) c.loop-taken.taken o refl c.loop-taken-test.true c.item-item.is),
+      subst (λ (v : Held). ¬ IsNeedless v.floor v.items o) (sym same) (at_err c.take_copy.result c.if-is_err.ensures.value c.take_copy.ensures.memory),
+    )
 
 pub returns-then-is_err-clause-floor_stopped : goal.returns-then-is_err-clause-floor_stopped
 returns-then-is_err-clause-floor_stopped g c = c.take_copy.ensures.floor ∙ c.loop-taken.invariant.floor

@@ -1,7 +1,7 @@
-use Rattle.std.proofs.Common.{arith, subst, ◌∙◌, sym}
+use Rattle.std.proofs.Common.{arith, subst}
 use Rattle.fleet_observe.specs.Body.{IsDenial}
 use Rattle.fleet_observe.specs.Checks.{MakesNegative}
-use Rattle.fleet_observe.proofs.Lawful.{negative_lawful, denied_not_positive}
+use Rattle.fleet_observe.proofs.Lawful.{negative_lawful, denied_negative}
 use Rattle.fleet_observe.proofs.observation.Observation.negative.Goals as goal
 
 pub invariant_of-result : goal.invariant_of-result
@@ -14,4 +14,4 @@ invariant_of-result g c =
       typed = c.is_denied_type.ensures.0 c.if-not-is_denied_type.false;
       body = body;
     } in
-    (rw (c.kind_of_denial.ensures, c.unwrap_or.ensures) (negative_lawful c.args.name c.args.rtype c.args.rank c.args.stamp c.args.life c.args.soa.owner c.args.soa.rdata c.octets.ensures.named (omega arith) made), (λ k. denied_not_positive c.args.rtype (sym c.kind_of_denial.ensures ∙ k), body))
+    (rw (c.kind_of_denial.ensures, c.unwrap_or.ensures) (negative_lawful c.args.name c.args.rtype c.args.rank c.args.stamp c.args.life c.args.soa.owner c.args.soa.rdata c.octets.ensures.named (omega arith) made), (rw c.kind_of_denial.ensures (denied_negative c.args.rtype), body))

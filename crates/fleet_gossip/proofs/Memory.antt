@@ -1,0 +1,91 @@
+-- No fault of octets is want of memory.
+use Rattle.std.proofs.Common.{◌≡◌, ℕ, List, sym, ◌∙◌, inl, inr}
+use Rattle.fleet_gossip.specs.Faults.{FieldFails, cut, refused, behind, LabelFails, missing, long, cut_label, capital, NameFails, label_fails, RdataFails, cut_rdata, refused_rdata, SizedFails, RdatasFail, rdata_fails, NegativeFails, owner_fails, stranger, soa_fails, as_body, BodyFails, NamedFails, name_fails, behind_name, EntryFails, EntriesFail, entry_fails, more_octets, FrameFails}
+use Rattle.fleet_gossip.specs.declared.fault.FrameFault.{FrameFault}
+use Rattle.fleet_gossip.specs.declared.fault.FrameFault.TheVariants.{BadMagic, BadVersion, TooLong, Truncated, BadKind, BadRank, BadMoment, BadLife, BadName, BadBody, Trailing, OutOfMemory}
+
+-- it is another fault than want of memory
+abbrev pub IsOther : FrameFault → Type 0
+IsOther f = f ≡ OutOfMemory → ⊥
+
+is_other : (f g : FrameFault) → f ≡ g → IsOther g → IsOther f
+is_other f g e other is = other (sym e ∙ is)
+
+cut_other : IsOther Truncated
+cut_other e = cc
+
+name_other : IsOther BadName
+name_other e = cc
+
+body_other : IsOther BadBody
+body_other e = cc
+
+field_other : (spelled : ℕ → List ℕ) (size : ℕ) (Lawful : ℕ → Type 0) (refusal : FrameFault) (Behind : ℕ → List ℕ → FrameFault → Type 0) (octets : List ℕ) (f : FrameFault)
+    → IsOther refusal → ((n : ℕ) (rest : List ℕ) → Behind n rest f → IsOther f) → FieldFails spelled size Lawful refusal Behind octets f → IsOther f
+field_other spelled size Lawful refusal Behind octets f other further (cut short e) = is_other f Truncated e cut_other
+field_other spelled size Lawful refusal Behind octets f other further (refused n rest is unlike e) = is_other f refusal e other
+field_other spelled size Lawful refusal Behind octets f other further (behind n rest is lawful h) = further n rest h
+
+label_other : (before : List (List ℕ)) (octets : List ℕ) (f : FrameFault) → LabelFails before octets f → IsOther f
+label_other before octets f (missing is e) = is_other f Truncated e cut_other
+label_other before octets f (long size rest is some unlike e) = is_other f BadName e name_other
+label_other before octets f (cut_label size rest is room short e) = is_other f Truncated e cut_other
+label_other before octets f (capital label rest is room unlike e) = is_other f BadName e name_other
+
+name_fault_other : (octets : List ℕ) (f : FrameFault) → NameFails octets f → IsOther f
+name_fault_other octets f (label_fails before rest is named h) = label_other before rest f h
+
+rdata_other : (Lawful : List ℕ → Type 0) (size : ℕ) (octets : List ℕ) (f : FrameFault) → RdataFails Lawful size octets f → IsOther f
+rdata_other Lawful size octets f (cut_rdata short e) = is_other f Truncated e cut_other
+rdata_other Lawful size octets f (refused_rdata rdata rest is n unlike e) = is_other f BadBody e body_other
+
+sized_other : (Lawful : List ℕ → Type 0) (octets : List ℕ) (f : FrameFault) → SizedFails Lawful octets f → IsOther f
+sized_other Lawful octets f h = field_other _ _ _ _ _ octets f cut_other (λ n rest k. rdata_other Lawful n rest f k) h
+
+rdatas_other : (rtype count : ℕ) (octets : List ℕ) (f : FrameFault) → RdatasFail rtype count octets f → IsOther f
+rdatas_other rtype count octets f (rdata_fails before rest is first few h) = sized_other _ rest f h
+
+as_body_other : (f : FrameFault) → IsOther f → IsOther (as_body f)
+as_body_other BadMagic other = other
+as_body_other BadVersion other = other
+as_body_other TooLong other = other
+as_body_other Truncated other = other
+as_body_other BadKind other = other
+as_body_other BadRank other = other
+as_body_other BadMoment other = other
+as_body_other BadLife other = other
+as_body_other BadName other = body_other
+as_body_other BadBody other = other
+as_body_other Trailing other = other
+as_body_other OutOfMemory other = other
+
+negative_other : (name : List (List ℕ)) (octets : List ℕ) (f : FrameFault) → NegativeFails name octets f → IsOther f
+negative_other name octets f (owner_fails g h e) = is_other f (as_body g) e (as_body_other g (name_fault_other octets g h))
+negative_other name octets f (stranger owner rest is named unlike e) = is_other f BadBody e body_other
+negative_other name octets f (soa_fails owner rest is named under h) = sized_other _ rest f h
+
+body_fault_other : (kind : ℕ) (name : List (List ℕ)) (rtype : ℕ) (octets : List ℕ) (f : FrameFault) → BodyFails kind name rtype octets f → IsOther f
+body_fault_other kind name rtype octets f (inl h) = field_other _ _ _ _ _ octets f body_other (λ n rest k. rdatas_other rtype n rest f k) h.1
+body_fault_other kind name rtype octets f (inr h) = negative_other name octets f h.1
+
+named_other : (kind : ℕ) (octets : List ℕ) (f : FrameFault) → NamedFails kind octets f → IsOther f
+named_other kind octets f (name_fails h) = name_fault_other octets f h
+named_other kind octets f (behind_name name rest is named h) = field_other _ _ _ _ _ rest f (λ e. cc) (λ n r k. body_fault_other kind name n r f k) h
+
+entry_other : (octets : List ℕ) (f : FrameFault) → EntryFails octets f → IsOther f
+entry_other octets f h =
+    field_other _ _ _ _ _ octets f (λ e. cc)
+    (λ kind a. field_other _ _ _ _ _ a f (λ e. cc)
+    (λ rank b. field_other _ _ _ _ _ b f (λ e. cc)
+    (λ stamp d. field_other _ _ _ _ _ d f (λ e. cc) (λ life r k. named_other kind r f k)))) h
+
+entries_other : (count : ℕ) (octets : List ℕ) (f : FrameFault) → EntriesFail count octets f → IsOther f
+entries_other count octets f (entry_fails facts rest is lawful few h) = entry_other rest f h
+entries_other count octets f (more_octets facts rest is lawful n some e) = is_other f Trailing e (λ e'. cc)
+
+pub fault_other : (octets : List ℕ) (f : FrameFault) → FrameFails octets f → IsOther f
+fault_other octets f (inl h) = is_other f TooLong h.1 (λ e. cc)
+fault_other octets f (inr h) =
+    field_other _ _ _ _ _ octets f (λ e. cc)
+    (λ m a. field_other _ _ _ _ _ a f (λ e. cc)
+    (λ v b. field_other _ _ _ _ _ b f cut_other (λ n rest k. entries_other n rest f k))) h.1

@@ -1,0 +1,53 @@
+//! What a site does with a frame.
+
+ghost use Rattle.std.specs.Prelude.{◌≡◌, List};
+ghost use Rattle.fleet_observe.specs.Fact.{Fact};
+ghost use Rattle.fleet_cache.specs.Cached.{IsCached};
+ghost use Rattle.fleet_pending.specs.Outstanding.{Outstanding};
+ghost use Rattle.fleet_site.specs.Carried.{Carries, Takes};
+ghost use Rattle.fleet_site.specs.Effect.{effect, nothing};
+ghost use Rattle.fleet_site.specs.Frame.{HasFrame, Framed};
+
+use crate::outcome::{Outcome, Refusal, SiteFault};
+use fleet_cache::Cache;
+use fleet_gossip::{FrameFault, decode};
+use fleet_observe::Observation;
+use std::alloc::Allocator;
+
+/// A frame's observations are taken.
+pub(crate) fn take_frame<A: Allocator + Copy>(
+    alloc: A,
+    cache: &mut Cache<A>,
+    octets: &[u8],
+) -> Result<Outcome<A>, SiteFault>
+    ensures framed { (o : Outstanding) (s : List Fact) → IsCached s cache.old.floor cache.old.items → Carries (Framed o octets.now) (HasFrame octets.now) s o result cache.new o }
+    ensures floor { cache.new.floor ≡ cache.old.floor }
+{
+    match decode(alloc, octets) {
+        Ok(observations) => take_all(alloc, cache, observations),
+        Err(fault) => {
+            if fault == FrameFault::OutOfMemory {
+                return Err(SiteFault::OutOfMemory { taken: 0 });
+            }
+            Ok(Outcome::silent(alloc, 0, Some(Refusal::Frame(fault))))
+        }
+    }
+}
+
+/// Observations are taken, and nothing is sent.
+pub(crate) fn take_all<A: Allocator + Copy>(
+    alloc: A,
+    cache: &mut Cache<A>,
+    observations: Vec<Observation<A>, A>,
+) -> Result<Outcome<A>, SiteFault>
+    ensures taken { (s : List Fact) → IsCached s cache.old.floor cache.old.items → Takes s observations.items result cache.new }
+    ensures floor { cache.new.floor ≡ cache.old.floor }
+{
+    let taken = observations.len();
+    match cache.take_list(observations) {
+        Ok(()) => Ok(Outcome::silent(alloc, taken, None)),
+        Err(stopped) => Err(SiteFault::OutOfMemory {
+            taken: stopped.taken,
+        }),
+    }
+}

@@ -1,0 +1,203 @@
+//! What a step of a site gives.
+
+ghost use Rattle.std.specs.Prelude.{◌≡◌, [], ◌∷◌, ◌++◌, IfOk, OnOk, OnErr, map, length};
+ghost use Rattle.fleet_site.specs.Packet.{sent};
+ghost use Rattle.fleet_site.specs.Effect.{effect, nothing, sending};
+ghost use Rattle.fleet_site.specs.declared.outcome.SiteFault.TheVariants.{OutOfMemory};
+
+use fleet_gossip::FrameFault;
+use fleet_name::Octets;
+use fleet_observe::DigestFault;
+use fleet_pending::Addr;
+use fleet_wire::ReadFault;
+use std::alloc::{AllocError, Allocator, Global};
+use std::marker::Model;
+use thiserror::Error;
+
+/// Octets, and where they go.
+#[derive(Drop)]
+pub struct Packet<A: Allocator = Global> {
+    /// Where they go.
+    pub to: Addr,
+    /// The octets.
+    pub bytes: Octets<A>,
+}
+
+/// Packets in order, seen by contracts as the list of what they are.
+#[derive(Drop)]
+pub struct Packets<A: Allocator = Global> {
+    items: Vec<Packet<A>, A>,
+}
+
+impl<A: Allocator> Model for Packets<A> {
+    ghost use Rattle.std.specs.Prelude.{List, map};
+    ghost use Rattle.fleet_site.specs.Sent.{Sent};
+
+    ghost Value = { List Sent };
+
+    ghost use Rattle.fleet_site.specs.Packet.{sent};
+
+    ghost view = { λ p. map sent p.items.items };
+}
+
+impl<A: Allocator> Packets<A> {
+    /// The packets of a vector, in its order.
+    pub fn new(items: Vec<Packet<A>, A>) -> Packets<A>
+        ensures { result ≡ map sent items.items }
+    {
+        Packets { items }
+    }
+
+    /// The packets, in their order.
+    pub fn as_slice(&self) -> &[Packet<A>]
+        ensures value { map sent result.now ≡ self.now }
+        ensures len { length result.now ≡ length self.now }
+    {
+        &self.items
+    }
+
+    /// One packet.
+    fn of_one(alloc: A, to: Addr, bytes: Octets<A>) -> Result<Packets<A>, AllocError>
+        ensures { IfOk result (λ p. p ≡ record { to = to; octets = bytes } ∷ []) }
+    {
+        let mut items = Vec::with_capacity(alloc, 1)?;
+        items.push_reserved(Packet { to, bytes });
+        Ok(Packets { items })
+    }
+}
+
+/// Frames in order, seen by contracts as the list of their octets.
+#[derive(Drop)]
+pub struct Frames<A: Allocator = Global> {
+    items: Vec<Octets<A>, A>,
+}
+
+impl<A: Allocator> Model for Frames<A> {
+    ghost use Rattle.std.specs.Prelude.{ℕ, List};
+
+    ghost Value = { List (List ℕ) };
+
+    ghost view = { λ f. f.items.items };
+}
+
+impl<A: Allocator> Frames<A> {
+    /// The frames of a vector, in its order.
+    pub fn new(items: Vec<Octets<A>, A>) -> Frames<A>
+        ensures { result ≡ items.items }
+    {
+        Frames { items }
+    }
+
+    /// The frames, in their order.
+    pub fn as_slice(&self) -> &[Octets<A>]
+        ensures { result.now ≡ self.now }
+    {
+        &self.items
+    }
+
+    /// The frames as the vector that holds them.
+    pub fn into_vec(self) -> Vec<Octets<A>, A>
+        ensures { result.items ≡ self }
+    {
+        self.items
+    }
+}
+
+/// Why a site did no more.
+#[derive(Clone, Copy, Debug, PartialEq, Eq, Error)]
+pub enum Refusal {
+    /// No open question waits for the reply.
+    #[error("unmatched")]
+    Unmatched,
+    /// The message can't be read.
+    #[error("read: {0}")]
+    Read(ReadFault),
+    /// It is no reply to a question that is served, or its aliases lead nowhere.
+    #[error("digest: {0}")]
+    Digest(DigestFault),
+    /// The frame can't be read.
+    #[error("frame: {0}")]
+    Frame(FrameFault),
+    /// Too many questions are open, or too many wait for this one.
+    #[error("full")]
+    Full,
+    /// The datagram is neither a question nor a reply.
+    #[error("dropped")]
+    Dropped,
+}
+
+/// What a step gives.
+#[derive(Drop)]
+pub struct Outcome<A: Allocator = Global> {
+    /// What goes to upstreams and to those who asked.
+    pub packets: Packets<A>,
+    /// What goes to every peer.
+    pub frames: Frames<A>,
+    /// How many observations were given to the cache.
+    pub taken: usize,
+    /// Why nothing more was done.
+    pub refused: Option<Refusal>,
+    /// Whether another open question is due.
+    pub more: bool,
+}
+
+/// Why a step was stopped.
+#[derive(Clone, Copy, Debug, PartialEq, Eq, Error)]
+pub enum SiteFault {
+    /// There was no memory for it.
+    #[error("out of memory after {taken} observations")]
+    OutOfMemory {
+        /// How many observations were taken: just the first ones, in their order.
+        taken: usize,
+    },
+}
+
+impl From<AllocError> for SiteFault {
+    ghost from_gives = { λ _ e. e ≡ OutOfMemory 0 };
+
+    fn from(_error: AllocError) -> SiteFault {
+        SiteFault::OutOfMemory { taken: 0 }
+    }
+}
+
+impl<A: Allocator + Copy> Outcome<A> {
+    /// Nothing is sent.
+    pub(crate) fn silent(alloc: A, taken: usize, refused: Option<Refusal>) -> Outcome<A>
+        ensures { effect result ≡ record nothing { taken = taken; refused = refused } }
+    {
+        let packets = Packets::new(Vec::new(alloc));
+        Outcome::with_packets(alloc, packets, taken, refused)
+    }
+
+    /// One packet is sent.
+    pub(crate) fn sending(
+        alloc: A,
+        to: Addr,
+        bytes: Octets<A>,
+        refused: Option<Refusal>,
+    ) -> Result<Outcome<A>, AllocError>
+        ensures { IfOk result (λ o. effect o ≡ record (sending to bytes) { refused = refused }) }
+    {
+        let packets = Packets::of_one(alloc, to, bytes)?;
+        Ok(Outcome::with_packets(alloc, packets, 0, refused))
+    }
+
+    /// Packets are sent, and no frames.
+    pub(crate) fn with_packets(
+        alloc: A,
+        packets: Packets<A>,
+        taken: usize,
+        refused: Option<Refusal>,
+    ) -> Outcome<A>
+        ensures { effect result ≡ record nothing { packets = packets; taken = taken; refused = refused } }
+    {
+        let frames = Frames::new(Vec::new(alloc));
+        Outcome {
+            packets,
+            frames,
+            taken,
+            refused,
+            more: false,
+        }
+    }
+}

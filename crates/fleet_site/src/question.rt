@@ -1,0 +1,196 @@
+//! What a miss makes of the table of open questions.
+
+ghost use Rattle.std.specs.Prelude.{◌≡◌, ◌<◌, ◌≤◌, ℕ, ⊤, List, IfOk, IfErr, OnErr};
+ghost use Rattle.fleet_wire.specs.Question.{asked};
+ghost use Rattle.fleet_observe.specs.Fact.{Fact};
+ghost use Rattle.fleet_cache.specs.Cached.{IsCached};
+ghost use Rattle.fleet_pending.specs.Asking.{Asks, asked_or_fault};
+ghost use Rattle.fleet_pending.specs.Outstanding.{Open, IsOpen, UsesId};
+ghost use Rattle.fleet_name.specs.Places.{At};
+ghost use Rattle.fleet_pending.specs.Waiter.{asker};
+ghost use Rattle.fleet_pending.specs.declared.answer.PendingFault.TheVariants.{OutOfMemory as NoRoom};
+ghost use Rattle.fleet_site.specs.Carried.{Keeps, IsAskable, IsAnswered, TurnsAway, IsQueryOf};
+ghost use Rattle.fleet_site.specs.Effect.{effect, sending};
+ghost use Rattle.fleet_site.specs.Question.{Reacts, Forwards, Questioned, turned_away};
+ghost use Rattle.fleet_site.specs.Table.{IsTableOf, KeepsTable, AskClassOne};
+ghost use Rattle.fleet_site.specs.Verdict.{IsAsking, verdict};
+
+use crate::config::addr_of;
+use crate::outcome::{Outcome, Refusal, SiteFault};
+use crate::query::entry_query;
+use crate::verdict::{Decision, decide};
+use crate::writing::reply_without;
+use fleet_cache::Cache;
+use fleet_observe::Moment;
+use fleet_pending::{
+    Addr, Asked, Pending, PendingFault, Unasked, Waiter, new_entry_is_last, settling_undoes_asking,
+    waiters_stay,
+};
+use fleet_wire::{Header, Question};
+use std::alloc::{AllocError, Allocator};
+
+/// When a question came, from whom, and where the search for the id of its query begins.
+#[derive(Clone, Copy)]
+pub(crate) struct Arrival {
+    pub clock: Moment,
+    pub from: Addr,
+    pub word: u16,
+}
+
+/// Octets from an address that is no upstream's and no peer's.
+pub(crate) fn take_question<A: Allocator + Copy>(
+    alloc: A,
+    cache: &Cache<A>,
+    pending: &mut Pending<A>,
+    upstreams: &[Addr],
+    arrival: Arrival,
+    octets: &[u8],
+) -> Result<Outcome<A>, SiteFault>
+    requires reached { cache.now.floor ≤ arrival.clock }
+    requires table { IsTableOf upstreams.now pending.old }
+    ensures questioned { (s : List Fact) → IsCached s cache.now.floor cache.now.items → Keeps (Questioned s upstreams.now pending.old arrival.clock arrival.from arrival.word octets.now) (IsAsking octets.now) pending.old result pending.new }
+    ensures table { KeepsTable pending.old pending.new }
+{
+    match decide(alloc, cache, arrival.clock, octets) {
+        Ok(decision) => react(alloc, pending, upstreams, arrival, decision),
+        Err(_) => Err(SiteFault::OutOfMemory { taken: 0 }),
+    }
+}
+
+/// What is done where this was decided.
+fn react<A: Allocator + Copy>(
+    alloc: A,
+    pending: &mut Pending<A>,
+    upstreams: &[Addr],
+    arrival: Arrival,
+    decision: Decision<A>,
+) -> Result<Outcome<A>, SiteFault>
+    requires askable { IsAskable decision }
+    requires table { IsTableOf upstreams.now pending.old }
+    ensures reacts { Keeps (Reacts upstreams.now pending.old arrival.clock arrival.from arrival.word (verdict decision)) (IsAnswered decision) pending.old result pending.new }
+    ensures table { KeepsTable pending.old pending.new }
+{
+    match decision {
+        Decision::Dropped => Ok(Outcome::silent(alloc, 0, Some(Refusal::Dropped))),
+        Decision::Reply(octets) => Ok(Outcome::sending(alloc, arrival.from, octets, None)?),
+        Decision::Unread(octets, fault) => {
+            let refusal = Refusal::Read(fault);
+            Ok(Outcome::sending(alloc, arrival.from, octets, Some(refusal))?)
+        }
+        Decision::Miss(header, question) => {
+            if header.rd {
+                forward(alloc, pending, upstreams, arrival, header, question)
+            } else {
+                let octets = reply_without(alloc, header, 5, &question)?;
+                Ok(Outcome::sending(alloc, arrival.from, octets, None)?)
+            }
+        }
+    }
+}
+
+/// A miss goes to the table, and a new entry's query to its upstream.
+fn forward<A: Allocator + Copy>(
+    alloc: A,
+    pending: &mut Pending<A>,
+    upstreams: &[Addr],
+    arrival: Arrival,
+    header: Header,
+    question: Question<A>,
+) -> Result<Outcome<A>, SiteFault>
+    requires opcode { header.opcode < 16 }
+    requires class { question.class ≡ 1 }
+    requires table { IsTableOf upstreams.now pending.old }
+    ensures forwards { Keeps (Forwards upstreams.now pending.old arrival.clock arrival.from arrival.word header (asked question)) ⊤ pending.old result pending.new }
+    ensures table { KeepsTable pending.old pending.new }
+{
+    let from = arrival.from;
+    let id = header.id;
+    let waiter = Waiter { from, id, question };
+    let asked = match enter(pending, waiter, arrival) {
+        Ok(asked) => asked,
+        Err(unasked) => return turn_away(alloc, from, header, unasked),
+    };
+    new_entry_is_last();
+    match asked {
+        Asked::Again => Ok(Outcome::silent(alloc, 0, None)),
+        Asked::Joined => Ok(Outcome::silent(alloc, 0, None)),
+        Asked::Send { upstream, id } => {
+            let to = addr_of(upstreams, upstream);
+            match query_for(alloc, pending, to, id) {
+                Ok(outcome) => Ok(outcome),
+                Err(_) => {
+                    let _ = pending.settle(id);
+                    settling_undoes_asking();
+                    Err(SiteFault::OutOfMemory { taken: 0 })
+                }
+            }
+        }
+    }
+}
+
+/// A waiter asks, and as its question is of class 1 (IN), all that wait still asked for class 1.
+fn enter<A: Allocator + Copy>(
+    pending: &mut Pending<A>,
+    waiter: Waiter<A>,
+    arrival: Arrival,
+) -> Result<Asked, Unasked<A>>
+    requires { waiter.question.class ≡ 1 }
+    ensures asks { Asks pending.old (asker waiter) arrival.clock arrival.word (asked_or_fault result) pending.new }
+    ensures back { IfErr result (λ u. u.waiter ≡ waiter) }
+    ensures unchanged { OnErr result (pending.new ≡ pending.old) }
+    ensures table { KeepsTable pending.old pending.new }
+{
+    waiters_stay();
+    pending.ask(waiter, arrival.clock, arrival.word)
+}
+
+/// The query for the entry with an id.
+fn query_for<A: Allocator + Copy>(
+    alloc: A,
+    pending: &Pending<A>,
+    to: Addr,
+    id: u16,
+) -> Result<Outcome<A>, AllocError>
+    requires there { (i : ℕ) × ((e : Open) × At pending.now.entries i e × UsesId id e) }
+    requires class { AskClassOne pending.now }
+    ensures { IfOk result (λ o. IsQueryOf pending.now to id (effect o)) }
+{
+    match pending.entry(id) {
+        Some(entry) => {
+            let octets = entry_query(alloc, id, entry)?;
+            Outcome::sending(alloc, to, octets, None)
+        }
+        None => unreachable!(),
+    }
+}
+
+/// The reply to a waiter that was not taken.
+fn turn_away<A: Allocator + Copy>(
+    alloc: A,
+    from: Addr,
+    header: Header,
+    unasked: Unasked<A>,
+) -> Result<Outcome<A>, SiteFault>
+    requires { header.opcode < 16 }
+    ensures { TurnsAway from header (asked unasked.waiter.question) unasked.fault result }
+{
+    match unasked.fault {
+        PendingFault::OutOfMemory => Err(SiteFault::OutOfMemory { taken: 0 }),
+        PendingFault::Full => Ok(say_full(alloc, from, header, &unasked.waiter.question)?),
+        PendingFault::WaitersFull => Ok(say_full(alloc, from, header, &unasked.waiter.question)?),
+    }
+}
+
+/// Code 2 with the question.
+fn say_full<A: Allocator + Copy>(
+    alloc: A,
+    from: Addr,
+    header: Header,
+    question: &Question<A>,
+) -> Result<Outcome<A>, AllocError>
+    requires { header.opcode < 16 }
+    ensures { IfOk result (λ o. effect o ≡ turned_away from header (asked question.now)) }
+{
+    let octets = reply_without(alloc, header, 2, question)?;
+    Outcome::sending(alloc, from, octets, Some(Refusal::Full))
+}

@@ -1,0 +1,259 @@
+//! What a site does with a reply: one from an upstream is relayed to those who wait for it, one that it is handed is
+//! learnt.
+
+ghost use Rattle.std.specs.Prelude.{◌≡◌, ◌<◌, ◌≤◌, ◌++◌, ℕ, List, IfOk, IfErr, OnOk, map, length, take};
+ghost use Rattle.fleet_wire.specs.Message.{Reply};
+ghost use Rattle.fleet_observe.specs.Fact.{Fact};
+ghost use Rattle.fleet_observe.specs.Digest.{Summary};
+ghost use Rattle.fleet_observe.specs.Meaning.{IsMeaning};
+ghost use Rattle.fleet_observe.specs.Observed.{observed_facts};
+ghost use Rattle.fleet_gossip.specs.Packed.{IsPacked};
+ghost use Rattle.fleet_cache.specs.Cached.{IsCached};
+ghost use Rattle.fleet_pending.specs.Outstanding.{Outstanding};
+ghost use Rattle.fleet_pending.specs.Waiter.{asker};
+ghost use Rattle.fleet_site.specs.Carried.{Carries};
+ghost use Rattle.fleet_site.specs.Digested.{HasReply};
+ghost use Rattle.fleet_site.specs.Learn.{Learnt};
+ghost use Rattle.fleet_site.specs.Relayed.{Hears, IsMade, IsRelayFor, SaysRefusal, Unlearns};
+ghost use Rattle.fleet_site.specs.Reply.{IsAnswering, IsReplying, Replied, relay_to};
+ghost use Rattle.fleet_site.specs.SiteModel.{takes};
+ghost use Rattle.fleet_site.specs.Table.{KeepsTable};
+
+use crate::digested::{Unheard, digest_of, message_in};
+use crate::frame::take_all;
+use crate::outcome::{Frames, Outcome, Packet, Packets, Refusal, SiteFault};
+use fleet_cache::Cache;
+use fleet_gossip::pack;
+use fleet_name::Octets;
+use fleet_observe::{Digest, Moment, Observation, observations, relay};
+use fleet_pending::{Entry, Pending, Waiter, settling_gives_its_entry, waiters_stay};
+use fleet_wire::{Message, read_header};
+use std::alloc::{AllocError, Allocator};
+
+/// All that a reply makes a site write, before its cache or its table changes.
+#[derive(Drop)]
+pub(crate) struct Relay<A: Allocator> {
+    id: u16,
+    packets: Packets<A>,
+    frames: Frames<A>,
+    observed: Vec<Observation<A>, A>,
+}
+
+/// The octets that a reply is told to a waiter as.
+fn relay_octets<A: Allocator + Copy>(
+    alloc: A,
+    digest: &Digest<A>,
+    waiter: &Waiter<A>,
+) -> Result<Octets<A>, AllocError>
+    ensures { IfOk result (λ octets. octets ≡ (relay_to digest.now (asker waiter.now)).octets) }
+{
+    let octets = relay(alloc, digest, &waiter.question, waiter.id, true)?;
+    Ok(Octets::new(octets))
+}
+
+/// What a reply is told to waiters as, in their order.
+fn relay_packets<A: Allocator + Copy>(
+    alloc: A,
+    digest: &Digest<A>,
+    waiters: &[Waiter<A>],
+) -> Result<Packets<A>, AllocError>
+    ensures { IfOk result (λ ps. ps ≡ map (relay_to digest.now) (map asker waiters.now)) }
+{
+    let mut packets = Vec::new(alloc);
+    for waiter in waiters {
+        let bytes = relay_octets(alloc, digest, waiter)?;
+        packets.push(Packet {
+            to: waiter.from,
+            bytes,
+        })?;
+    }
+    Ok(Packets::new(packets))
+}
+
+/// All that is written where an entry is settled by a reply.
+fn make_relay<A: Allocator + Copy>(
+    alloc: A,
+    digest: &Digest<A>,
+    clock: Moment,
+    entry: &Entry<A>,
+) -> Result<Relay<A>, AllocError>
+    ensures { IfOk result (λ r. IsMade digest.now clock entry.now r) }
+{
+    let packets = relay_packets(alloc, digest, entry.waiters.as_slice())?;
+    let observed = observe(alloc, digest, clock)?;
+    let frames = Frames::new(pack(alloc, &observed)?);
+    Ok(Relay {
+        id: entry.id,
+        packets,
+        frames,
+        observed,
+    })
+}
+
+/// All that octets from an upstream make a site write.
+fn hear<A: Allocator + Copy>(
+    alloc: A,
+    pending: &Pending<A>,
+    upstream: u8,
+    clock: Moment,
+    octets: &[u8],
+) -> Result<Relay<A>, Unheard>
+    ensures relayed { IfOk result (λ r. Hears pending.now clock upstream octets.now r) }
+    ensures refused { IfErr result (λ e. Unlearns (Replied pending.now clock upstream octets.now) (IsReplying octets.now) pending.now e) }
+{
+    let header = match read_header(octets) {
+        Some(header) => header,
+        None => return Err(Unheard::Refused(Refusal::Dropped)),
+    };
+    if header.response {
+        hear_reply(alloc, pending, upstream, clock, octets)
+    } else {
+        Err(Unheard::Refused(Refusal::Dropped))
+    }
+}
+
+/// All that a reply from an upstream makes a site write.
+fn hear_reply<A: Allocator + Copy>(
+    alloc: A,
+    pending: &Pending<A>,
+    upstream: u8,
+    clock: Moment,
+    octets: &[u8],
+) -> Result<Relay<A>, Unheard>
+    requires { IsAnswering octets.now }
+    ensures relayed { IfOk result (λ r. Hears pending.now clock upstream octets.now r) }
+    ensures refused { IfErr result (λ e. Unlearns (Replied pending.now clock upstream octets.now) (IsReplying octets.now) pending.now e) }
+{
+    let message = match message_in(alloc, octets) {
+        Ok(message) => message,
+        Err(unheard) => return Err(unheard),
+    };
+    let entry = match pending.find(upstream, message.header().id, message.question()) {
+        Some(entry) => entry,
+        None => return Err(Unheard::Refused(Refusal::Unmatched)),
+    };
+    let digest = match digest_of(alloc, &message) {
+        Ok(digest) => digest,
+        Err(undigested) => return Err(undigested),
+    };
+    settling_gives_its_entry();
+    match make_relay(alloc, &digest, clock, entry) {
+        Ok(relay) => Ok(relay),
+        Err(_) => Err(Unheard::NoMemory),
+    }
+}
+
+/// A reply from an upstream: it is relayed to every waiter of its entry in order of joining, its observations go out
+/// and are taken, and the entry is settled.
+pub(crate) fn take_reply<A: Allocator + Copy>(
+    alloc: A,
+    cache: &mut Cache<A>,
+    pending: &mut Pending<A>,
+    upstream: u8,
+    clock: Moment,
+    octets: &[u8],
+) -> Result<Outcome<A>, SiteFault>
+    ensures replied { (s : List Fact) → IsCached s cache.old.floor cache.old.items → Carries (Replied pending.old clock upstream octets.now) (IsReplying octets.now) s pending.old result cache.new pending.new }
+    ensures floor { cache.new.floor ≡ cache.old.floor }
+    ensures table { KeepsTable pending.old pending.new }
+{
+    match hear(alloc, pending, upstream, clock, octets) {
+        Ok(relay) => carry_out(cache, pending, relay),
+        Err(unheard) => refuse(alloc, unheard),
+    }
+}
+
+/// The observations are taken, and the entry is settled.
+fn carry_out<A: Allocator + Copy>(
+    cache: &mut Cache<A>,
+    pending: &mut Pending<A>,
+    relay: Relay<A>,
+) -> Result<Outcome<A>, SiteFault>
+    ensures taken { (s : List Fact) → IsCached s cache.old.floor cache.old.items → IsRelayFor relay s pending.old result cache.new pending.new }
+    ensures floor { cache.new.floor ≡ cache.old.floor }
+    ensures table { KeepsTable pending.old pending.new }
+{
+    let Relay {
+        id,
+        packets,
+        frames,
+        observed,
+    } = relay;
+    let taken = observed.len();
+    match cache.take_list(observed) {
+        Ok(()) => {
+            let _ = pending.settle(id);
+            waiters_stay();
+            Ok(Outcome {
+                packets,
+                frames,
+                taken,
+                refused: None,
+                more: false,
+            })
+        }
+        Err(stopped) => Err(SiteFault::OutOfMemory {
+            taken: stopped.taken,
+        }),
+    }
+}
+
+/// The observations that a reply holds.
+fn observed_in<A: Allocator + Copy>(
+    alloc: A,
+    clock: Moment,
+    octets: &[u8],
+) -> Result<Vec<Observation<A>, A>, Unheard>
+    ensures learnt { IfOk result (λ v. (o : Outstanding) → Learnt o clock octets.now (takes v.items o)) }
+    ensures refused { IfErr result (λ e. (o : Outstanding) → Unlearns (Learnt o clock octets.now) (HasReply octets.now) o e) }
+{
+    let message = match message_in(alloc, octets) {
+        Ok(message) => message,
+        Err(unheard) => return Err(unheard),
+    };
+    let digest = match digest_of(alloc, &message) {
+        Ok(digest) => digest,
+        Err(undigested) => return Err(undigested),
+    };
+    match observe(alloc, &digest, clock) {
+        Ok(observed) => Ok(observed),
+        Err(_) => Err(Unheard::NoMemory),
+    }
+}
+
+/// The observations of a digest.
+fn observe<A: Allocator + Copy>(
+    alloc: A,
+    digest: &Digest<A>,
+    clock: Moment,
+) -> Result<Vec<Observation<A>, A>, AllocError>
+    ensures { IfOk result (λ v. v.items ≡ observed_facts digest.now clock) }
+{
+    observations(alloc, digest, clock)
+}
+
+/// A reply that is handed in: its observations are taken.
+pub(crate) fn learn_reply<A: Allocator + Copy>(
+    alloc: A,
+    cache: &mut Cache<A>,
+    clock: Moment,
+    octets: &[u8],
+) -> Result<Outcome<A>, SiteFault>
+    ensures learnt { (o : Outstanding) (s : List Fact) → IsCached s cache.old.floor cache.old.items → Carries (Learnt o clock octets.now) (HasReply octets.now) s o result cache.new o }
+    ensures floor { cache.new.floor ≡ cache.old.floor }
+{
+    match observed_in(alloc, clock, octets) {
+        Ok(observed) => take_all(alloc, cache, observed),
+        Err(unheard) => refuse(alloc, unheard),
+    }
+}
+
+/// A reply that is not heard.
+fn refuse<A: Allocator + Copy>(alloc: A, unheard: Unheard) -> Result<Outcome<A>, SiteFault>
+    ensures { SaysRefusal unheard result }
+{
+    match unheard {
+        Unheard::Refused(refusal) => Ok(Outcome::silent(alloc, 0, Some(refusal))),
+        Unheard::NoMemory => Err(SiteFault::OutOfMemory { taken: 0 }),
+    }
+}

@@ -1,0 +1,242 @@
+//! A site.
+
+ghost use Rattle.std.specs.Prelude.{◌≡◌, ℕ, ◌≤◌, max, List, IsTrue, IfOk, IfErr, [], length};
+ghost use Rattle.fleet_observe.specs.Fact.{Fact};
+ghost use Rattle.fleet_cache.specs.Cached.{IsCached};
+ghost use Rattle.fleet_gossip.specs.Packed.{IsPacked};
+ghost use Rattle.fleet_site.specs.Looking.{Looks};
+ghost use Rattle.fleet_site.specs.SiteModel.{SiteModel};
+ghost use Rattle.fleet_site.specs.StandsFor.{StandsFor, Follows, Answers, Gathers, opening};
+ghost use Rattle.fleet_site.specs.Sender.{IsSender};
+ghost use Rattle.fleet_site.specs.State.{IsState};
+ghost use Rattle.fleet_site.specs.Step.{datagram as a_datagram, tick as a_tick, frame as a_frame, learn as a_reply};
+ghost use Rattle.fleet_site.specs.Sweep.{IsSweep};
+ghost use Rattle.fleet_site.specs.Tick.{LeavesFewer};
+ghost use Rattle.fleet_site.specs.Verdict.{IsAsking, verdict};
+ghost use Rattle.fleet_site.specs.declared.outcome.SiteFault.TheVariants.{OutOfMemory};
+
+use crate::config::{Config, place_of};
+use crate::frame::take_frame;
+use crate::looked::Looked;
+use crate::outcome::{Outcome, SiteFault};
+use crate::question::{Arrival, take_question};
+use crate::relay::{learn_reply, take_reply};
+use crate::tick::serve_due;
+use crate::verdict::{Decision, decide};
+use fleet_cache::Cache;
+use fleet_gossip::sweep;
+use fleet_name::Octets;
+use fleet_observe::Moment;
+use fleet_pending::{Addr, Pending};
+use std::alloc::{AllocError, Allocator, Global};
+use std::marker::Model;
+
+/// A site: what it holds of the observations that it took in, and the questions that wait for an upstream.
+#[derive(Drop)]
+pub struct Site<A: Allocator = Global> {
+    alloc: A,
+    config: Config<A>,
+    cache: Cache<A>,
+    pending: Pending<A>,
+    clock: Moment,
+}
+
+impl<A: Allocator> Model for Site<A> {
+    ghost use Rattle.fleet_site.specs.State.{State, state, IsState};
+
+    ghost Value = { State };
+
+    ghost view = { λ s. state s.config s.cache s.clock s.pending };
+
+    ghost invariant = { λ s. IsState (state s.config s.cache s.clock s.pending) };
+}
+
+/// The later of two moments.
+fn later(one: Moment, other: Moment) -> Moment
+    ensures { result ≡ max one other }
+{
+    if one.value() < other.value() {
+        other
+    } else {
+        one
+    }
+}
+
+/// Where a datagram comes from.
+enum Sender {
+    /// An upstream, at this place.
+    Upstream(u8),
+    /// A peer.
+    Peer,
+    /// Any other address.
+    Other,
+}
+
+/// Where a datagram from an address comes from.
+fn sender_of<A: Allocator>(config: &Config<A>, from: Addr) -> Sender
+    ensures { IsSender config.now.upstreams config.now.peers from result }
+{
+    if let Some(place) = place_of(config.upstreams(), from) {
+        return Sender::Upstream(place as u8);
+    }
+    match place_of(config.peers(), from) {
+        Some(_) => Sender::Peer,
+        None => Sender::Other,
+    }
+}
+
+impl<A: Allocator + Copy> Site<A> {
+    /// A site that took nothing in and asks nothing, at the moment 0.
+    pub fn new(alloc: A, config: Config<A>) -> Site<A>
+        ensures { (m : SiteModel) → m ≡ opening config.upstreams config.peers → StandsFor result m }
+    {
+        let cache = Cache::new(alloc);
+        let pending = Pending::new(alloc, config.upstreams().len() as u8);
+        let clock = cache.floor();
+        Site {
+            alloc,
+            config,
+            cache,
+            pending,
+            clock,
+        }
+    }
+
+    /// Forgets what it took in and what it asks, and begins at the moment 0 again.
+    pub fn restart(&mut self)
+        ensures { (m : SiteModel) → StandsFor self.old m → StandsFor self.new (opening m.upstreams m.peers) }
+    {
+        self.cache.clear();
+        self.pending.clear();
+        self.clock = self.cache.floor();
+    }
+
+    /// What it holds.
+    pub fn cache(&self) -> &Cache<A>
+        ensures cache { result.now ≡ self.now.cache }
+        ensures lawful { IsState self.now }
+    {
+        &self.cache
+    }
+
+    /// The greatest moment so far.
+    pub fn clock(&self) -> Moment
+        ensures clock { result ≡ self.now.clock }
+        ensures lawful { IsState self.now }
+    {
+        self.clock
+    }
+
+    /// A datagram: from an upstream's address a reply, from a peer's a frame, from any other a question. `word` is where
+    /// the search for the id of a new query begins.
+    pub fn datagram(
+        &mut self,
+        now: Moment,
+        from: Addr,
+        bytes: &[u8],
+        word: u16,
+    ) -> Result<Outcome<A>, SiteFault>
+        ensures { (m : SiteModel) → StandsFor self.old m → Follows m (a_datagram now from bytes.now word) result self.new }
+    {
+        self.clock = later(self.clock, now);
+        match sender_of(&self.config, from) {
+            Sender::Upstream(place) => {
+                take_reply(
+                    self.alloc,
+                    &mut self.cache,
+                    &mut self.pending,
+                    place,
+                    self.clock,
+                    bytes,
+                )
+            }
+            Sender::Peer => take_frame(self.alloc, &mut self.cache, bytes),
+            Sender::Other => {
+                let arrival = Arrival {
+                    clock: self.clock,
+                    from,
+                    word,
+                };
+                take_question(
+                    self.alloc,
+                    &self.cache,
+                    &mut self.pending,
+                    self.config.upstreams(),
+                    arrival,
+                    bytes,
+                )
+            }
+        }
+    }
+
+    /// Drops what has ended, and serves the first open question whose time is over: its query goes to the next upstream,
+    /// or after the last all who wait are told so.
+    pub fn tick(&mut self, now: Moment) -> Result<Outcome<A>, SiteFault>
+        ensures follows { (m : SiteModel) → StandsFor self.old m → Follows m (a_tick now) result self.new }
+        ensures clock { self.new.clock ≡ max self.old.clock now }
+        ensures fewer { IfOk result (λ o. IsTrue o.more → LeavesFewer self.old.outstanding self.new.outstanding self.new.clock) }
+    {
+        self.clock = later(self.clock, now);
+        self.cache.purge(self.clock);
+        serve_due(
+            self.alloc,
+            &mut self.pending,
+            self.config.upstreams(),
+            self.clock,
+        )
+    }
+
+    /// Takes a frame's observations in.
+    pub fn frame(&mut self, now: Moment, bytes: &[u8]) -> Result<Outcome<A>, SiteFault>
+        ensures { (m : SiteModel) → StandsFor self.old m → Follows m (a_frame now bytes.now) result self.new }
+    {
+        self.clock = later(self.clock, now);
+        take_frame(self.alloc, &mut self.cache, bytes)
+    }
+
+    /// Takes the observations of a reply in. It matches nothing and sends nothing.
+    pub fn learn(&mut self, now: Moment, bytes: &[u8]) -> Result<Outcome<A>, SiteFault>
+        ensures { (m : SiteModel) → StandsFor self.old m → Follows m (a_reply now bytes.now) result self.new }
+    {
+        self.clock = later(self.clock, now);
+        learn_reply(self.alloc, &mut self.cache, self.clock, bytes)
+    }
+
+    /// What it answers to a question, whatever waits for an upstream.
+    pub fn ask(&mut self, now: Moment, bytes: &[u8]) -> Result<Looked<A>, SiteFault>
+        ensures answers { (m : SiteModel) → StandsFor self.old m → Answers m now bytes.now result self.new }
+        ensures stopped { IfErr result (λ f. f ≡ OutOfMemory 0) }
+        ensures memory { IfErr result (λ _. IsAsking bytes.now) }
+    {
+        self.clock = later(self.clock, now);
+        match decide(self.alloc, &self.cache, self.clock, bytes)? {
+            Decision::Dropped => Ok(Looked::Dropped),
+            Decision::Reply(octets) => Ok(Looked::Reply(octets)),
+            Decision::Unread(octets, _) => Ok(Looked::Reply(octets)),
+            Decision::Miss(_, _) => Ok(Looked::Miss),
+        }
+    }
+
+    /// The frames of all that it holds.
+    pub fn sweep(&self) -> Result<Vec<Octets<A>, A>, AllocError>
+        ensures { (m : SiteModel) → StandsFor self.now m → IfOk result (λ frames. IsSweep m frames.items) }
+    {
+        sweep(self.alloc, &self.cache)
+    }
+
+    /// Takes in all that another site holds, and purges to its floor; says how many observations that were.
+    pub fn merge(&mut self, other: &Site<A>) -> Result<usize, SiteFault>
+        ensures { (m : SiteModel) → StandsFor self.old m → (from : SiteModel) → StandsFor other.now from → Gathers m from result self.new }
+    {
+        let count = other.cache.len();
+        match self.cache.merge(&other.cache) {
+            Ok(()) => {
+                self.clock = later(self.clock, self.cache.floor());
+                Ok(count)
+            }
+            Err(stopped) => Err(SiteFault::OutOfMemory {
+                taken: stopped.taken,
+            }),
+        }
+    }
+}

@@ -1,0 +1,166 @@
+//! What a site does as time passes.
+
+ghost use Rattle.std.specs.Prelude.{◌≡◌, ◌<◌, ◌≤◌, ◌+◌, ◌↔◌, ℕ, IsTrue, IfOk, IfErr, Some, map, length};
+ghost use Rattle.fleet_pending.specs.Due.{NoneDue, Dues, opened_due};
+ghost use Rattle.fleet_pending.specs.Entry.{opened};
+ghost use Rattle.fleet_pending.specs.Outstanding.{IsOpen};
+ghost use Rattle.fleet_pending.specs.Waiter.{asker};
+ghost use Rattle.fleet_site.specs.Carried.{Keeps};
+ghost use Rattle.fleet_site.specs.Effect.{effect};
+ghost use Rattle.fleet_site.specs.Packet.{sent};
+ghost use Rattle.fleet_site.specs.Serving.{IsPlan, SaysMore};
+ghost use Rattle.fleet_site.specs.Table.{IsTableOf, KeepsTable};
+ghost use Rattle.fleet_site.specs.Tick.{Ticked, LeavesFewer, failure, failure_to};
+
+use crate::config::addr_of;
+use crate::outcome::{Outcome, Packet, Packets, SiteFault};
+use crate::query::entry_query;
+use fleet_name::Octets;
+use fleet_observe::Moment;
+use fleet_pending::{
+    Addr, Due, Entry, Pending, Waiter, serving_leaves_fewer_due, settling_gives_its_entry,
+    waiters_stay,
+};
+use fleet_wire::{Outline, write_reply};
+use std::alloc::{AllocError, Allocator};
+
+/// All that the first due entry makes a site write, before its table changes.
+#[derive(Drop)]
+pub(crate) enum Plan<A: Allocator> {
+    /// None is due.
+    Idle(Outcome<A>),
+    /// The entry with this id goes on to the next upstream.
+    Retry(u16, Outcome<A>),
+    /// The entry with this id is settled.
+    Fail(u16, Outcome<A>),
+}
+
+/// The octets that tell a waiter that no upstream answered.
+fn failure_octets<A: Allocator + Copy>(
+    alloc: A,
+    waiter: &Waiter<A>,
+) -> Result<Octets<A>, AllocError>
+    ensures { IfOk result (λ octets. octets ≡ (failure_to (asker waiter.now)).octets) }
+{
+    let outline = Outline::new(alloc, waiter.id, 0, true, 2, false, Some(&waiter.question))?;
+    Ok(Octets::new(write_reply(alloc, &outline)?))
+}
+
+/// What waiters are told where no upstream answered, in their order.
+fn failure_packets<A: Allocator + Copy>(
+    alloc: A,
+    waiters: &[Waiter<A>],
+) -> Result<Packets<A>, AllocError>
+    ensures { IfOk result (λ ps. ps ≡ map failure_to (map asker waiters.now)) }
+{
+    let mut packets = Vec::new(alloc);
+    for waiter in waiters {
+        let bytes = failure_octets(alloc, waiter)?;
+        packets.push(Packet {
+            to: waiter.from,
+            bytes,
+        })?;
+    }
+    Ok(Packets::new(packets))
+}
+
+/// What is written for the first due entry.
+fn make_plan<A: Allocator + Copy>(
+    alloc: A,
+    pending: &Pending<A>,
+    upstreams: &[Addr],
+    clock: Moment,
+) -> Result<Plan<A>, AllocError>
+    requires { IsTableOf upstreams.now pending.now }
+    ensures plan { IfOk result (λ p. IsPlan upstreams.now pending.now clock p) }
+    ensures memory { IfErr result (λ _. ¬ NoneDue pending.now.entries clock) }
+{
+    match pending.due(clock) {
+        None => Ok(Plan::Idle(Outcome::silent(alloc, 0, None))),
+        Some(due) => plan_due(alloc, pending, upstreams, clock, due),
+    }
+}
+
+/// What is written for an entry that is due.
+fn plan_due<A: Allocator + Copy>(
+    alloc: A,
+    pending: &Pending<A>,
+    upstreams: &[Addr],
+    clock: Moment,
+    due: Due<'_, A>,
+) -> Result<Plan<A>, AllocError>
+    requires table { IsTableOf upstreams.now pending.now }
+    requires dues { Dues pending.now clock (Some due) }
+    requires is_open { IsOpen (opened_due due) }
+    ensures { IfOk result (λ p. IsPlan upstreams.now pending.now clock p) }
+{
+    let _ = pending;
+    let _ = clock;
+    match due {
+        Due::Retry {
+            upstream,
+            id,
+            entry,
+        } => {
+            let octets = entry_query(alloc, id, entry)?;
+            let to = addr_of(upstreams, upstream);
+            let outcome = Outcome::sending(alloc, to, octets, None)?;
+            Ok(Plan::Retry(id, outcome))
+        }
+        Due::Failed { id, entry } => {
+            let packets = failure_packets(alloc, entry.waiters.as_slice())?;
+            let outcome = Outcome::with_packets(alloc, packets, 0, None);
+            Ok(Plan::Fail(id, outcome))
+        }
+    }
+}
+
+/// Serves the first due entry: its query goes to the next upstream, or after the last all waiters are told so.
+pub(crate) fn serve_due<A: Allocator + Copy>(
+    alloc: A,
+    pending: &mut Pending<A>,
+    upstreams: &[Addr],
+    clock: Moment,
+) -> Result<Outcome<A>, SiteFault>
+    requires { IsTableOf upstreams.now pending.old }
+    ensures ticked { Keeps (Ticked upstreams.now pending.old clock) (¬ NoneDue pending.old.entries clock) pending.old result pending.new }
+    ensures fewer { IfOk result (λ o. IsTrue o.more → LeavesFewer pending.old pending.new clock) }
+    ensures table { KeepsTable pending.old pending.new }
+{
+    waiters_stay();
+    settling_gives_its_entry();
+    serving_leaves_fewer_due();
+    let plan = match make_plan(alloc, pending, upstreams, clock) {
+        Ok(plan) => plan,
+        Err(_) => return Err(SiteFault::OutOfMemory { taken: 0 }),
+    };
+    match plan {
+        Plan::Idle(outcome) => Ok(outcome),
+        Plan::Retry(id, outcome) => {
+            let _ = pending.advance(id, clock);
+            Ok(and_more(pending, clock, outcome))
+        }
+        Plan::Fail(id, outcome) => {
+            let _ = pending.settle(id);
+            Ok(and_more(pending, clock, outcome))
+        }
+    }
+}
+
+/// The outcome, which says whether an entry is due.
+fn and_more<A: Allocator>(pending: &Pending<A>, clock: Moment, outcome: Outcome<A>) -> Outcome<A>
+    ensures { SaysMore pending.now clock (effect outcome) (effect result) }
+{
+    match pending.due(clock) {
+        Some(_) => with_more(outcome, true),
+        None => with_more(outcome, false),
+    }
+}
+
+/// The outcome, which says whether there is more.
+fn with_more<A: Allocator>(mut outcome: Outcome<A>, more: bool) -> Outcome<A>
+    ensures { effect result ≡ record (effect outcome) { more = more } }
+{
+    outcome.more = more;
+    outcome
+}

@@ -1,0 +1,139 @@
+//! What is made of octets that are asked, before the table of open questions is looked at.
+
+ghost use Rattle.std.specs.Prelude.{◌≡◌, ◌≤◌, ◌<◌, ◌↔◌, List, IsTrue, IfOk, IfErr};
+ghost use Rattle.fleet_wire.specs.Question.{asked};
+ghost use Rattle.fleet_observe.specs.Fact.{Fact};
+ghost use Rattle.fleet_cache.specs.Cached.{IsCached};
+ghost use Rattle.fleet_cache.specs.Kinds.{HasKinds};
+ghost use Rattle.fleet_cache.specs.Told.{told};
+ghost use Rattle.fleet_site.specs.Carried.{IsAskable, IsAnswered, IsUnread};
+ghost use Rattle.fleet_site.specs.Verdict.{IsAsking, verdict, IsServed, DecidesAnswer, DecidesQuestion, Decides};
+
+use crate::writing::{bare_reply, deny, reply_without, tell};
+use fleet_cache::{Answer, Cache};
+use fleet_name::Octets;
+use fleet_observe::{Moment, is_data_type};
+use fleet_wire::{Header, Question, ReadFault, read_header, read_query};
+use std::alloc::{AllocError, Allocator};
+
+/// What is made of octets.
+#[derive(Drop)]
+pub(crate) enum Decision<A: Allocator> {
+    /// They are no question.
+    Dropped,
+    /// This is the reply.
+    Reply(Octets<A>),
+    /// They can't be read, and this is the reply.
+    Unread(Octets<A>, ReadFault),
+    /// Nothing that is known answers the question.
+    Miss(Header, Question<A>),
+}
+
+/// What is made of octets at a moment that is not before the cache's floor.
+///
+/// In this order: octets without a header and those of a reply are dropped, another Opcode is not implemented (4), what
+/// cannot be read is a format error (1), a question of another class or of a type that data cannot have is not
+/// implemented (4), and then the cache answers.
+pub(crate) fn decide<A: Allocator + Copy>(
+    alloc: A,
+    cache: &Cache<A>,
+    clock: Moment,
+    octets: &[u8],
+) -> Result<Decision<A>, AllocError>
+    requires { cache.now.floor ≤ clock }
+    ensures decides { (s : List Fact) → IsCached s cache.now.floor cache.now.items → IfOk result (λ d. Decides s clock octets.now (verdict d)) }
+    ensures askable { IfOk result (λ d. IsAskable d) }
+    ensures answered { IfOk result (λ d. IsAnswered d → IsAsking octets.now) }
+    ensures memory { IfErr result (λ _. IsAsking octets.now) }
+{
+    let header = match read_header(octets) {
+        Some(header) => header,
+        None => return Ok(Decision::Dropped),
+    };
+    if header.response {
+        return Ok(Decision::Dropped);
+    }
+    if header.opcode != 0 {
+        let reply = bare_reply(alloc, header, 4)?;
+        return Ok(Decision::Reply(reply));
+    }
+    match read_query(alloc, octets) {
+        Ok((_, question)) => decide_question(alloc, cache, clock, header, question),
+        Err(fault) => unread(alloc, header, fault),
+    }
+}
+
+/// Octets that can't be read.
+fn unread<A: Allocator + Copy>(
+    alloc: A,
+    header: Header,
+    fault: ReadFault,
+) -> Result<Decision<A>, AllocError>
+    requires { header.opcode < 16 }
+    ensures told { IfOk result (λ d. IsUnread header fault (verdict d)) }
+    ensures askable { IfOk result (λ d. IsAskable d) }
+{
+    if fault == ReadFault::OutOfMemory {
+        return Err(AllocError);
+    }
+    let reply = bare_reply(alloc, header, 1)?;
+    Ok(Decision::Unread(reply, fault))
+}
+
+/// What is made of a question that was read.
+fn decide_question<A: Allocator + Copy>(
+    alloc: A,
+    cache: &Cache<A>,
+    clock: Moment,
+    header: Header,
+    question: Question<A>,
+) -> Result<Decision<A>, AllocError>
+    requires opcode { header.opcode < 16 }
+    requires reached { cache.now.floor ≤ clock }
+    ensures decides { (s : List Fact) → IsCached s cache.now.floor cache.now.items → IfOk result (λ d. DecidesQuestion s clock header (asked question) (verdict d)) }
+    ensures askable { IfOk result (λ d. IsAskable d) }
+{
+    if !is_served(&question) {
+        let reply = reply_without(alloc, header, 4, &question)?;
+        return Ok(Decision::Reply(reply));
+    }
+    let answer = cache.answer(alloc, &question, clock)?;
+    decide_answer(alloc, header, question, &answer)
+}
+
+/// Whether a question is answered: of class 1, and of a type that data can have.
+fn is_served<A: Allocator>(question: &Question<A>) -> bool
+    ensures { IsTrue result ↔ IsServed (asked question.now) }
+{
+    question.class == 1 && is_data_type(question.rtype)
+}
+
+/// What is made of an answer.
+fn decide_answer<A: Allocator + Copy>(
+    alloc: A,
+    header: Header,
+    question: Question<A>,
+    answer: &Answer<A>,
+) -> Result<Decision<A>, AllocError>
+    requires opcode { header.opcode < 16 }
+    requires served { question.class ≡ 1 }
+    requires kinds { HasKinds (told answer.now) }
+    ensures decides { IfOk result (λ d. DecidesAnswer header (asked question) (told answer.now) (verdict d)) }
+    ensures askable { IfOk result (λ d. IsAskable d) }
+{
+    match answer {
+        Answer::Miss => Ok(Decision::Miss(header, question)),
+        Answer::Found { chain, set } => {
+            let reply = tell(alloc, header, &question, chain, set)?;
+            Ok(Decision::Reply(reply))
+        }
+        Answer::NoData { chain, soa } => {
+            let reply = deny(alloc, header, 0, &question, chain, soa)?;
+            Ok(Decision::Reply(reply))
+        }
+        Answer::NxDomain { chain, soa } => {
+            let reply = deny(alloc, header, 3, &question, chain, soa)?;
+            Ok(Decision::Reply(reply))
+        }
+    }
+}

@@ -1,0 +1,155 @@
+//! Replies that are written: without records, and those of an answer.
+
+ghost use Rattle.std.specs.Prelude.{◌≡◌, ◌<◌, IfOk, OnOk, Some, None, MatchOption};
+ghost use Rattle.fleet_wire.specs.Outline.{octets_of_outline};
+ghost use Rattle.fleet_wire.specs.Question.{asked};
+ghost use Rattle.fleet_cache.specs.Kinds.{IsPositivePart, ArePositiveParts};
+ghost use Rattle.fleet_cache.specs.Shown.{part_of, parts_of};
+ghost use Rattle.fleet_site.specs.Rows.{started, started_octets, AddsRows, AddsChainRows, AddsSoaRow, IsNegativePart, Tells, Denies};
+
+use fleet_cache::{Chain, Shown};
+use fleet_name::Octets;
+use fleet_wire::{Header, Outline, Question, write_reply};
+use std::alloc::{AllocError, Allocator};
+
+/// The type of an SOA record.
+const SOA: u16 = 6;
+
+/// Links, and the records that they lead to.
+pub(crate) fn tell<A: Allocator + Copy>(
+    alloc: A,
+    header: Header,
+    question: &Question<A>,
+    chain: &Chain<A>,
+    set: &Shown<A>,
+) -> Result<Octets<A>, AllocError>
+    requires opcode { header.opcode < 16 }
+    requires links { ArePositiveParts chain.now }
+    requires positive { IsPositivePart (part_of set.now) }
+    ensures { IfOk result (Tells header (asked question.now) chain.now (part_of set.now)) }
+{
+    let mut outline = begin(alloc, header, 0, Some(question))?;
+    add_chain(&mut outline, chain.as_slice())?;
+    add_set(&mut outline, set)?;
+    finish(alloc, &outline)
+}
+
+/// Links, and the SOA of the denial that they lead to.
+pub(crate) fn deny<A: Allocator + Copy>(
+    alloc: A,
+    header: Header,
+    rcode: u8,
+    question: &Question<A>,
+    chain: &Chain<A>,
+    soa: &Shown<A>,
+) -> Result<Octets<A>, AllocError>
+    requires opcode { header.opcode < 16 }
+    requires rcode { rcode < 16 }
+    requires links { ArePositiveParts chain.now }
+    requires negative { IsNegativePart (part_of soa.now) }
+    ensures { IfOk result (Denies header rcode (asked question.now) chain.now (part_of soa.now)) }
+{
+    let mut outline = begin(alloc, header, rcode, Some(question))?;
+    add_chain(&mut outline, chain.as_slice())?;
+    add_soa(&mut outline, soa)?;
+    finish(alloc, &outline)
+}
+
+/// Adds the records of the links.
+fn add_chain<A: Allocator + Copy>(
+    outline: &mut Outline<A>,
+    chain: &[Shown<A>],
+) -> Result<(), AllocError>
+    ensures { ArePositiveParts (parts_of chain.now) → OnOk result (AddsChainRows (parts_of chain.now) outline.old outline.new) }
+{
+    for link in chain {
+        add_set(outline, link)?;
+    }
+    Ok(())
+}
+
+/// Adds the records of a positive observation.
+fn add_set<A: Allocator + Copy>(outline: &mut Outline<A>, part: &Shown<A>) -> Result<(), AllocError>
+    ensures { IsPositivePart (part_of part.now) → OnOk result (AddsRows (part_of part.now) outline.old outline.new) }
+{
+    let observation = &part.observation;
+    for rdata in observation.rdatas() {
+        outline.answer(
+            observation.name(),
+            observation.rtype(),
+            part.ttl,
+            rdata.as_slice(),
+        )?;
+    }
+    Ok(())
+}
+
+/// Adds the SOA record of a negative observation.
+fn add_soa<A: Allocator + Copy>(outline: &mut Outline<A>, part: &Shown<A>) -> Result<(), AllocError>
+    ensures { IsNegativePart (part_of part.now) → OnOk result (AddsSoaRow (part_of part.now) outline.old outline.new) }
+{
+    match part.observation.soa() {
+        Some((owner, rdata)) => outline.authority(owner, SOA, part.ttl, rdata),
+        None => Ok(()),
+    }
+}
+
+/// A reply that has no records yet.
+fn begin<A: Allocator + Copy>(
+    alloc: A,
+    header: Header,
+    rcode: u8,
+    question: Option<&Question<A>>,
+) -> Result<Outline<A>, AllocError>
+    requires opcode { header.opcode < 16 }
+    requires rcode { rcode < 16 }
+    ensures { IfOk result (λ outline. MatchOption question.entry (outline ≡ started header rcode None) (λ q. outline ≡ started header rcode (Some (asked q.now)))) }
+{
+    Outline::new(
+        alloc,
+        header.id,
+        header.opcode,
+        header.rd,
+        rcode,
+        false,
+        question,
+    )
+}
+
+/// The octets of a reply.
+fn finish<A: Allocator + Copy>(alloc: A, outline: &Outline<A>) -> Result<Octets<A>, AllocError>
+    ensures { IfOk result (λ octets. octets ≡ octets_of_outline outline.now) }
+{
+    let octets = write_reply(alloc, outline)?;
+    Ok(Octets::new(octets))
+}
+
+/// A reply of a header alone.
+pub(crate) fn bare_reply<'a, A: Allocator + Copy + 'a>(
+    alloc: A,
+    header: Header,
+    rcode: u8,
+) -> Result<Octets<A>, AllocError>
+    requires opcode { header.opcode < 16 }
+    requires rcode { rcode < 16 }
+    ensures { IfOk result (λ octets. octets ≡ started_octets header rcode None) }
+{
+    let question: Option<&'a Question<A>> = None;
+    let outline = begin(alloc, header, rcode, question)?;
+    finish(alloc, &outline)
+}
+
+/// A reply of header and question.
+pub(crate) fn reply_without<A: Allocator + Copy>(
+    alloc: A,
+    header: Header,
+    rcode: u8,
+    question: &Question<A>,
+) -> Result<Octets<A>, AllocError>
+    requires opcode { header.opcode < 16 }
+    requires rcode { rcode < 16 }
+    ensures { IfOk result (λ octets. octets ≡ started_octets header rcode (Some (asked question.now))) }
+{
+    let outline = begin(alloc, header, rcode, Some(question))?;
+    finish(alloc, &outline)
+}

@@ -1,0 +1,10 @@
+use Rattle.std.proofs.Common.{◌≡◌, List, length}
+use Rattle.fleet_wire.specs.Record.{Told, RecordsAt}
+use Rattle.fleet_wire.proofs.record.records_end.Given as goal
+
+abbrev pub invariant-loop : goal.invariant-loop
+invariant-loop l = record {
+  before : List Told;
+  found : RecordsAt l.message l.offset before l.at;
+  counted : length before ≡ l.counter;
+}

@@ -1,0 +1,20 @@
+use Rattle.std.proofs.Common.{◌≡◌, ◌∙◌, ap, ◌++◌, ◌∷◌, [], arith, length-append}
+use Rattle.std.proofs.lemmas.List.{map-append}
+use Rattle.fleet_wire.specs.Record.{Told, told, told_spelled, all_told}
+use Rattle.fleet_wire.proofs.Records.{records_more, first_stands, others_stand}
+use Rattle.fleet_wire.proofs.record.records_of.Goals as goal
+
+pub unreachable-requires : goal.unreachable-requires
+unreachable-requires g c =
+    first_stands _ _ _ _ c.loop.invariant.rest (omega arith) c.in_default.ensures.fault
+
+pub loop-preserved : goal.loop-preserved
+loop-preserved g c =
+    let i = c.loop.invariant in let one = told_spelled c.in-Ok.spelled in let before = all_told c.loop.records.items in
+    let is : all_told c.push.new.self.items ≡ before ++ one ∷ [] =
+    ap all_told c.in_ok-push.ensures.items ∙ (map-append told c.loop.records.items (c.in_ok-record_of.field-0 ∷ []) ∙ ap (λ (r : Told). before ++ r ∷ []) c.in_ok-record_of.ensures) in
+    record {
+      found = rw is (records_more _ _ _ _ before one i.found c.in-Ok.ensures.found);
+      counted = rw (is, length-append before (one ∷ [])) (omega (arith, i.counted));
+      rest = others_stand _ _ _ _ one _ i.rest (omega arith) c.in-Ok.ensures.found;
+    }
