@@ -2,11 +2,11 @@
 use Rattle.std.proofs.Common.{◌≡◌, ℕ, zero, suc, ◌+◌, ◌<◌, ◌≤◌, List, [], ◌∷◌, ◌++◌, Some, None, length, Bool, true, false, nat_eq, refl, sym, ap, ◌∙◌, arith, lit≤, cond, length-append, subst}
 use Rattle.std.proofs.lemmas.Option.{same_Some}
 use Rattle.fleet_pending.specs.declared.waiter.Addr.{Addr}
-use Rattle.fleet_pending.specs.Places.{At, NoTwo}
+use Rattle.fleet_name.specs.Places.{At, NoTwo}
 use Rattle.fleet_site.specs.Config.{SettingFails}
 use Rattle.fleet_site.specs.declared.config.ConfigFault.{ConfigFault}
 use Rattle.fleet_site.specs.declared.config.ConfigFault.TheVariants.{NoUpstream, TooManyUpstreams, TooManyPeers, SameAddress}
-use Rattle.dnsfleet.specs.Fleet.{upstreams, site_address, peers_of}
+use Rattle.dnsfleet.specs.Settings.{upstreams, site_address, peers_of}
 
 -- the ports ascend from low up to high, which is not reached
 abbrev Ascend : ℕ → ℕ → List Addr → Type 0

@@ -1,4 +1,5 @@
 pub mod Words
 pub mod Kinds
 pub mod Fault
+pub mod Settings
 pub mod Fleet

@@ -98,6 +98,14 @@ impl Step<'_> {
         }
     }
 
+    /// The frame that comes in, if it was sent before.
+    pub fn frame(&self) -> Option<usize> {
+        match self {
+            Step::Deliver { frame, .. } => Some(*frame),
+            _ => None,
+        }
+    }
+
     /// The event itself.
     pub fn event<A: Allocator>(self, alloc: A) -> Result<Event<A>, AllocError> {
         Ok(match self {

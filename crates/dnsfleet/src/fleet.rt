@@ -1,9 +1,9 @@
 //! The fleet of a script: its sites and their addresses.
 
-ghost use Rattle.std.specs.Prelude.{◌≡◌, ◌<◌, ◌≤◌, IfOk};
+ghost use Rattle.std.specs.Prelude.{◌≡◌, ◌⊎◌, ◌↔◌, ◌<◌, ◌≤◌, IsSome, IsNone, IsOk, IfOk, IfErr, OnOk, IsErrOf};
 ghost use Rattle.fleet_world.specs.FleetModel.{opening};
 ghost use Rattle.fleet_world.specs.StandsFor.{StandsFor};
-ghost use Rattle.dnsfleet.specs.Fleet.{local, peers_of, setting_of, settings_of, upstreams};
+ghost use Rattle.dnsfleet.specs.Settings.{local, peers_of, setting_of, settings_of, upstreams};
 
 use crate::fault::What;
 use crate::words::SiteCount;
@@ -24,7 +24,7 @@ const SECOND_UPSTREAM_PORT: u16 = 5302;
 /// The port of site 0; the others follow.
 const FIRST_SITE_PORT: u16 = 5400;
 
-/// The world of a script. The first event makes it.
+/// The sites of a script. The first event makes them: as many as it says, or one.
 #[derive(Drop)]
 pub struct Fleet<A: Allocator> {
     alloc: A,
@@ -32,13 +32,21 @@ pub struct Fleet<A: Allocator> {
 }
 
 impl<A: Allocator + Copy> Fleet<A> {
+    ghost use Rattle.dnsfleet.specs.Fleet.{site_count, frame_count, BeginsWith};
+
     /// No event has happened.
-    pub fn new(alloc: A) -> Fleet<A> {
+    pub fn new(alloc: A) -> Fleet<A>
+        ensures { IsNone result.world }
+    {
         Fleet { alloc, world: None }
     }
 
     /// Makes so many sites, if this is the first event.
-    pub fn begin(&mut self, count: SiteCount) -> Result<(), What> {
+    pub fn begin(&mut self, count: SiteCount) -> Result<(), What>
+        ensures begun { OnOk result (BeginsWith count.value self.new.world) }
+        ensures late { IsErrOf result What.SitesNotFirst ↔ IsSome self.old.world }
+        ensures refused { IfErr result (λ what. (what ≡ What.SitesNotFirst) ⊎ (what ≡ What.OutOfMemory)) }
+    {
         if self.world.is_some() {
             return Err(What::SitesNotFirst);
         }
@@ -46,14 +54,35 @@ impl<A: Allocator + Copy> Fleet<A> {
         Ok(())
     }
 
-    /// The world, if there is a site of this number. Where this is the first event, there is one site.
-    pub fn world_with(&mut self, site: usize) -> Result<&mut World<A>, What> {
-        if self.world.is_none() && site == 0 {
-            self.world = Some(new_world(self.alloc, 1)?);
-        }
+    /// Checks that there is a site of this number: 0 alone before the first event.
+    pub fn check_site(&self, site: usize) -> Result<(), What>
+        ensures there { IsOk result ↔ (site < site_count self.now.world) }
+        ensures refused { IfErr result (λ what. what ≡ What.NoSuchSite) }
+    {
+        let there = match &self.world {
+            Some(world) => world.site(site).is_some(),
+            None => site == 0,
+        };
+        if there { Ok(()) } else { Err(What::NoSuchSite) }
+    }
+
+    /// Checks that a frame was sent under this number: none before the first event.
+    pub fn check_frame(&self, number: usize) -> Result<(), What>
+        ensures there { IsOk result ↔ (number < frame_count self.now.world) }
+        ensures refused { IfErr result (λ what. what ≡ What.NoSuchFrame) }
+    {
+        let there = match &self.world {
+            Some(world) => world.frame(number).is_some(),
+            None => false,
+        };
+        if there { Ok(()) } else { Err(What::NoSuchFrame) }
+    }
+
+    /// The world. Where this is the first event, one site is made.
+    pub fn world(&mut self) -> Result<&mut World<A>, AllocError> {
         match &mut self.world {
-            Some(world) if world.site(site).is_some() => Ok(world),
-            _ => Err(What::NoSuchSite),
+            Some(world) => Ok(world),
+            none => Ok(none.insert(new_world(self.alloc, 1)?)),
         }
     }
 }

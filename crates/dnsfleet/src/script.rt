@@ -57,7 +57,8 @@ impl<A: Allocator + Copy> Script<A> {
 
     /// Asks a site a question.
     fn ask(&mut self, site: usize, now: Moment, question: &Hex<'_>) -> Result<(), What> {
-        let world = self.fleet.world_with(site)?;
+        self.fleet.check_site(site)?;
+        let world = self.fleet.world()?;
         let question = question.octets(self.alloc)?;
         let looked = world.ask(site, now, question.as_slice())?;
         print_looked(&mut self.out, &looked)?;
@@ -66,7 +67,8 @@ impl<A: Allocator + Copy> Script<A> {
 
     /// Shows what a site holds.
     fn show(&mut self, site: usize) -> Result<(), What> {
-        let world = self.fleet.world_with(site)?;
+        self.fleet.check_site(site)?;
+        let world = self.fleet.world()?;
         match world.site(site) {
             Some(site) => print_site(&mut self.out, site)?,
             None => return Err(What::NoSuchSite),
@@ -76,7 +78,8 @@ impl<A: Allocator + Copy> Script<A> {
 
     /// Compares two sites.
     fn compare(&mut self, one: usize, other: usize) -> Result<(), What> {
-        let world = self.fleet.world_with(usize::max(one, other))?;
+        self.fleet.check_site(usize::max(one, other))?;
+        let world = self.fleet.world()?;
         match (world.site(one), world.site(other)) {
             (Some(one), Some(other)) => print_same(&mut self.out, one.cache().same(other.cache()))?,
             _ => return Err(What::NoSuchSite),
@@ -86,7 +89,11 @@ impl<A: Allocator + Copy> Script<A> {
 
     /// Lets something happen in the world.
     fn step(&mut self, step: Step<'_>) -> Result<(), What> {
-        let world = self.fleet.world_with(step.site())?;
+        self.fleet.check_site(step.site())?;
+        if let Some(frame) = step.frame() {
+            self.fleet.check_frame(frame)?;
+        }
+        let world = self.fleet.world()?;
         let event = step.event(self.alloc)?;
         let stepped = world.step(&event)?;
         print_stepped(&mut self.out, world, &event, &stepped)?;

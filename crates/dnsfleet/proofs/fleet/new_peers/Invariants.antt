@@ -1,5 +1,5 @@
 use Rattle.std.proofs.Common.{◌≡◌}
-use Rattle.dnsfleet.specs.Fleet.{peers_of}
+use Rattle.dnsfleet.specs.Settings.{peers_of}
 use Rattle.dnsfleet.proofs.fleet.new_peers.Given as goal
 
 abbrev pub invariant-loop-other : goal.invariant-loop-other

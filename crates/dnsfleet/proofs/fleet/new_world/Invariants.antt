@@ -1,5 +1,5 @@
 use Rattle.std.proofs.Common.{◌≡◌}
-use Rattle.dnsfleet.specs.Fleet.{settings_of}
+use Rattle.dnsfleet.specs.Settings.{settings_of}
 use Rattle.dnsfleet.proofs.fleet.new_world.Given as goal
 
 abbrev pub invariant-loop-site : goal.invariant-loop-site
