@@ -3,12 +3,12 @@
 ghost use Rattle.std.specs.Prelude.{◌≡◌, ℕ, IfOk, IfErr};
 ghost use Rattle.fleet_wire.specs.Message.{IsReply};
 ghost use Rattle.fleet_observe.specs.Digest.{Summary};
-ghost use Rattle.fleet_observe.specs.Meaning.{IsMeaning};
+ghost use Rattle.fleet_observe.specs.Meaning.{IsMeaning, IsSound};
 ghost use Rattle.fleet_site.specs.declared.digested.Unheard.TheVariants.{NoMemory};
 ghost use Rattle.fleet_site.specs.Unheard.{IsUnread, IsUndigested};
 
 use crate::outcome::Refusal;
-use fleet_observe::{Digest, DigestFault, digest};
+use fleet_observe::{Digest, DigestFault, digest, meaning_or_fault};
 use fleet_wire::{Message, ReadFault, read_reply};
 use std::alloc::{AllocError, Allocator};
 
@@ -54,8 +54,10 @@ pub(crate) fn digest_of<A: Allocator + Copy>(
     message: &Message<A>,
 ) -> Result<Digest<A>, Unheard>
     ensures meaning { IfOk result (λ d. IsMeaning message.now d) }
+    ensures sound { IfOk result (λ _. IsSound message.now) }
     ensures refused { IfErr result (λ e. IsUndigested message.now e) }
 {
+    meaning_or_fault();
     match digest(alloc, message) {
         Ok(told) => Ok(told),
         Err(fault) => match fault {

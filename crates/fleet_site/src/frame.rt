@@ -3,10 +3,11 @@
 ghost use Rattle.std.specs.Prelude.{◌≡◌, List};
 ghost use Rattle.fleet_observe.specs.Fact.{Fact};
 ghost use Rattle.fleet_cache.specs.Cached.{IsCached};
+ghost use Rattle.fleet_gossip.specs.Frame.{HasEntries};
 ghost use Rattle.fleet_pending.specs.Outstanding.{Outstanding};
 ghost use Rattle.fleet_site.specs.Carried.{Carries, Takes};
 ghost use Rattle.fleet_site.specs.Effect.{effect, nothing};
-ghost use Rattle.fleet_site.specs.Frame.{HasFrame, Framed};
+ghost use Rattle.fleet_site.specs.Frame.{Framed};
 
 use crate::outcome::{Outcome, Refusal, SiteFault};
 use fleet_cache::Cache;
@@ -20,7 +21,7 @@ pub(crate) fn take_frame<A: Allocator + Copy>(
     cache: &mut Cache<A>,
     octets: &[u8],
 ) -> Result<Outcome<A>, SiteFault>
-    ensures framed { (o : Outstanding) (s : List Fact) → IsCached s cache.old.floor cache.old.items → Carries (Framed o octets.now) (HasFrame octets.now) s o result cache.new o }
+    ensures framed { (o : Outstanding) (s : List Fact) → IsCached s cache.old.floor cache.old.items → Carries (Framed o octets.now) (HasEntries octets.now) s o result cache.new o }
     ensures floor { cache.new.floor ≡ cache.old.floor }
 {
     match decode(alloc, octets) {

@@ -2,7 +2,7 @@
 //! learnt.
 
 ghost use Rattle.std.specs.Prelude.{◌≡◌, ◌<◌, ◌≤◌, ◌++◌, ℕ, List, IfOk, IfErr, OnOk, map, length, take};
-ghost use Rattle.fleet_wire.specs.Message.{Reply};
+ghost use Rattle.fleet_wire.specs.Message.{Reply, HasReply};
 ghost use Rattle.fleet_observe.specs.Fact.{Fact};
 ghost use Rattle.fleet_observe.specs.Digest.{Summary};
 ghost use Rattle.fleet_observe.specs.Meaning.{IsMeaning};
@@ -12,7 +12,6 @@ ghost use Rattle.fleet_cache.specs.Cached.{IsCached};
 ghost use Rattle.fleet_pending.specs.Outstanding.{Outstanding};
 ghost use Rattle.fleet_pending.specs.Waiter.{asker};
 ghost use Rattle.fleet_site.specs.Carried.{Carries};
-ghost use Rattle.fleet_site.specs.Digested.{HasReply};
 ghost use Rattle.fleet_site.specs.Learn.{Learnt};
 ghost use Rattle.fleet_site.specs.Relayed.{Hears, IsMade, IsRelayFor, SaysRefusal, Unlearns};
 ghost use Rattle.fleet_site.specs.Reply.{IsAnswering, IsReplying, Replied, relay_to};
