@@ -75,7 +75,11 @@ impl<A: Allocator + Copy> Fleet<A> {
             Some(world) => world.frame(number).is_some(),
             None => false,
         };
-        if there { Ok(()) } else { Err(What::NoSuchFrame) }
+        if there {
+            Ok(())
+        } else {
+            Err(What::NoSuchFrame)
+        }
     }
 
     /// The world. Where this is the first event, one site is made.
