@@ -2,28 +2,53 @@
 
 use crate::{Answer, Cache};
 use fleet_name::{Name, Octets};
-use fleet_observe::{Moment, Observation};
+use fleet_observe::{Moment, Observation, Soa};
 use fleet_wire::{Question, read_query};
 use std::test::Fail;
+
+const EXAMPLE: &[u8; 13] = b"\x07example\x03com\0";
 
 const FIRST: &[u8; 4] = b"\xc0\x00\x02\x01";
 
 const SECOND: &[u8; 4] = b"\xc0\x00\x02\x02";
 
-fn named(rt: &HostRuntime, label: &[u8]) -> Result<Name, Fail> {
-    let mut name = Name::root(rt.alloc())?;
-    name.push(label)?;
-    Ok(name)
+// The SOA of the denials: its names are the root, its minimum 300 seconds.
+const SOA: &[u8; 22] = b"\0\0\0\0\0\x01\0\0\x0e\x10\0\0\x02\x58\0\x01\x51\x80\0\0\x01\x2c";
+
+// What an answer says: how many links lead to its end; of records the last octet of the first;
+// and the end's TTL.
+#[derive(Clone, Copy, Debug, PartialEq, Eq)]
+enum Told {
+    Found(usize, u8, u32),
+    NoData(usize, u32),
+    NxDomain(usize, u32),
+    Miss,
 }
 
 fn at(seconds: u64) -> Result<Moment, Fail> {
     Ok(Moment::new(seconds).ok_or("no moment")?)
 }
 
-// A record of the type at the name of one label.
+// A question for a type at a name, by its octets.
+fn asked(rt: &HostRuntime, name: &[u8], rtype: u16) -> Result<Question, Fail> {
+    let mut message = b"\0\x07\x01\0\0\x01\0\0\0\0\0\0"
+        .as_slice()
+        .to_vec(rt.alloc())?;
+    message.extend_from_slice(name)?;
+    message.extend_from_slice(&rtype.to_be_bytes())?;
+    message.extend_from_slice(b"\0\x01")?;
+    let (_, question) = read_query(rt.alloc(), &message)?;
+    Ok(question)
+}
+
+fn named(rt: &HostRuntime, name: &[u8]) -> Result<Name, Fail> {
+    Ok(asked(rt, name, 1)?.name.try_clone()?)
+}
+
+// A record of the type.
 fn seen(
     rt: &HostRuntime,
-    label: &[u8],
+    name: &[u8],
     rtype: u16,
     rdata: &[u8],
     rank: u8,
@@ -32,59 +57,77 @@ fn seen(
 ) -> Result<Observation, Fail> {
     let mut rdatas = Vec::new(rt.alloc());
     rdatas.push(Octets::copy_of(rt.alloc(), rdata)?)?;
-    let name = named(rt, label)?;
+    let name = named(rt, name)?;
     Ok(Observation::positive(name, rtype, rank, at(stamp)?, life, rdatas)?)
 }
 
-// A question for addresses at the name of one label.
-fn asked(rt: &HostRuntime, label: &[u8]) -> Result<Question, Fail> {
-    let mut message = b"\x00\x07\x01\x00\x00\x01\x00\x00\x00\x00\x00\x00"
-        .as_slice()
-        .to_vec(rt.alloc())?;
-    message.extend_from_slice(named(rt, label)?.octets())?;
-    message.extend_from_slice(b"\x00\x01\x00\x01")?;
-    let (_, question) = read_query(rt.alloc(), &message)?;
-    Ok(question)
+// That there is no such type, or no such name, on the word of the owner's SOA.
+fn denied(
+    rt: &HostRuntime,
+    name: &[u8],
+    rtype: Option<u16>,
+    owner: &[u8],
+    rank: u8,
+    stamp: u64,
+    life: u32,
+) -> Result<Observation, Fail> {
+    let soa = Soa {
+        owner: named(rt, owner)?,
+        ttl: life,
+        rdata: Octets::copy_of(rt.alloc(), SOA)?,
+    };
+    let name = named(rt, name)?;
+    Ok(Observation::negative(name, rtype, rank, at(stamp)?, life, soa)?)
 }
 
-// How many links an answer has, the last octet of its address and the TTL; none where it is a miss.
-fn told(
+// The name of the label c and a digit.
+fn numbered(digit: u8) -> [u8; 4] {
+    [2, b'c', digit, 0]
+}
+
+fn answered(
     rt: &HostRuntime,
     cache: &Cache,
-    label: &[u8],
+    name: &[u8],
+    rtype: u16,
     moment: u64,
-) -> Result<Option<(usize, u8, u32)>, Fail> {
-    let question = asked(rt, label)?;
-    let answer = cache.answer(rt.alloc(), &question, at(moment)?)?;
-    let Answer::Found { chain, set } = answer else {
-        return Ok(None);
+) -> Result<Told, Fail> {
+    let question = asked(rt, name, rtype)?;
+    let told = match cache.answer(rt.alloc(), &question, at(moment)?)? {
+        Answer::Found { chain, set } => {
+            let first = set.observation.rdatas().first().ok_or("no record")?;
+            let octet = first.as_slice().last().copied().ok_or("no octet")?;
+            Told::Found(chain.as_slice().len(), octet, set.ttl)
+        }
+        Answer::NoData { chain, soa } => Told::NoData(chain.as_slice().len(), soa.ttl),
+        Answer::NxDomain { chain, soa } => Told::NxDomain(chain.as_slice().len(), soa.ttl),
+        Answer::Miss => Told::Miss,
     };
-    let octet = set
-        .observation
-        .rdatas()
-        .first()
-        .and_then(|rdata| rdata.as_slice().last().copied())
-        .ok_or("no address")?;
-    Ok(Some((chain.as_slice().len(), octet, set.ttl)))
+    Ok(told)
 }
 
 #[test]
 fn the_preferred_of_two_answers(rt: HostRuntime) -> Result<(), Fail> {
-    for first_is_high in [true, false] {
-        let high = seen(&rt, b"a", 1, FIRST, 3, 100, 300)?;
-        let low = seen(&rt, b"a", 1, SECOND, 1, 200, 300)?;
+    let high = (3, 100, FIRST);
+    let low = (1, 200, SECOND);
+    for order in [
+        [(high, true), (low, true), (low, false), (high, false)],
+        [(low, true), (high, true), (high, false), (low, false)],
+    ] {
         let mut cache = Cache::new(rt.alloc());
-        if first_is_high {
-            assert!(rt; cache.take(high)?);
-            assert!(rt; cache.take(low)?);
-        } else {
-            assert!(rt; cache.take(low)?);
-            assert!(rt; cache.take(high)?);
+        for ((rank, stamp, rdata), new) in order {
+            let observation = seen(&rt, EXAMPLE, 1, rdata, rank, stamp, 300)?;
+            assert_eq!(rt; cache.take(observation)?, new);
         }
-        assert!(rt; !cache.take(seen(&rt, b"a", 1, FIRST, 3, 100, 300)?)?);
-        assert_eq!(rt; told(&rt, &cache, b"a", 250)?, Some((0, 1, 150)));
-        assert_eq!(rt; told(&rt, &cache, b"a", 400)?, Some((0, 2, 100)));
-        assert_eq!(rt; told(&rt, &cache, b"a", 500)?, None);
+        assert_eq!(rt;
+            answered(&rt, &cache, EXAMPLE, 1, 250)?,
+            Told::Found(0, 1, 150)
+        );
+        assert_eq!(rt;
+            answered(&rt, &cache, EXAMPLE, 1, 400)?,
+            Told::Found(0, 2, 100)
+        );
+        assert_eq!(rt; answered(&rt, &cache, EXAMPLE, 1, 500)?, Told::Miss);
     }
     Ok(())
 }
@@ -92,36 +135,174 @@ fn the_preferred_of_two_answers(rt: HostRuntime) -> Result<(), Fail> {
 #[test]
 fn the_longer_lived_answers_again(rt: HostRuntime) -> Result<(), Fail> {
     let mut list = Vec::new(rt.alloc());
-    list.push(seen(&rt, b"a", 1, FIRST, 1, 100, 300)?)?;
-    list.push(seen(&rt, b"a", 1, SECOND, 1, 200, 10)?)?;
+    list.push(seen(&rt, EXAMPLE, 1, FIRST, 1, 100, 300)?)?;
+    list.push(seen(&rt, EXAMPLE, 1, SECOND, 1, 200, 10)?)?;
     let mut cache = Cache::new(rt.alloc());
     assert!(rt; cache.take_list(list).is_ok());
-    assert_eq!(rt; told(&rt, &cache, b"a", 150)?, Some((0, 2, 10)));
-    assert_eq!(rt; told(&rt, &cache, b"a", 205)?, Some((0, 2, 5)));
-    assert_eq!(rt; told(&rt, &cache, b"a", 210)?, Some((0, 1, 190)));
+    assert_eq!(rt;
+        answered(&rt, &cache, EXAMPLE, 1, 150)?,
+        Told::Found(0, 2, 10)
+    );
+    assert_eq!(rt;
+        answered(&rt, &cache, EXAMPLE, 1, 205)?,
+        Told::Found(0, 2, 5)
+    );
+    assert_eq!(rt;
+        answered(&rt, &cache, EXAMPLE, 1, 210)?,
+        Told::Found(0, 1, 190)
+    );
     Ok(())
 }
 
 #[test]
-fn eight_links_are_followed(rt: HostRuntime) -> Result<(), Fail> {
-    let labels: [&[u8]; 10] = [
-        b"c0", b"c1", b"c2", b"c3", b"c4", b"c5", b"c6", b"c7", b"c8", b"c9",
-    ];
+fn what_has_ended_is_not_held(rt: HostRuntime) -> Result<(), Fail> {
     let mut cache = Cache::new(rt.alloc());
-    for i in 0..8usize {
-        let to = named(&rt, labels[i + 1])?;
-        assert!(rt; cache.take(seen(&rt, labels[i], 5, to.octets(), 1, 100, 300)?)?);
+    assert!(rt; cache.take(seen(&rt, EXAMPLE, 1, FIRST, 3, 100, 1)?)?);
+    assert_eq!(rt;
+        answered(&rt, &cache, EXAMPLE, 1, 100)?,
+        Told::Found(0, 1, 1)
+    );
+    assert_eq!(rt; answered(&rt, &cache, EXAMPLE, 1, 101)?, Told::Miss);
+    cache.purge(at(101)?);
+    assert!(rt; cache.is_empty());
+    // A moment before the floor is read as the floor.
+    assert_eq!(rt; answered(&rt, &cache, EXAMPLE, 1, 100)?, Told::Miss);
+    assert!(rt; !cache.take(seen(&rt, EXAMPLE, 1, FIRST, 3, 100, 1)?)?);
+    assert!(rt; cache.take(seen(&rt, EXAMPLE, 1, FIRST, 3, 100, 2)?)?);
+    assert_eq!(rt; answered(&rt, &cache, EXAMPLE, 1, 0)?, Told::Found(0, 1, 1));
+    Ok(())
+}
+
+#[test]
+fn a_name_error_behind_two_links(rt: HostRuntime) -> Result<(), Fail> {
+    let www = b"\x03www\x07example\0";
+    let a = b"\x01a\x07example\0";
+    let b = b"\x01b\x07example\0";
+    let mut cache = Cache::new(rt.alloc());
+    assert!(rt; cache.take(seen(&rt, www, 5, a, 1, 100, 60)?)?);
+    assert!(rt; cache.take(seen(&rt, a, 5, b, 1, 100, 60)?)?);
+    let gone = denied(&rt, b, None, b"\x07example\0", 1, 100, 300)?;
+    assert!(rt; cache.take(gone)?);
+    for rtype in [1, 28] {
+        assert_eq!(rt;
+            answered(&rt, &cache, www, rtype, 110)?,
+            Told::NxDomain(2, 290)
+        );
     }
-    assert!(rt; cache.take(seen(&rt, labels[8], 1, FIRST, 1, 100, 300)?)?);
-    assert_eq!(rt; told(&rt, &cache, labels[0], 110)?, Some((8, 1, 290)));
-    let mut nine = Cache::new(rt.alloc());
-    for i in 0..9usize {
-        let to = named(&rt, labels[i + 1])?;
-        assert!(rt; nine.take(seen(&rt, labels[i], 5, to.octets(), 1, 100, 300)?)?);
+    assert_eq!(rt; answered(&rt, &cache, www, 5, 110)?, Told::Found(0, 0, 50));
+    assert_eq!(rt; answered(&rt, &cache, www, 1, 160)?, Told::Miss);
+    assert_eq!(rt; answered(&rt, &cache, b, 1, 160)?, Told::NxDomain(0, 240));
+    Ok(())
+}
+
+#[test]
+fn a_name_error_removes_nothing(rt: HostRuntime) -> Result<(), Fail> {
+    let b = b"\x01b\x07example\0";
+    let below = b"\x01x\x01y\x01b\x07example\0";
+    for denial_first in [true, false] {
+        let gone = denied(&rt, b, None, b"\x07example\0", 3, 100, 300)?;
+        let there = seen(&rt, below, 1, FIRST, 3, 200, 300)?;
+        let mut cache = Cache::new(rt.alloc());
+        if denial_first {
+            assert!(rt; cache.take(gone)?);
+            assert_eq!(rt;
+                answered(&rt, &cache, below, 1, 110)?,
+                Told::NxDomain(0, 290)
+            );
+            assert!(rt; cache.take(there)?);
+        } else {
+            assert!(rt; cache.take(there)?);
+            assert!(rt; cache.take(gone)?);
+        }
+        assert_eq!(rt; cache.len(), 2);
+        assert_eq!(rt;
+            answered(&rt, &cache, below, 1, 210)?,
+            Told::Found(0, 1, 290)
+        );
+        let other = b"\x01c\x01b\x07example\0";
+        assert_eq!(rt;
+            answered(&rt, &cache, other, 1, 210)?,
+            Told::NxDomain(0, 190)
+        );
     }
-    assert!(rt; nine.take(seen(&rt, labels[9], 1, FIRST, 1, 100, 300)?)?);
-    assert_eq!(rt; told(&rt, &nine, labels[0], 110)?, None);
-    assert_eq!(rt; told(&rt, &nine, labels[1], 110)?, Some((8, 1, 290)));
+    Ok(())
+}
+
+#[test]
+fn no_data_holds_for_one_type(rt: HostRuntime) -> Result<(), Fail> {
+    let mut cache = Cache::new(rt.alloc());
+    let empty = denied(&rt, EXAMPLE, Some(28), b"\x03com\0", 1, 100, 10800)?;
+    assert!(rt; cache.take(empty)?);
+    assert_eq!(rt;
+        answered(&rt, &cache, EXAMPLE, 28, 110)?,
+        Told::NoData(0, 10790)
+    );
+    assert_eq!(rt; answered(&rt, &cache, EXAMPLE, 1, 110)?, Told::Miss);
+    let alias = seen(&rt, &numbered(b'0'), 5, EXAMPLE, 1, 100, 300)?;
+    assert!(rt; cache.take(alias)?);
+    let name = numbered(b'0');
+    assert_eq!(rt;
+        answered(&rt, &cache, &name, 28, 110)?,
+        Told::NoData(1, 10790)
+    );
+    // Nothing is known of the other type behind the link.
+    assert_eq!(rt; answered(&rt, &cache, &name, 1, 110)?, Told::Miss);
+    Ok(())
+}
+
+// A cache of so many aliases, each of the next name, and an address at the last.
+fn chained(rt: &HostRuntime, links: u8) -> Result<Cache, Fail> {
+    let mut list = Vec::new(rt.alloc());
+    for digit in b'0'..b'0'.saturating_add(links) {
+        let target = numbered(digit.saturating_add(1));
+        list.push(seen(rt, &numbered(digit), 5, &target, 1, 100, 300)?)?;
+    }
+    let last = numbered(b'0'.saturating_add(links));
+    list.push(seen(rt, &last, 1, FIRST, 1, 100, 300)?)?;
+    let mut cache = Cache::new(rt.alloc());
+    cache.take_list(list)?;
+    Ok(cache)
+}
+
+#[test]
+fn eight_links_are_followed(rt: HostRuntime) -> Result<(), Fail> {
+    let cache = chained(&rt, 8)?;
+    let question = asked(&rt, &numbered(b'0'), 1)?;
+    let answer = cache.answer(rt.alloc(), &question, at(110)?)?;
+    let Answer::Found { chain, set } = answer else {
+        return Err("no records".into());
+    };
+    assert_eq!(rt; chain.as_slice().len(), 8);
+    for (digit, link) in (b'0'..).zip(chain.as_slice()) {
+        assert_eq!(rt;
+            link.observation.name().octets(),
+            numbered(digit).as_slice()
+        );
+        assert_eq!(rt; (link.observation.rtype(), link.ttl), (5, 290));
+    }
+    assert_eq!(rt; set.observation.name().octets(), numbered(b'8').as_slice());
+    assert_eq!(rt; (set.observation.rtype(), set.ttl), (1, 290));
+    Ok(())
+}
+
+#[test]
+fn a_ninth_link_is_a_miss(rt: HostRuntime) -> Result<(), Fail> {
+    let nine = chained(&rt, 9)?;
+    assert_eq!(rt; answered(&rt, &nine, &numbered(b'0'), 1, 110)?, Told::Miss);
+    assert_eq!(rt;
+        answered(&rt, &nine, &numbered(b'1'), 1, 110)?,
+        Told::Found(8, 1, 290)
+    );
+    Ok(())
+}
+
+#[test]
+fn aliases_of_each_other_are_a_miss(rt: HostRuntime) -> Result<(), Fail> {
+    let mut cache = Cache::new(rt.alloc());
+    let (here, there) = (numbered(b'0'), numbered(b'1'));
+    assert!(rt; cache.take(seen(&rt, &here, 5, &there, 1, 100, 300)?)?);
+    assert!(rt; cache.take(seen(&rt, &there, 5, &here, 1, 100, 300)?)?);
+    assert_eq!(rt; answered(&rt, &cache, &here, 1, 110)?, Told::Miss);
     Ok(())
 }
 
@@ -129,15 +310,18 @@ fn eight_links_are_followed(rt: HostRuntime) -> Result<(), Fail> {
 fn merges_agree(rt: HostRuntime) -> Result<(), Fail> {
     let mut ours = Cache::new(rt.alloc());
     let mut theirs = Cache::new(rt.alloc());
-    assert!(rt; ours.take(seen(&rt, b"a", 1, FIRST, 1, 100, 300)?)?);
-    assert!(rt; theirs.take(seen(&rt, b"a", 1, SECOND, 1, 200, 10)?)?);
+    assert!(rt; ours.take(seen(&rt, EXAMPLE, 1, FIRST, 1, 100, 300)?)?);
+    assert!(rt; theirs.take(seen(&rt, EXAMPLE, 1, SECOND, 1, 200, 10)?)?);
     theirs.purge(at(150)?);
     assert!(rt; !ours.same(&theirs));
-    assert!(rt; ours.merge(&theirs).is_ok());
+    assert_eq!(rt; theirs.len(), 1);
+    ours.merge(&theirs)?;
     assert_eq!(rt; ours.floor(), at(150)?);
-    assert!(rt; theirs.merge(&ours).is_ok());
+    assert_eq!(rt; ours.len(), 2);
+    theirs.merge(&ours)?;
     assert!(rt; ours.same(&theirs));
-    assert!(rt; ours.merge(&theirs).is_ok());
+    assert_eq!(rt; theirs.len(), 2);
+    ours.merge(&theirs)?;
     assert!(rt; ours.same(&theirs));
     Ok(())
 }
@@ -145,13 +329,34 @@ fn merges_agree(rt: HostRuntime) -> Result<(), Fail> {
 #[test]
 fn what_is_dominated_stays(rt: HostRuntime) -> Result<(), Fail> {
     let mut cache = Cache::new(rt.alloc());
-    assert!(rt; cache.take(seen(&rt, b"a", 1, FIRST, 3, 100, 300)?)?);
-    assert!(rt; cache.take(seen(&rt, b"a", 1, SECOND, 1, 100, 300)?)?);
+    assert!(rt; cache.take(seen(&rt, EXAMPLE, 1, FIRST, 3, 100, 300)?)?);
+    assert!(rt; cache.take(seen(&rt, EXAMPLE, 1, SECOND, 1, 100, 300)?)?);
     let mut ranks = cache.items().map(|item| item.rank());
     assert_eq!(rt; ranks.next(), Some(3));
     assert_eq!(rt; ranks.next(), Some(1));
     assert_eq!(rt; ranks.next(), None);
     cache.purge(at(400)?);
     assert_eq!(rt; cache.items().count(), 0);
+    Ok(())
+}
+
+#[test]
+fn a_cleared_cache_is_as_new(rt: HostRuntime) -> Result<(), Fail> {
+    let new: Cache = Cache::new(rt.alloc());
+    let mut cache = Cache::new(rt.alloc());
+    assert!(rt; cache.is_empty());
+    assert!(rt; cache.take(seen(&rt, EXAMPLE, 1, FIRST, 1, 100, 300)?)?);
+    cache.purge(at(150)?);
+    assert_eq!(rt; (cache.len(), cache.is_empty()), (1, false));
+    cache.clear();
+    assert!(rt; cache.is_empty());
+    assert!(rt; cache.same(&new));
+    assert_eq!(rt; answered(&rt, &cache, EXAMPLE, 1, 110)?, Told::Miss);
+    // What had ended at the old floor is taken again.
+    assert!(rt; cache.take(seen(&rt, EXAMPLE, 1, FIRST, 1, 100, 50)?)?);
+    assert_eq!(rt;
+        answered(&rt, &cache, EXAMPLE, 1, 110)?,
+        Told::Found(0, 1, 40)
+    );
     Ok(())
 }

@@ -1,5 +1,5 @@
 -- Bodies tell what they hold, whatever stands behind them, and have no fault.
-use Rattle.std.proofs.Common.{◌≡◌, ◌≢◌, ℕ, ◌+◌, ◌<◌, ◌≤◌, inl, inr, List, [], ◌∷◌, ◌++◌, length, refl, sym, ap, ◌∙◌, subst, arith, length-append, append_assoc}
+use Rattle.std.proofs.Common.{◌≡◌, ◌≢◌, ℕ, ◌+◌, ◌<◌, inl, inr, List, [], ◌∷◌, ◌++◌, length, refl, sym, ap, ◌∙◌, subst, arith, length-append, append_assoc}
 use Rattle.std.proofs.lemmas.Grind.{flat_map-append}
 use Rattle.std.specs.List.{flat_map}
 use Rattle.fleet_name.specs.Name.{wire, IsUnder}
@@ -7,7 +7,8 @@ use Rattle.fleet_wire.specs.Number.{u16_octets}
 use Rattle.fleet_wire.specs.Shape.{IsPlain}
 use Rattle.fleet_observe.specs.Members.{Has, IsAscending}
 use Rattle.fleet_observe.specs.Body.{sized, positive_body, negative_body, AreRdatas, IsDenial}
-use Rattle.fleet_gossip.specs.Entry.{IsCountOf, AreFirstRdatas}
+use Rattle.fleet_observe.specs.Checks.{IsCountOf}
+use Rattle.fleet_gossip.specs.Entry.{AreFirstRdatas}
 use Rattle.fleet_gossip.specs.Faults.{AnyNumber, RdataFails, cut_rdata, refused_rdata, SizedFails, RdatasFail, rdata_fails, PositiveFails, NegativeFails, owner_fails, stranger, soa_fails, as_body}
 use Rattle.fleet_gossip.specs.declared.fault.FrameFault.{FrameFault}
 use Rattle.fleet_gossip.specs.declared.fault.FrameFault.TheVariants.{Truncated, BadBody}
@@ -150,8 +151,3 @@ module _ (name : List (List ℕ)) where
   one_negative_fault octets f g (soa_fails o r is named under h) (soa_fails o' r' is' named' under' h') =
       let k = name_exact o' o r' r named' named (sym is' ∙ is) in
       one_sized_fault (IsPlain 6) r f g h (subst (λ (x : List ℕ). SizedFails (IsPlain 6) x g) k.1 h')
-
--- no body has more RDATAs than octets
-pub rdatas_le : (ds : List (List ℕ)) → length ds ≤ length (flat_map sized ds)
-rdatas_le [] = omega arith
-rdatas_le (d ∷ ds) = omega (arith, rdatas_le ds, length-append (sized d) (flat_map sized ds))

@@ -11,7 +11,8 @@ use Rattle.fleet_wire.specs.Number.{u16_octets}
 use Rattle.fleet_wire.specs.Shape.{IsPlain}
 use Rattle.fleet_observe.specs.Members.{Has, IsAscending}
 use Rattle.fleet_observe.specs.Body.{sized, positive_body, negative_body, IsPositiveBody, IsNegativeBody}
-use Rattle.fleet_gossip.specs.Entry.{IsCountOf, AreFirstRdatas, IsBodyOf}
+use Rattle.fleet_observe.specs.Checks.{IsCountOf}
+use Rattle.fleet_gossip.specs.Entry.{AreFirstRdatas, IsBodyOf}
 use Rattle.fleet_gossip.specs.Faults.{cut, refused, behind, RdataFails, cut_rdata, refused_rdata, SizedFails, RdatasFail, rdata_fails, NameFails, NegativeFails, owner_fails, stranger, soa_fails, as_body}
 use Rattle.fleet_gossip.specs.Steps.{IsCut, AreTaken, AnyRdata, IsAbove, IsPart, IsSizeOf, AreFirstOf, IsOwnerOf}
 use Rattle.fleet_gossip.specs.declared.fault.FrameFault.{FrameFault}

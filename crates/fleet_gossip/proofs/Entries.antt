@@ -3,8 +3,9 @@ use Rattle.std.proofs.Common.{◌≡◌, ◌≢◌, ℕ, ◌⊎◌, inl, inr, Li
 use Rattle.fleet_name.specs.Name.{wire, IsName}
 use Rattle.fleet_wire.specs.Number.{u16_octets, u32_octets}
 use Rattle.fleet_observe.specs.Body.{positive_body, negative_body, AreRdatas, IsDenial, IsPositiveBody, IsNegativeBody}
-use Rattle.fleet_observe.specs.Fact.{Fact, IsFact, IsRank, IsNegativeRank, IsDataType, IsNegative}
-use Rattle.fleet_gossip.specs.Entry.{octet, u64_octets, entry_octets, IsKind, IsRankOf, IsMoment, IsLifeOf, IsTypeOf}
+use Rattle.fleet_observe.specs.Checks.{IsRankOf, IsLifeOf, IsTypeOf}
+use Rattle.fleet_observe.specs.Fact.{Fact, IsFact, IsRank, IsNegativeRank, IsNegativeKind, IsNegative}
+use Rattle.fleet_gossip.specs.Entry.{octet, u64_octets, entry_octets, IsKind, IsMoment}
 use Rattle.fleet_gossip.specs.Faults.{NamedFails, name_fails, behind_name, BodyFails, TypeFails, LifeFails, StampFails, RankFails, EntryFails}
 use Rattle.fleet_gossip.specs.declared.fault.FrameFault.{FrameFault}
 use Rattle.fleet_gossip.specs.declared.fault.FrameFault.TheVariants.{BadKind, BadRank, BadMoment, BadLife}
@@ -26,26 +27,24 @@ pub record IsEntry (o : Fact) : Type 0 where
 
 -- an observation that is not positive is negative
 module _ (o : Fact) (is : IsFact o) where
+  denial : IsNegativeKind o.kind → IsNegative o
+  denial (inl e) = (is.name_error e).0
+  denial (inr e) = (is.no_data e).0
+
   pub denies : o.kind ≢ 3 → IsNegative o
-  denies other = elim (cases) [ inl e ↦ (is.name_error e).0 | inr e ↦ (is.no_data e).0 ]
+  denies other = denial (cases)
     where
       cases : (o.kind ≡ 1) ⊎ (o.kind ≡ 2)
-      cases = grind (arith, is.kinds, other)
-
-  typed : o.kind ≢ 1 → IsDataType o.rtype
-  typed other = elim (cases) [ inl e ↦ (is.no_data e).1 | inr e ↦ (is.positive e).typed ]
-    where
-      cases : (o.kind ≡ 2) ⊎ (o.kind ≡ 3)
       cases = grind (arith, is.kinds, other)
 
   pub entry_of : IsEntry o
   entry_of = record {
     kind = is.kinds;
-    rank = (λ e. is.rank, λ e. (denies e).rank);
+    rank = (λ e. is.rank, λ e. (denial e).rank);
     stamp = is.stamped;
-    life = (is.life, λ e. (denies e).life);
+    life = (is.life, λ e. (denial e).life);
     name = is.named;
-    rtype = (λ e. (is.name_error e).1, typed);
+    rtype = (λ e. (is.name_error e).1, λ e. (is.no_data e).1, λ e. (is.positive e).typed);
     positive = λ e. (is.positive e).body;
     negative = λ e. (denies e).body;
   }
@@ -58,20 +57,26 @@ pub fact_of : (o : Fact) → IsEntry o → IsFact o
 fact_of o is = record {
   named = is.name;
   kinds = is.kind;
-  rank = elim (kind_cases o.kind is.kind) [ inl e ↦ is.rank.0 e | inr other ↦ negative_rank (is.rank.1 other) ];
+  rank = ranked;
   stamped = is.stamp;
   life = is.life.0;
-  positive = λ e. record { typed = is.rtype.1 (λ e'. omega (arith, e, e')); body = is.positive e };
-  no_data = λ e. (denial (λ e'. omega (arith, e, e')), is.rtype.1 (λ e'. omega (arith, e, e')));
-  name_error = λ e. (denial (λ e'. omega (arith, e, e')), is.rtype.0 e);
+  positive = λ e. record { typed = is.rtype.2 e; body = is.positive e };
+  no_data = λ e. (denial_of (inr e) (λ e'. omega (arith, e, e')), is.rtype.1 e);
+  name_error = λ e. (denial_of (inl e) (λ e'. omega (arith, e, e')), is.rtype.0 e);
 }
   where
     negative_rank : IsNegativeRank o.rank → IsRank o.rank
     negative_rank (inl e) = omega (arith, e)
     negative_rank (inr e) = omega (arith, e)
 
-    denial : o.kind ≢ 3 → IsNegative o
-    denial other = record { rank = is.rank.1 other; life = is.life.1 other; body = is.negative other }
+    cases : o.kind ≢ 3 → (o.kind ≡ 1) ⊎ (o.kind ≡ 2)
+    cases other = grind (arith, is.kind, other)
+
+    ranked : IsRank o.rank
+    ranked = elim (kind_cases o.kind is.kind) [ inl e ↦ is.rank.0 e | inr other ↦ negative_rank (is.rank.1 (cases other)) ]
+
+    denial_of : IsNegativeKind o.kind → o.kind ≢ 3 → IsNegative o
+    denial_of kind other = record { rank = is.rank.1 kind; life = is.life.1 kind; body = is.negative other }
 
 -- an entry, with what stands behind it bracketed to the right
 abbrev pub behind_life : Fact → List ℕ → List ℕ

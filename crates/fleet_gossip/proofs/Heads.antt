@@ -4,9 +4,9 @@ use Rattle.fleet_name.specs.Name.{wire, IsWire}
 use Rattle.fleet_wire.specs.Number.{u16_octets, u32_octets}
 use Rattle.fleet_observe.specs.declared.kind.Kind.{Kind}
 use Rattle.fleet_observe.specs.declared.kind.Kind.TheVariants.{NameError, NoData, Positive}
-use Rattle.fleet_observe.specs.Checks.{denied_kind}
+use Rattle.fleet_observe.specs.Checks.{denied_kind, IsRankOf, IsLifeOf, IsTypeOf}
 use Rattle.fleet_observe.specs.Fact.{Fact, IsFact, kind_number}
-use Rattle.fleet_gossip.specs.Entry.{octet, u64_octets, entry_octets, IsKind, IsRankOf, IsMoment, IsLifeOf, IsTypeOf, IsBodyOf}
+use Rattle.fleet_gossip.specs.Entry.{octet, u64_octets, entry_octets, IsKind, IsMoment, IsBodyOf}
 use Rattle.fleet_gossip.specs.Faults.{behind, NamedFails, behind_name, BodyFails, TypeFails, LifeFails, StampFails, RankFails, EntryFails}
 use Rattle.fleet_gossip.specs.Steps.{IsField, IsHead, IsPart}
 use Rattle.fleet_gossip.specs.Tells.{Tells}

@@ -5,8 +5,9 @@ use Rattle.fleet_name.specs.Name.{frame, wire, lower, IsName, IsUnder}
 use Rattle.fleet_wire.specs.Number.{u16_octets, u32_octets}
 use Rattle.fleet_wire.specs.Shape.{IsPlain}
 use Rattle.fleet_observe.specs.Body.{sized}
+use Rattle.fleet_observe.specs.Checks.{IsRankOf, IsLifeOf, IsTypeOf, IsCountOf}
 use Rattle.fleet_observe.specs.Fact.{Fact, AreFacts}
-use Rattle.fleet_gossip.specs.Entry.{octet, u64_octets, IsKind, IsRankOf, IsMoment, IsLifeOf, IsTypeOf, IsCountOf, AreFirstRdatas}
+use Rattle.fleet_gossip.specs.Entry.{octet, u64_octets, IsKind, IsMoment, AreFirstRdatas}
 use Rattle.fleet_gossip.specs.Frame.{magic, version, entries, frame_octets}
 use Rattle.fleet_gossip.specs.declared.fault.FrameFault.{FrameFault}
 use Rattle.fleet_gossip.specs.declared.fault.FrameFault.TheVariants.{BadMagic, BadVersion, TooLong, Truncated, BadKind, BadRank, BadMoment, BadLife, BadName, BadBody, Trailing, OutOfMemory}

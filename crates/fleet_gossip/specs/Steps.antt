@@ -7,8 +7,9 @@ use Rattle.std.specs.Cmp.Lexicographic.{slice_cmp}
 use Rattle.fleet_name.specs.Name.{frame as framed, wire, lower, IsName, IsUnder}
 use Rattle.fleet_wire.specs.Number.{u16_octets, u32_octets}
 use Rattle.fleet_observe.specs.Body.{sized, positive_body, negative_body}
+use Rattle.fleet_observe.specs.Checks.{IsRankOf, IsLifeOf}
 use Rattle.fleet_observe.specs.Fact.{Fact, AreFacts, kind_number}
-use Rattle.fleet_gossip.specs.Entry.{octet, u64_octets, IsRankOf, IsMoment, IsLifeOf, AreFirstRdatas}
+use Rattle.fleet_gossip.specs.Entry.{octet, u64_octets, IsMoment, AreFirstRdatas}
 use Rattle.fleet_gossip.specs.Frame.{magic, version, entries, frame_octets}
 use Rattle.fleet_gossip.specs.Faults.{FieldFails, IsRoom}
 use Rattle.fleet_gossip.specs.declared.fault.FrameFault.{FrameFault}

@@ -4,23 +4,18 @@ ghost use Rattle.std.specs.Prelude.{◌≡◌, ℕ, ◌≤◌, ◌++◌, ◌∷�
 ghost use Rattle.fleet_name.specs.Name.{wire, IsName, IsWire};
 ghost use Rattle.fleet_observe.specs.Body.{sized, positive_body, IsPositiveBody, IsNegativeBody};
 ghost use Rattle.fleet_observe.specs.Fact.{kind_number};
-ghost use Rattle.fleet_gossip.specs.Entry.{IsCountOf, AreFirstRdatas, IsBodyOf};
+ghost use Rattle.fleet_gossip.specs.Entry.{AreFirstRdatas, IsBodyOf};
 ghost use Rattle.fleet_gossip.specs.Faults.{as_body as told_of_body, SizedFails, RdatasFail, PositiveFails, NegativeFails, BodyFails};
 ghost use Rattle.fleet_gossip.specs.Steps.{AnyRdata, IsAbove, EndWith, IsPart, IsSizeOf, AreFirstOf, IsOwnerOf};
 
 use crate::fault::FrameFault;
 use crate::name::{is_under, read_name};
 use crate::reader::Reader;
-use fleet_observe::Kind;
+use fleet_observe::{Kind, LONGEST_BODY, is_count_of};
 use fleet_wire::plain_rdata;
 
-// The types whose rules differ (RFC 1035 3.2.2).
-const CNAME: u16 = 5;
-
+// The type of the record on whose word a name or data are denied (RFC 1035 3.2.2).
 const SOA: u16 = 6;
-
-// How many octets the body of a positive observation has at most.
-const MAX_BODY: usize = 8192;
 
 /// RDATA behind its length.
 pub(crate) fn read_sized<'a>(reader: &mut Reader<'a>) -> Result<&'a [u8], FrameFault>
@@ -45,23 +40,13 @@ fn is_next(rtype: u16, last: Option<&[u8]>, size: usize, rdata: &[u8]) -> bool
     requires { size ≤ 8192 }
     ensures { (before : List (List ℕ)) → MatchOption last.entry (before ≡ []) (λ r. EndWith before r.now) → AreFirstRdatas rtype before → size ≡ length (positive_body before) → (IsTrue result ↔ AreFirstRdatas rtype (before ++ rdata.now ∷ [])) }
 {
-    if rdata.len() > MAX_BODY || size + 2 + rdata.len() > MAX_BODY {
+    if rdata.len() > LONGEST_BODY || size + 2 + rdata.len() > LONGEST_BODY {
         return false;
     }
     if !is_above(last, rdata) {
         return false;
     }
     plain_rdata(rtype, rdata)
-}
-
-// Whether a type has so many RDATAs: one alone where it is an alias.
-fn is_count_of(rtype: u16, count: u16) -> bool
-    ensures { IsTrue result ↔ IsCountOf rtype count }
-{
-    if count == 0 {
-        return false;
-    }
-    rtype != CNAME || count == 1
 }
 
 // How many octets a body of so many RDATAs has, which are read next.
@@ -87,7 +72,7 @@ fn positive_size(octets: &[u8], rtype: u16) -> Result<usize, FrameFault>
 {
     let mut reader = Reader::new(octets);
     let count = reader.read_u16()?;
-    if !is_count_of(rtype, count) {
+    if !is_count_of(rtype, usize::from(count)) {
         return Err(FrameFault::BadBody);
     }
     read_rdatas(&mut reader, rtype, count)

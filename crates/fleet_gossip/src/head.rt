@@ -1,16 +1,17 @@
 //! The first numbers of an entry: kind, rank, stamp and life.
 
-ghost use Rattle.std.specs.Prelude.{◌↔◌, MatchResult, IsTrue};
+ghost use Rattle.std.specs.Prelude.{MatchResult};
 ghost use Rattle.fleet_wire.specs.Number.{u16_octets, u32_octets};
 ghost use Rattle.fleet_observe.specs.Fact.{kind_number};
-ghost use Rattle.fleet_gossip.specs.Entry.{octet, u64_octets, IsKind, IsRankOf, IsMoment, IsLifeOf, IsTypeOf};
+ghost use Rattle.fleet_observe.specs.Checks.{IsRankOf, IsLifeOf, IsTypeOf};
+ghost use Rattle.fleet_gossip.specs.Entry.{octet, u64_octets, IsKind, IsMoment};
 ghost use Rattle.fleet_gossip.specs.Faults.{EntryFails};
 ghost use Rattle.fleet_gossip.specs.Steps.{IsField, NoField, IsHead};
 ghost use Rattle.fleet_gossip.specs.declared.fault.FrameFault.TheVariants.{BadKind, BadRank, BadMoment, BadLife};
 
 use crate::fault::FrameFault;
 use crate::reader::Reader;
-use fleet_observe::{Kind, Moment, is_data_type};
+use fleet_observe::{Kind, Moment, is_life_of, is_rank_of, is_type_of};
 
 /// The first numbers of an entry.
 #[derive(Clone, Copy, Drop)]
@@ -34,16 +35,6 @@ fn read_kind(reader: &mut Reader<'_>) -> Result<Kind, FrameFault>
     }
 }
 
-fn is_rank_of(kind: Kind, rank: u8) -> bool
-    ensures { IsTrue result ↔ IsRankOf (kind_number kind) rank }
-{
-    match kind {
-        Kind::Positive => rank >= 1 && rank <= 3,
-        Kind::NoData => rank == 1 || rank == 3,
-        Kind::NameError => rank == 1 || rank == 3,
-    }
-}
-
 fn read_rank(reader: &mut Reader<'_>, kind: Kind) -> Result<u8, FrameFault>
     ensures { MatchResult result (λ r. IsField octet (IsRankOf (kind_number kind)) reader.old r reader.new) (NoField octet 1 (IsRankOf (kind_number kind)) BadRank reader.old) }
 {
@@ -61,16 +52,6 @@ fn read_stamp(reader: &mut Reader<'_>) -> Result<Moment, FrameFault>
     match Moment::new(seconds) {
         Some(stamp) => Ok(stamp),
         None => Err(FrameFault::BadMoment),
-    }
-}
-
-fn is_life_of(kind: Kind, life: u32) -> bool
-    ensures { IsTrue result ↔ IsLifeOf (kind_number kind) life }
-{
-    match kind {
-        Kind::Positive => life >= 1 && life <= 86400,
-        Kind::NoData => life >= 1 && life <= 10800,
-        Kind::NameError => life >= 1 && life <= 10800,
     }
 }
 
@@ -98,16 +79,6 @@ pub(crate) fn read_head(reader: &mut Reader<'_>) -> Result<Head, FrameFault>
         stamp,
         life,
     })
-}
-
-fn is_type_of(kind: Kind, rtype: u16) -> bool
-    ensures { IsTrue result ↔ IsTypeOf (kind_number kind) rtype }
-{
-    match kind {
-        Kind::Positive => is_data_type(rtype),
-        Kind::NoData => is_data_type(rtype),
-        Kind::NameError => rtype == 0,
-    }
 }
 
 /// The type of an entry of the kind.

@@ -16,6 +16,8 @@ mod name;
 mod packer;
 mod reader;
 #[cfg(test)]
+mod second_entries;
+#[cfg(test)]
 mod sites;
 #[cfg(test)]
 mod tests;

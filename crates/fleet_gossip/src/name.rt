@@ -1,29 +1,18 @@
 //! A name in an entry.
 
-ghost use Rattle.std.specs.Prelude.{◌≡◌, ℕ, ◌≤◌, ◌↔◌, List, length, IsTrue, IsFalse, MatchResult};
-ghost use Rattle.fleet_name.specs.Name.{wire, lower, IsName, IsUnder, IsWire};
+ghost use Rattle.std.specs.Prelude.{◌≡◌, ℕ, ◌≤◌, ◌↔◌, List, length, IsTrue, MatchResult};
+ghost use Rattle.fleet_name.specs.Name.{wire, IsName, IsUnder, IsWire};
 ghost use Rattle.fleet_gossip.specs.Faults.{LabelFails, NameFails};
 ghost use Rattle.fleet_gossip.specs.Steps.{IsLabelAt, IsPart, IsSizeOf};
 
 use crate::fault::FrameFault;
 use crate::reader::Reader;
+use fleet_name::is_lower;
 
 // How many octets a label, and a name with its zero octet, have at most (RFC 1035 2.3.4).
 const MAX_LABEL: usize = 63;
 
 const MAX_NAME: usize = 255;
-
-fn is_lower(label: &[u8]) -> bool
-    ensures yes { IsTrue result → lower label.now ≡ label.now }
-    ensures no { IsFalse result → lower label.now ≡ label.now → ⊥ }
-{
-    for octet in label {
-        if octet.to_ascii_lowercase() != *octet {
-            return false;
-        }
-    }
-    true
-}
 
 // The label behind others that have `used` octets with a final zero: none of octets is the end of the name.
 fn read_label<'a>(reader: &mut Reader<'a>, used: usize) -> Result<&'a [u8], FrameFault>

@@ -68,16 +68,15 @@ impl<'a> Reader<'a> {
         ensures { MatchResult result (λ n. self.old ≡ u16_octets n ++ self.new) (IsCut 2 self.old) }
     {
         let number = self.take(2)?;
-        Ok(u16::from(number[0]) * 256 + u16::from(number[1]))
+        Ok(u16::from_be_bytes([number[0], number[1]]))
     }
 
     /// A number of four octets.
     pub fn read_u32(&mut self) -> Result<u32, FrameFault>
         ensures { MatchResult result (λ n. self.old ≡ u32_octets n ++ self.new) (IsCut 4 self.old) }
     {
-        let high = self.read_u16()?;
-        let low = self.read_u16()?;
-        Ok(u32::from(high) * 65536 + u32::from(low))
+        let number = self.take(4)?;
+        Ok(u32::from_be_bytes([number[0], number[1], number[2], number[3]]))
     }
 
     /// A number of eight octets.

@@ -1,38 +1,31 @@
 //! Writing entries.
 
-ghost use Rattle.std.specs.Prelude.{◌≡◌, ◌+◌, ◌<◌, ◌≤◌, ◌++◌, length, OnOk};
-ghost use Rattle.std.specs.List.{flat_map};
+ghost use Rattle.std.specs.Prelude.{◌≡◌, ◌≤◌, ◌++◌, length, OnOk};
 ghost use Rattle.fleet_wire.specs.Number.{u16_octets, u32_octets};
-ghost use Rattle.fleet_observe.specs.Body.{sized};
 ghost use Rattle.fleet_observe.specs.Fact.{IsFact};
 ghost use Rattle.fleet_gossip.specs.Entry.{octet, u64_octets, entry_octets};
 ghost use Rattle.fleet_gossip.specs.Frame.{magic, version};
 
 use crate::frame::{MAGIC, VERSION};
-use fleet_name::Octets;
 use fleet_observe::Observation;
 use std::alloc::{AllocError, Allocator};
 
 fn push_u16<A: Allocator>(out: &mut Vec<u8, A>, number: u16) -> Result<(), AllocError>
     ensures { OnOk result (out.new.items ≡ out.old.items ++ u16_octets number) }
 {
-    out.push((number / 256) as u8)?;
-    out.push((number % 256) as u8)?;
-    Ok(())
+    out.extend_from_slice(&number.to_be_bytes())
 }
 
 fn push_u32<A: Allocator>(out: &mut Vec<u8, A>, number: u32) -> Result<(), AllocError>
     ensures { OnOk result (out.new.items ≡ out.old.items ++ u32_octets number) }
 {
-    push_u16(out, (number / 65536) as u16)?;
-    push_u16(out, (number % 65536) as u16)
+    out.extend_from_slice(&number.to_be_bytes())
 }
 
 fn push_u64<A: Allocator>(out: &mut Vec<u8, A>, number: u64) -> Result<(), AllocError>
     ensures { OnOk result (out.new.items ≡ out.old.items ++ u64_octets number) }
 {
-    push_u32(out, (number / 4294967296) as u32)?;
-    push_u32(out, (number % 4294967296) as u32)
+    out.extend_from_slice(&number.to_be_bytes())
 }
 
 /// Magic, version and how many entries there are.
@@ -42,46 +35,6 @@ pub(crate) fn push_opening<A: Allocator>(out: &mut Vec<u8, A>, count: u16) -> Re
     push_u16(out, MAGIC)?;
     out.push(VERSION)?;
     push_u16(out, count)
-}
-
-// Octets behind their length.
-fn push_sized<A: Allocator>(out: &mut Vec<u8, A>, octets: &[u8]) -> Result<(), AllocError>
-    requires { length octets.now < 65536 }
-    ensures { OnOk result (out.new.items ≡ out.old.items ++ sized octets.now) }
-{
-    push_u16(out, octets.len() as u16)?;
-    out.extend_from_slice(octets)
-}
-
-// Each RDATA behind its length.
-fn push_rdatas<A: Allocator>(out: &mut Vec<u8, A>, rdatas: &[Octets<A>]) -> Result<(), AllocError>
-    requires { length (flat_map sized rdatas.now) < 65536 }
-    ensures { OnOk result (out.new.items ≡ out.old.items ++ flat_map sized rdatas.now) }
-{
-    for rdata in rdatas {
-        push_sized(out, rdata.as_slice())?;
-    }
-    Ok(())
-}
-
-// The body of an observation.
-fn push_body<A: Allocator>(
-    out: &mut Vec<u8, A>,
-    observation: &Observation<A>,
-) -> Result<(), AllocError>
-    ensures { OnOk result (out.new.items ≡ out.old.items ++ observation.now.body) }
-{
-    match observation.soa() {
-        Some((owner, rdata)) => {
-            out.extend_from_slice(owner.octets())?;
-            push_sized(out, rdata)
-        }
-        None => {
-            let rdatas = observation.rdatas();
-            push_u16(out, rdatas.len() as u16)?;
-            push_rdatas(out, rdatas)
-        }
-    }
 }
 
 // Kind, rank, stamp and life of an observation.
@@ -107,7 +60,7 @@ pub(crate) fn push_entry<A: Allocator>(
     push_head(out, observation)?;
     out.extend_from_slice(observation.name().octets())?;
     push_u16(out, observation.rtype())?;
-    push_body(out, observation)
+    observation.append_body(out)
 }
 
 /// How many octets the entry of an observation has.

@@ -14,6 +14,12 @@ use std::alloc::{AllocError, Allocator, Global};
 use std::cmp::Ordering;
 use std::marker::Model;
 
+// The most octets of a label (RFC 1035 2.3.4).
+const LONGEST_LABEL: usize = 63;
+
+// The most octets of a name in full (RFC 1035 2.3.4).
+const LONGEST_NAME: usize = 255;
+
 /// A name: its labels in lower case, each of 1 to 63 octets, at most 255 octets in full
 /// (RFC 1035 2.3.4, 3.1). Contracts see it as the list of its labels. It takes one allocation.
 #[derive(Drop)]
@@ -97,10 +103,10 @@ impl<A: Allocator> Name<A> {
         if label.is_empty() {
             return Err(NameFault::EmptyLabel);
         }
-        if label.len() > 63 {
+        if label.len() > LONGEST_LABEL {
             return Err(NameFault::LongLabel);
         }
-        if self.octets.len() + label.len() + 1 > 255 {
+        if self.octets.len() + label.len() + 1 > LONGEST_NAME {
             return Err(NameFault::LongName);
         }
         append_label(&mut self.octets, label)?;
@@ -301,7 +307,7 @@ pub fn is_lower(octets: &[u8]) -> bool
 fn labels_in(octets: &[u8]) -> Option<usize>
     ensures { MatchOption result (IsWire octets.now → ⊥) (λ count. (n : List (List ℕ)) × IsName n × (octets.now ≡ wire n) × (count ≡ length n)) }
 {
-    if octets.len() > 255 {
+    if octets.len() > LONGEST_NAME {
         return None;
     }
     let mut rest = octets;
@@ -316,7 +322,7 @@ fn labels_in(octets: &[u8]) -> Option<usize>
                 None
             };
         }
-        if count > 63 || others.len() < count {
+        if count > LONGEST_LABEL || others.len() < count {
             return None;
         }
         let (label, behind) = others.split_at(count);

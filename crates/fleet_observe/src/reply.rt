@@ -45,7 +45,8 @@ fn is_answered(rcode: u8) -> bool
 /// # Errors
 ///
 /// In this order: `NotReply` where it is no reply or one to a question that is not served; `BadChain` where a walk is
-/// asked for (TC clear, RCODE 0 or 3) and there is none: aliases that fork or loop, or a ninth link; `OutOfMemory`.
+/// asked for (TC clear, RCODE 0 or 3) and there is none: aliases that fork or loop, or a ninth link; `OutOfMemory`, of a
+/// reply with neither of these faults. Each digest copies the question's name.
 pub fn digest<A: Allocator + Copy>(alloc: A, message: &Message<A>) -> Result<Digest<A>, DigestFault>
     ensures { MatchResult result (IsMeaning message.now) (IsFault message.now) }
 {

@@ -55,7 +55,7 @@ impl<A: Allocator> Pending<A> {
     }
 
     /// A waiter asks, at a moment; `word` is where the search for an id begins. The question's class
-    /// is not looked at; that all who wait asked of one class follows by `waiters_stay`.
+    /// is not looked at: where each question was of one class, so is each waiter's (`waiters_stay`).
     ///
     /// An entry with the same name and type, where the same address waits under the same id:
     /// `Again`; where 32 others wait: `WaitersFull`; else `Joined`. No such entry: where 256 are

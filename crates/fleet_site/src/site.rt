@@ -1,6 +1,6 @@
 //! A site.
 
-ghost use Rattle.std.specs.Prelude.{◌≡◌, ℕ, ◌≤◌, max, List, IsTrue, IfOk, IfErr, [], length};
+ghost use Rattle.std.specs.Prelude.{◌≡◌, ◌≢◌, ℕ, ◌≤◌, max, List, IsTrue, IfOk, IfErr, OnErr, [], length};
 ghost use Rattle.fleet_observe.specs.Fact.{Fact};
 ghost use Rattle.fleet_cache.specs.Cached.{IsCached};
 ghost use Rattle.fleet_gossip.specs.Packed.{IsPacked};
@@ -88,7 +88,7 @@ fn sender_of<A: Allocator>(config: &Config<A>, from: Addr) -> Sender
 impl<A: Allocator + Copy> Site<A> {
     /// A site that took nothing in and asks nothing, at the moment 0.
     pub fn new(alloc: A, config: Config<A>) -> Site<A>
-        ensures { (m : SiteModel) → m ≡ opening config.upstreams config.peers → StandsFor result m }
+        ensures opens { StandsFor result (opening config.upstreams config.peers) }
     {
         let cache = Cache::new(alloc);
         let pending = Pending::new(alloc, config.upstreams().len() as u8);
@@ -104,7 +104,8 @@ impl<A: Allocator + Copy> Site<A> {
 
     /// Forgets what it took in and what it asks, and begins at the moment 0 again.
     pub fn restart(&mut self)
-        ensures { (m : SiteModel) → StandsFor self.old m → StandsFor self.new (opening m.upstreams m.peers) }
+        ensures opens { (m : SiteModel) → StandsFor self.old m → StandsFor self.new (opening m.upstreams m.peers) }
+        ensures setting { self.new.setting ≡ self.old.setting }
     {
         self.cache.clear();
         self.pending.clear();
@@ -136,7 +137,8 @@ impl<A: Allocator + Copy> Site<A> {
         bytes: &[u8],
         word: u16,
     ) -> Result<Outcome<A>, SiteFault>
-        ensures { (m : SiteModel) → StandsFor self.old m → Follows m (a_datagram now from bytes.now word) result self.new }
+        ensures follows { (m : SiteModel) → StandsFor self.old m → Follows m (a_datagram now from bytes.now word) result self.new }
+        ensures setting { self.new.setting ≡ self.old.setting }
     {
         self.clock = later(self.clock, now);
         match sender_of(&self.config, from) {
@@ -173,6 +175,7 @@ impl<A: Allocator + Copy> Site<A> {
     /// or after the last all who wait are told so.
     pub fn tick(&mut self, now: Moment) -> Result<Outcome<A>, SiteFault>
         ensures follows { (m : SiteModel) → StandsFor self.old m → Follows m (a_tick now) result self.new }
+        ensures setting { self.new.setting ≡ self.old.setting }
         ensures clock { self.new.clock ≡ max self.old.clock now }
         ensures fewer { IfOk result (λ o. IsTrue o.more → LeavesFewer self.old.outstanding self.new.outstanding self.new.clock) }
     {
@@ -188,7 +191,8 @@ impl<A: Allocator + Copy> Site<A> {
 
     /// Takes a frame's observations in.
     pub fn frame(&mut self, now: Moment, bytes: &[u8]) -> Result<Outcome<A>, SiteFault>
-        ensures { (m : SiteModel) → StandsFor self.old m → Follows m (a_frame now bytes.now) result self.new }
+        ensures follows { (m : SiteModel) → StandsFor self.old m → Follows m (a_frame now bytes.now) result self.new }
+        ensures setting { self.new.setting ≡ self.old.setting }
     {
         self.clock = later(self.clock, now);
         take_frame(self.alloc, &mut self.cache, bytes)
@@ -196,7 +200,8 @@ impl<A: Allocator + Copy> Site<A> {
 
     /// Takes the observations of a reply in. It matches nothing and sends nothing.
     pub fn learn(&mut self, now: Moment, bytes: &[u8]) -> Result<Outcome<A>, SiteFault>
-        ensures { (m : SiteModel) → StandsFor self.old m → Follows m (a_reply now bytes.now) result self.new }
+        ensures follows { (m : SiteModel) → StandsFor self.old m → Follows m (a_reply now bytes.now) result self.new }
+        ensures setting { self.new.setting ≡ self.old.setting }
     {
         self.clock = later(self.clock, now);
         learn_reply(self.alloc, &mut self.cache, self.clock, bytes)
@@ -207,6 +212,7 @@ impl<A: Allocator + Copy> Site<A> {
         ensures answers { (m : SiteModel) → StandsFor self.old m → Answers m now bytes.now result self.new }
         ensures stopped { IfErr result (λ f. f ≡ OutOfMemory 0) }
         ensures memory { IfErr result (λ _. IsAsking bytes.now) }
+        ensures setting { self.new.setting ≡ self.old.setting }
     {
         self.clock = later(self.clock, now);
         match decide(self.alloc, &self.cache, self.clock, bytes)? {
@@ -219,14 +225,16 @@ impl<A: Allocator + Copy> Site<A> {
 
     /// The frames of all that it holds.
     pub fn sweep(&self) -> Result<Vec<Octets<A>, A>, AllocError>
-        ensures { (m : SiteModel) → StandsFor self.now m → IfOk result (λ frames. IsSweep m frames.items) }
+        ensures sweeps { (m : SiteModel) → StandsFor self.now m → IfOk result (λ frames. IsSweep m frames.items) }
+        ensures memory { OnErr result (self.now.cache.items ≢ []) }
     {
         sweep(self.alloc, &self.cache)
     }
 
     /// Takes in all that another site holds, and purges to its floor; says how many observations that were.
     pub fn merge(&mut self, other: &Site<A>) -> Result<usize, SiteFault>
-        ensures { (m : SiteModel) → StandsFor self.old m → (from : SiteModel) → StandsFor other.now from → Gathers m from result self.new }
+        ensures gathers { (m : SiteModel) → StandsFor self.old m → (from : SiteModel) → StandsFor other.now from → Gathers m from result self.new }
+        ensures setting { self.new.setting ≡ self.old.setting }
     {
         let count = other.cache.len();
         match self.cache.merge(&other.cache) {

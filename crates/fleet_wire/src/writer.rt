@@ -30,13 +30,14 @@ fn push_question<A: Allocator, B: Allocator>(
     }
 }
 
-// How many octets a question has.
+// How many octets a question has: its name in full, which has 255 at most, and four.
 fn question_size<A: Allocator>(question: &Option<Question<A>>) -> usize
-    ensures { result ≡ length (question_octets (asked_in question.now)) }
+    ensures size { result ≡ length (question_octets (asked_in question.now)) }
+    ensures short { result ≤ 259 }
 {
     match question {
         None => 0,
-        Some(asked) => asked.spelled.as_slice().len() + 4,
+        Some(asked) => asked.name.octets().len() + 4,
     }
 }
 
@@ -114,11 +115,7 @@ fn is_short<A: Allocator>(
     ensures short { IsTrue result → 12 + body_size (asked_in question.now) (all_told answer.now) (all_told authority.now) ≤ 512 }
     ensures long { IsFalse result → 512 < 12 + body_size (asked_in question.now) (all_told answer.now) (all_told authority.now) }
 {
-    let size = question_size(question);
-    if size > 500 {
-        return false;
-    }
-    let Some(room) = room_after(answer, 500 - size) else {
+    let Some(room) = room_after(answer, 500 - question_size(question)) else {
         return false;
     };
     let Some(_) = room_after(authority, room) else {

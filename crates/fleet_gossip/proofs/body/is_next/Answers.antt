@@ -8,6 +8,6 @@ returns-then-not-is_above c before ends first size =
 
 pub returns : goal.returns
 returns c before ends first size = (
-  λ t. next_from _ _ _ _ first size ((c.is_above.ensures before ends).0 c.if-not-is_above.false) (c.plain_rdata.ensures.0 t) c.if-size-rdata-gt-MAX_BODY.false,
+  λ t. next_from _ _ _ _ first size ((c.is_above.ensures before ends).0 c.if-not-is_above.false) (c.plain_rdata.ensures.0 t) c.if-size-rdata-gt-LONGEST_BODY.false,
   λ l. c.plain_rdata.ensures.1 (next_plain _ _ _ l),
 )

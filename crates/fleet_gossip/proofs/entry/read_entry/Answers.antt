@@ -2,7 +2,7 @@ use Rattle.std.proofs.Common.{refl}
 use Rattle.std.proofs.lemmas.Result.{err_from_is_err_and}
 use Rattle.fleet_wire.specs.Number.{u16_octets}
 use Rattle.fleet_observe.specs.Fact.{kind_number}
-use Rattle.fleet_gossip.specs.Entry.{IsTypeOf}
+use Rattle.fleet_observe.specs.Checks.{IsTypeOf}
 use Rattle.fleet_gossip.specs.Faults.{name_fails, BodyFails}
 use Rattle.fleet_gossip.specs.declared.fault.FrameFault.TheVariants.{BadKind}
 use Rattle.fleet_gossip.proofs.Fields.{field_told}

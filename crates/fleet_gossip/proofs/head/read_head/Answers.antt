@@ -1,7 +1,8 @@
 use Rattle.std.proofs.lemmas.Result.{err_from_is_err_and}
 use Rattle.fleet_wire.specs.Number.{u32_octets}
 use Rattle.fleet_observe.specs.Fact.{kind_number}
-use Rattle.fleet_gossip.specs.Entry.{octet, u64_octets, IsKind, IsRankOf, IsMoment, IsLifeOf}
+use Rattle.fleet_observe.specs.Checks.{IsRankOf, IsLifeOf}
+use Rattle.fleet_gossip.specs.Entry.{octet, u64_octets, IsKind, IsMoment}
 use Rattle.fleet_gossip.specs.Faults.{NamedFails, LifeFails, StampFails, RankFails}
 use Rattle.fleet_gossip.specs.declared.fault.FrameFault.TheVariants.{BadKind, BadRank, BadMoment, BadLife}
 use Rattle.fleet_gossip.proofs.Fields.{field_told}

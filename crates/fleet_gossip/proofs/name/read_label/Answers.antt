@@ -1,3 +1,4 @@
+use mathlib.Core.Bool.{false≢true}
 use Rattle.std.proofs.Common.{inl, inr, arith}
 use Rattle.std.proofs.lemmas.Result.{err_from_is_err_and}
 use Rattle.fleet_gossip.proofs.NameSteps.{label_long, has_room, label_cut, label_capital}
@@ -20,4 +21,4 @@ returns-in_err-label c before e =
 pub returns-then-not-is_lower : goal.returns-then-not-is_lower
 returns-then-not-is_lower c before e =
     let room = has_room before _ _ c.in_ok-read_u8.field-0 c.from-size.result c.in_ok-read_u8.ensures c.from-size.ensures c.if-size-eq0.false (omega arith) (omega (arith, e)) in
-    label_capital before _ _ c.in_ok-read_u8.field-0 c.from-size.result c.in_ok-read_u8.ensures c.from-size.ensures c.if-size-eq0.false _ _ c.in_ok-label.ensures room (c.is_lower.ensures.no c.if-not-is_lower.true)
+    label_capital before _ _ c.in_ok-read_u8.field-0 c.from-size.result c.in_ok-read_u8.ensures c.from-size.ensures c.if-size-eq0.false _ _ c.in_ok-label.ensures room (λ l. false≢true (rw c.if-not-is_lower.true at (c.is_lower.ensures.1 l)))

@@ -3,7 +3,7 @@ use Rattle.std.proofs.lemmas.Bool.Decides.{nat_tests}
 use mathlib.Core.Bool.{false≢true}
 use Rattle.fleet_name.proofs.Whole.{none_left, zero_inside, read, long_label, cut_label, capital, more}
 use Rattle.fleet_name.proofs.name.labels_in.Goals as goal
-use Rattle.fleet_name.proofs.name.labels_in.Goals.{then-count-gt63-via-then-count-gt63, then-count-gt63-via-else-count-gt63+then-others-count}
+use Rattle.fleet_name.proofs.name.labels_in.Goals.{then-count-gt-LONGEST_LABEL-via-then-count-gt-LONGEST_LABEL, then-count-gt-LONGEST_LABEL-via-else-count-gt-LONGEST_LABEL+then-others-count}
 
 -- what is not empty begins with its first octet
 opened : (rest others : List ℕ) → 0 < length rest → others ≡ drop 1 rest → rest ≡ get_or rest 0 0 ∷ others
@@ -22,12 +22,12 @@ returns-else-is_empty c =
     zero_inside _ _ _ c.loop-rest.invariant _ _ (opened c.loop-rest.rest.now c.split_at.result.1.now (omega arith) c.split_at.ensures.back)
     c.if-count-eq0.true (grind (arith, nat_tests, c.is_empty-then-count-eq0.ensures, c.if-is_empty.false))
 
-pub returns-then-count-gt63 : goal.returns-then-count-gt63
-returns-then-count-gt63 c =
+pub returns-then-count-gt-LONGEST_LABEL : goal.returns-then-count-gt-LONGEST_LABEL
+returns-then-count-gt-LONGEST_LABEL c =
     let is = opened c.loop-rest.rest.now c.split_at.result.1.now (omega arith) c.split_at.ensures.back in
-    elim c.then-count-gt63.branch [
-      | then-count-gt63-via-then-count-gt63 w ↦ long_label _ _ _ c.loop-rest.invariant _ _ is (omega (arith, c.if-count-eq0.false)) w.if-count-gt63.true
-      | then-count-gt63-via-else-count-gt63+then-others-count w ↦ cut_label _ _ _ c.loop-rest.invariant _ _ is (omega (arith, c.if-count-eq0.false)) w.if-others-count.true
+    elim c.then-count-gt-LONGEST_LABEL.branch [
+      | then-count-gt-LONGEST_LABEL-via-then-count-gt-LONGEST_LABEL w ↦ long_label _ _ _ c.loop-rest.invariant _ _ is (omega (arith, c.if-count-eq0.false)) w.if-count-gt-LONGEST_LABEL.true
+      | then-count-gt-LONGEST_LABEL-via-else-count-gt-LONGEST_LABEL+then-others-count w ↦ cut_label _ _ _ c.loop-rest.invariant _ _ is (omega (arith, c.if-count-eq0.false)) w.if-others-count.true
     ]
 
 pub returns-then-not-is_lower : goal.returns-then-not-is_lower
