@@ -1,5 +1,4 @@
 mod Numbers
 mod Octets
-mod Rows
-mod AnswerKinds
-mod Readings
+mod Addresses
+mod Apart

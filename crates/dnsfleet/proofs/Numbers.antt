@@ -12,7 +12,7 @@ use Rattle.dnsfleet.specs.Words.{IsNumber, number_of}
 digits_test : IsDigitsTest (λ ds. list_all is_ascii_digit ds ≡ true)
 digits_test = search rules
 
-model : IsNumeralModel (λ ds. list_all is_ascii_digit ds ≡ true) (digits_value 10)
+pub model : IsNumeralModel (λ ds. list_all is_ascii_digit ds ≡ true) (digits_value 10)
 model = numerals_by_value _ digits_test
 
 -- at most 13 digits are parsed as a number, if there are any

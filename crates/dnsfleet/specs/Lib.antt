@@ -1,5 +1,5 @@
 pub mod Words
-pub mod Choice
-pub mod Answering
-pub mod Asking
-pub mod Learning
+pub mod Kinds
+pub mod Fault
+pub mod Settings
+pub mod Fleet

@@ -1,9 +1,11 @@
 //! Why a script ends early.
 
 ghost use Rattle.std.specs.Prelude.{◌≡◌};
+ghost use Rattle.dnsfleet.specs.Fault.{what_of};
 ghost use Rattle.dnsfleet.specs.declared.fault.What.TheVariants.{OutOfMemory};
 
-use std::alloc::{AllocError, AllocFailed};
+use fleet_world::WorldFault;
+use std::alloc::{AllocError, AllocFailed, Allocator};
 use thiserror::Error;
 
 /// What is wrong with a line, in the order in which it is told.
@@ -63,6 +65,19 @@ impl<T: Drop> From<AllocFailed<T>> for What {
 
     fn from(_error: AllocFailed<T>) -> What {
         What::OutOfMemory
+    }
+}
+
+impl<A: Allocator> From<WorldFault<A>> for What {
+    ghost from_gives = { λ f w. w ≡ what_of f };
+
+    fn from(fault: WorldFault<A>) -> What {
+        match fault {
+            WorldFault::NoSite => What::NoSuchSite,
+            WorldFault::NoFrame => What::NoSuchFrame,
+            WorldFault::Memory { .. } => What::OutOfMemory,
+            WorldFault::FramesLost(_) => What::OutOfMemory,
+        }
     }
 }
 

@@ -1,7 +1,7 @@
 //! The lines that a reader gives.
 
 ghost use Rattle.std.specs.Prelude.{◌≡◌, ◌<◌, ◌≤◌, length, vec_len, IfOk};
-ghost use Rattle.dnsfleet.specs.declared.lines.TheConstants.{CHUNK, LONGEST};
+ghost use Rattle.dnsfleet.specs.declared.lines.TheConstants.{CHUNK, LONGEST, MOST_CALLS};
 
 use crate::calls::Calls;
 use crate::fault::What;
@@ -30,7 +30,9 @@ pub struct Lines<'a, R> {
 
 impl<'a, R: Read> Lines<'a, R> {
     /// The lines of a reader, before the first.
-    pub fn new(reader: &'a mut R) -> Lines<'a, R> {
+    pub fn new(reader: &'a mut R) -> Lines<'a, R>
+        ensures { result.calls.left ≡ MOST_CALLS }
+    {
         Lines {
             calls: Calls::new(reader, MOST_CALLS),
             chunk: [0; CHUNK],

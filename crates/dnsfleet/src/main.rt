@@ -1,20 +1,19 @@
 //! A fleet of forwarding DNS caches, run from the command line.
 #![tactic(auto)]
 
-mod asking;
 mod calls;
-mod event;
-#[cfg(test)]
-mod examples;
+mod command;
 mod fault;
-mod learning;
+mod fleet;
+mod help;
 mod lines;
 mod print;
 mod script;
-mod site;
 #[cfg(test)]
 mod tests;
 mod words;
+
+ghost use Rattle.std.specs.Prelude.{◌≡◌, IsOk, IsErr, IfOk};
 
 use clap::{Command, Error};
 pub use fault::{ScriptFault, What};
@@ -24,15 +23,16 @@ use std::process::ExitCode;
 use std::{env, io};
 
 /// The words that the program takes.
-fn command<'a>(alloc: Global) -> Result<Command<'a>, AllocError> {
-    let script = Command::new(alloc, "script").about(
-        "Runs the events of standard input, one a line",
-    );
-    let command = Command::new(alloc, "dnsfleet")
-        .about("A fleet of forwarding DNS caches")
+fn program<'a>(alloc: Global) -> Result<Command<'a>, AllocError> {
+    let script = Command::new(alloc, "script")
+        .about("Runs a script of a fleet: events from standard input, one a line")
+        .after_help(help::SCRIPT);
+    let program = Command::new(alloc, "dnsfleet")
+        .about("A fleet of forwarding DNS caches that gossip")
+        .after_help(help::PROGRAM)
         .subcommand_required(true)
         .subcommand(script)?;
-    Ok(command)
+    Ok(program)
 }
 
 /// The text of a usage fault or of a help page, and the status that goes with it.
@@ -41,11 +41,12 @@ fn explain<R: Print + Eprint>(rt: &R, error: &Error) -> io::Result<ExitCode> {
     Ok(ExitCode::from(error.exit_code() as u8))
 }
 
-/// Runs the lines of standard input.
-fn run_input<R: Input + Print + Eprint + AllocGlobal>(rt: &R) -> io::Result<ExitCode> {
-    let mut reader = rt.reader();
-    let mut writer = io::writer(rt);
-    match run_script(rt.alloc(), &mut reader, &mut writer) {
+/// The status that a script ends with, 1 where a line is at fault, which is told on standard error.
+fn end_script<R: Eprint>(rt: &R, ended: Result<(), ScriptFault>) -> io::Result<ExitCode>
+    ensures done { IsOk ended → IfOk result (λ code. code ≡ ExitCode.SUCCESS) }
+    ensures fault { IsErr ended → IfOk result (λ code. code ≡ ExitCode.FAILURE) }
+{
+    match ended {
         Ok(()) => Ok(ExitCode::SUCCESS),
         Err(fault) => {
             eprintln!(rt; "dnsfleet: {fault}")?;
@@ -54,10 +55,17 @@ fn run_input<R: Input + Print + Eprint + AllocGlobal>(rt: &R) -> io::Result<Exit
     }
 }
 
+/// Runs the lines of standard input.
+fn run_input<R: Input + Print + Eprint + AllocGlobal>(rt: &R) -> io::Result<ExitCode> {
+    let mut reader = rt.reader();
+    let mut writer = io::writer(rt);
+    end_script(rt, run_script(rt.alloc(), &mut reader, &mut writer))
+}
+
 fn main(rt: HostRuntime) -> io::Result<ExitCode> {
     let words: Vec<String> = env::args(&rt)?.collect(rt.alloc())?;
-    let command = command(rt.alloc())?;
-    match command.try_get_matches_from(words.as_slice()) {
+    let program = program(rt.alloc())?;
+    match program.try_get_matches_from(words.as_slice()) {
         Ok(_) => run_input(&rt),
         Err(error) => explain(&rt, &error),
     }

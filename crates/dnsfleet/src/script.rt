@@ -2,65 +2,107 @@
 
 ghost use Rattle.std.specs.Prelude.{◌≡◌, ◌<◌, IfErr};
 
-use crate::event::{Event, read_event};
+use crate::command::{Command, Step, read_command};
 use crate::fault::{ScriptFault, What};
+use crate::fleet::Fleet;
 use crate::lines::Lines;
-use crate::print::{print_learnt, print_looked, print_site};
-use crate::site::Site;
-use std::alloc::{AllocError, Allocator};
+use crate::print::{print_looked, print_same, print_site, print_stepped};
+use crate::words::Hex;
+use fleet_observe::Moment;
+use std::alloc::Allocator;
 use std::io::{self, Read, Write};
 use std::str;
 
-/// A site that lines speak of, and what the line at hand prints.
+/// The fleet that lines speak of, and what the line at hand prints.
 #[derive(Drop)]
 struct Script<A: Allocator> {
     alloc: A,
-    site: Site<A>,
+    fleet: Fleet<A>,
     out: String<A>,
 }
 
-impl<A: Allocator + Clone> Script<A> {
-    /// A new site.
-    fn new(alloc: A) -> Result<Script<A>, AllocError> {
-        let site = Site::new(alloc.clone()?)?;
-        let out = String::new(alloc.clone()?);
-        Ok(Script { alloc, site, out })
+impl<A: Allocator + Copy> Script<A> {
+    /// No line was run.
+    fn new(alloc: A) -> Script<A> {
+        Script {
+            alloc,
+            fleet: Fleet::new(alloc),
+            out: String::new(alloc),
+        }
     }
 
     /// Does what a line asks for, and makes what it prints.
     fn run_line(&mut self, line: &[u8]) -> Result<(), What> {
         self.out.clear();
-        match event_of(line)? {
-            Some(event) => self.run_event(event),
+        match command_of(line)? {
+            Some(command) => self.run_command(command),
             None => Ok(()),
         }
     }
 
-    /// Does what an event asks for, and adds what it prints.
-    fn run_event(&mut self, event: Event<'_>) -> Result<(), What> {
-        check_site(event.site())?;
-        match event {
-            Event::Learn { now, reply, .. } => {
-                let octets = reply.octets(self.alloc.clone()?)?;
-                let learnt = match self.site.learn(now, &octets) {
-                    Ok(learnt) => learnt,
-                    Err(_) => return Err(What::OutOfMemory),
-                };
-                print_learnt(&mut self.out, &learnt)?;
-            }
-            Event::Ask { now, question, .. } => {
-                let octets = question.octets(self.alloc.clone()?)?;
-                let looked = self.site.ask(now, &octets)?;
-                print_looked(&mut self.out, &looked)?;
-            }
-            Event::Show { .. } => print_site(&mut self.out, &self.site)?,
+    /// Does what a line asks for, and adds what it prints.
+    fn run_command(&mut self, command: Command<'_>) -> Result<(), What> {
+        match command {
+            Command::Sites { count } => self.fleet.begin(count),
+            Command::Ask {
+                site,
+                now,
+                question,
+            } => self.ask(site, now, &question),
+            Command::Show { site } => self.show(site),
+            Command::Same { one, other } => self.compare(one, other),
+            Command::Step(step) => self.step(step),
         }
+    }
+
+    /// Asks a site a question.
+    fn ask(&mut self, site: usize, now: Moment, question: &Hex<'_>) -> Result<(), What> {
+        self.fleet.check_site(site)?;
+        let world = self.fleet.world()?;
+        let question = question.octets(self.alloc)?;
+        let looked = world.ask(site, now, question.as_slice())?;
+        print_looked(&mut self.out, &looked)?;
+        Ok(())
+    }
+
+    /// Shows what a site holds.
+    fn show(&mut self, site: usize) -> Result<(), What> {
+        self.fleet.check_site(site)?;
+        let world = self.fleet.world()?;
+        match world.site(site) {
+            Some(site) => print_site(&mut self.out, site)?,
+            None => return Err(What::NoSuchSite),
+        }
+        Ok(())
+    }
+
+    /// Compares two sites.
+    fn compare(&mut self, one: usize, other: usize) -> Result<(), What> {
+        self.fleet.check_site(usize::max(one, other))?;
+        let world = self.fleet.world()?;
+        match (world.site(one), world.site(other)) {
+            (Some(one), Some(other)) => print_same(&mut self.out, one.cache().same(other.cache()))?,
+            _ => return Err(What::NoSuchSite),
+        }
+        Ok(())
+    }
+
+    /// Lets something happen in the world.
+    fn step(&mut self, step: Step<'_>) -> Result<(), What> {
+        self.fleet.check_site(step.site())?;
+        if let Some(frame) = step.frame() {
+            self.fleet.check_frame(frame)?;
+        }
+        let world = self.fleet.world()?;
+        let event = step.event(self.alloc)?;
+        let stepped = world.step(&event)?;
+        print_stepped(&mut self.out, world, &event, &stepped)?;
         Ok(())
     }
 }
 
-/// The event that a line asks for, if any: an empty line and one that begins with `#` ask for none.
-fn event_of(line: &[u8]) -> Result<Option<Event<'_>>, What> {
+/// What a line asks for, if anything: an empty line and one that begins with `#` ask for nothing.
+fn command_of(line: &[u8]) -> Result<Option<Command<'_>>, What> {
     let line = match str::from_utf8(line) {
         Ok(text) => text,
         Err(_) => return Err(What::NotAscii),
@@ -71,20 +113,12 @@ fn event_of(line: &[u8]) -> Result<Option<Event<'_>>, What> {
     if line.is_empty() || line.starts_with('#') {
         return Ok(None);
     }
-    let event = read_event(line)?;
-    Ok(Some(event))
-}
-
-/// There is one site, numbered 0.
-fn check_site(site: u64) -> Result<(), What> {
-    if site != 0 {
-        return Err(What::NoSuchSite);
-    }
-    Ok(())
+    let command = read_command(line)?;
+    Ok(Some(command))
 }
 
 /// Reads and runs one line, and writes what it prints; false where there is no line.
-fn run_next<A: Allocator + Clone, R: Read, W: Write>(
+fn run_next<A: Allocator + Copy, R: Read, W: Write>(
     lines: &mut Lines<'_, R>,
     line: &mut Vec<u8, A>,
     script: &mut Script<A>,
@@ -109,10 +143,11 @@ fn write_text<W: Write>(writer: &mut W, text: &str) -> io::Result<()> {
     writer.flush()
 }
 
-/// Runs the lines of a reader on one new site, numbered 0, and writes what each prints before the next is read.
+/// Runs the lines of a reader on a new fleet, and writes what each prints before the next is read.
 ///
-/// The reader is called at most 4294967295 times, and what comes after that ends as on a fault of the reader.
-pub fn run_script<A: Allocator + Clone, R: Read, W: Write>(
+/// The first line at fault ends it; what earlier lines printed is written then. The reader is called at most 4294967295
+/// times, and what comes after that ends as on a fault of the reader. An interrupted call of the reader is made again.
+pub fn run_script<A: Allocator + Copy, R: Read, W: Write>(
     alloc: A,
     reader: &mut R,
     writer: &mut W,
@@ -120,15 +155,8 @@ pub fn run_script<A: Allocator + Clone, R: Read, W: Write>(
     ensures { IfErr result (λ fault. 0 < fault.line) }
 {
     let mut lines = Lines::new(reader);
-    let (mut line, mut script) = match begin(alloc) {
-        Ok(begun) => begun,
-        Err(_) => {
-            return Err(ScriptFault {
-                line: 1,
-                what: What::OutOfMemory,
-            });
-        }
-    };
+    let mut line = Vec::new(alloc);
+    let mut script = Script::new(alloc);
     for number in 1..u64::MAX {
         match run_next(&mut lines, &mut line, &mut script, writer) {
             Ok(true) => {}
@@ -140,10 +168,4 @@ pub fn run_script<A: Allocator + Clone, R: Read, W: Write>(
         line: u64::MAX,
         what: What::Read,
     })
-}
-
-/// No line, and a new script.
-fn begin<A: Allocator + Clone>(alloc: A) -> Result<(Vec<u8, A>, Script<A>), AllocError> {
-    let line = Vec::new(alloc.clone()?);
-    Ok((line, Script::new(alloc)?))
 }

@@ -1,15 +1,22 @@
 //! The words of a line.
 
-ghost use Rattle.std.specs.Prelude.{◌≡◌, ◌↔◌, ℕ, ◌≤◌, ◌^◌, List, IsTrue, IfOk, MatchOption};
+ghost use Rattle.std.specs.Prelude.{◌≡◌, ◌↔◌, ℕ, ◌<◌, ◌≤◌, ◌^◌, List, IsTrue, IsSome, IfSome, IfOk, MatchOption};
 ghost use Rattle.std.specs.Char.{is_ascii_digit};
 ghost use Rattle.std.specs.List.{AllPass};
 ghost use Rattle.std.specs.Option.{SomeIff};
 ghost use Rattle.hex.specs.Hex.{is_hex_digit};
-ghost use Rattle.dnsfleet.specs.Words.{IsNumber, number_of, SpellsOctets};
+ghost use Rattle.dnsfleet.specs.Words.{IsNumber, number_of, IsPort, SpellsAddress, SpellsOctets};
+ghost use Rattle.fleet_pending.specs.declared.waiter.Addr.{Addr};
 
+use fleet_name::Octets;
 use fleet_observe::Moment;
+use fleet_pending::Addr;
 use std::alloc::{AllocError, Allocator};
 use std::marker::Model;
+use std::net::Ipv4Addr;
+
+/// How many sites there may be.
+pub const MOST_SITES: usize = 9;
 
 /// Whether each octet is a decimal digit.
 fn are_digits(word: &[u8]) -> bool
@@ -26,7 +33,7 @@ fn are_hex_digits(word: &[u8]) -> bool
 }
 
 /// A whole number of 1 to 13 decimal digits.
-pub fn number(word: &str) -> Option<u64>
+pub fn number(word: &str) -> Option<usize>
     ensures { SomeIff result (IsNumber word.now) (number_of word.now) }
 {
     if word.len() > 13 || !are_digits(word.as_bytes()) {
@@ -39,7 +46,58 @@ pub fn number(word: &str) -> Option<u64>
 pub fn moment(word: &str) -> Option<Moment>
     ensures { SomeIff result (IsNumber word.now × (number_of word.now ≤ 2 ^ 40)) (number_of word.now) }
 {
-    Moment::new(number(word)?)
+    Moment::new(number(word)? as u64)
+}
+
+/// How many sites there are: 1 to 9.
+#[derive(Clone, Copy, Debug)]
+pub struct SiteCount {
+    /// The number.
+    pub value: usize,
+    ghost some: { 1 ≤ value },
+    ghost few: { value ≤ 9 },
+}
+
+/// A number of sites: 1 to 9.
+pub fn site_count(word: &str) -> Option<SiteCount>
+    ensures valid { IsSome result ↔ (IsNumber word.now × (1 ≤ number_of word.now) × (number_of word.now ≤ 9)) }
+    ensures value { IfSome result (λ count. count.value ≡ number_of word.now) }
+{
+    let value = number(word)?;
+    if value == 0 || value > MOST_SITES {
+        return None;
+    }
+    Some(SiteCount { value })
+}
+
+/// A number of 16 bits: 0 to 65535.
+pub fn word_of_16_bits(word: &str) -> Option<u16>
+    ensures { SomeIff result (IsNumber word.now × (number_of word.now < 2 ^ 16)) (number_of word.now) }
+{
+    u16::try_from(number(word)?).ok()
+}
+
+/// A port: 1 to 65535, without leading zeros.
+fn port_number(word: &str) -> Option<u16>
+    ensures { SomeIff result (IsPort word.now) (number_of word.now) }
+{
+    if word.starts_with('0') {
+        return None;
+    }
+    word_of_16_bits(word)
+}
+
+/// An address, as `127.0.0.1:5301`: four numbers of 0 to 255 and a port of 1 to 65535, without leading zeros.
+pub fn address(word: &str) -> Option<Addr>
+    ensures { MatchOption result ((addr : Addr) → SpellsAddress word.now addr → ⊥) (λ addr. SpellsAddress word.now addr) }
+{
+    let (host, port) = word.split_once(':')?;
+    let host: Ipv4Addr = host.parse().ok()?;
+    let port = port_number(port)?;
+    Some(Addr {
+        host: host.to_bits(),
+        port,
+    })
 }
 
 /// Octets as a word spells them. Contracts see the octets.
@@ -78,9 +136,12 @@ impl<'a> Hex<'a> {
     }
 
     /// The octets.
-    pub fn octets<A: Allocator>(&self, alloc: A) -> Result<Vec<u8, A>, AllocError>
-        ensures { IfOk result (λ octets. octets.items ≡ self.now) }
+    pub fn octets<A: Allocator>(&self, alloc: A) -> Result<Octets<A>, AllocError>
+        ensures { IfOk result (λ octets. octets ≡ self.now) }
     {
-        hex::decode(alloc, self.digits).map_err(|_| AllocError)
+        match hex::decode(alloc, self.digits) {
+            Ok(octets) => Ok(Octets::new(octets)),
+            Err(_) => Err(AllocError),
+        }
     }
 }

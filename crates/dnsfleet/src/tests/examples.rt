@@ -1,0 +1,52 @@
+//! Scripts with what they print.
+
+use std::alloc::Global;
+use std::test::Fail;
+
+/// A script with what it prints.
+#[derive(Clone, Copy)]
+pub struct Example {
+    /// What it shows.
+    pub shows: &'static str,
+    /// Its lines, each behind `> `, and below each what it prints. `{61*460}` stands for 460 times `61`.
+    pub transcript: &'static str,
+}
+
+impl Example {
+    /// The lines of the script, and what they print.
+    pub fn parts(&self, alloc: Global) -> Result<(String, String), Fail> {
+        let mut lines = String::new(alloc);
+        let mut printed = String::new(alloc);
+        for line in self.transcript.lines() {
+            match line.strip_prefix("> ") {
+                Some(line) => add_line(&mut lines, line)?,
+                None => add_line(&mut printed, line)?,
+            }
+        }
+        Ok((lines, printed))
+    }
+}
+
+/// Adds a line, each repetition in it written out.
+fn add_line(text: &mut String, line: &str) -> Result<(), Fail> {
+    for piece in line.split('{') {
+        match piece.split_once('}') {
+            Some((repeated, rest)) => {
+                add_repeated(text, repeated)?;
+                text.push_str(rest)?;
+            }
+            None => text.push_str(piece)?,
+        }
+    }
+    text.push_str("\n")?;
+    Ok(())
+}
+
+/// Adds octets as often as is said.
+fn add_repeated(text: &mut String, repeated: &str) -> Result<(), Fail> {
+    let (octets, count) = repeated.split_once('*').ok_or("no count")?;
+    for _ in 0..count.parse::<u16>()? {
+        text.push_str(octets)?;
+    }
+    Ok(())
+}

@@ -1,0 +1,25 @@
+-- What an event names: sites and frames, numbered from 0.
+use Rattle.std.specs.Prelude.{ℕ, ◌<◌}
+use Rattle.fleet_world.specs.declared.event.Event.{Event}
+use Rattle.fleet_world.specs.declared.event.Event.TheVariants.{Datagram, Tick, Sweep, Frame, Deliver, Learn, Merge, Restart}
+
+-- the site at which an event happens: of a merge the one that takes
+abbrev pub site_of : {A : Type 0} → Event A → ℕ
+site_of (Datagram site now from word bytes) = site
+site_of (Tick site now) = site
+site_of (Sweep site) = site
+site_of (Frame site now bytes) = site
+site_of (Deliver site now frame) = site
+site_of (Learn site now bytes) = site
+site_of (Merge into from) = into
+site_of (Restart site) = site
+
+-- among so many sites is each one that the event names
+abbrev pub HasSites : {A : Type 0} → ℕ → Event A → Type 0
+HasSites sites (Merge into from) = (into < sites) × (from < sites)
+HasSites sites e = site_of e < sites
+
+-- among so many kept frames is the one that the event names, if it names one
+abbrev pub HasFrame : {A : Type 0} → ℕ → Event A → Type 0
+HasFrame frames (Deliver site now frame) = frame < frames
+HasFrame frames e = Unit {0}

@@ -1,0 +1,36 @@
+//! Frames kept behind others.
+
+ghost use Rattle.std.specs.Prelude.{◌≡◌, ◌+◌, ◌≤◌, ◌++◌, vec_len, vec_capacity, length, IfOk, OnOk};
+ghost use Rattle.fleet_world.specs.FleetModel.{numbers_from};
+
+use fleet_name::Octets;
+use std::alloc::{AllocError, Allocator};
+
+/// Room for so many frames behind the others, and the numbers that they will have.
+pub(crate) fn make_room<A: Allocator + Copy>(
+    alloc: A,
+    frames: &mut Vec<Octets<A>, A>,
+    count: usize,
+) -> Result<Vec<usize, A>, AllocError>
+    ensures same { frames.new.items ≡ frames.old.items }
+    ensures numbered { IfOk result (λ v. v.items ≡ numbers_from (length frames.old.items) count) }
+    ensures room { OnOk result (vec_len frames.new + count ≤ vec_capacity frames.new) }
+{
+    frames.reserve(count)?;
+    let first = frames.len();
+    let mut all = Vec::with_capacity(alloc, count)?;
+    for at in 0..count {
+        all.push_reserved(first + at);
+    }
+    Ok(all)
+}
+
+/// Moves frames behind the others.
+pub(crate) fn append<A: Allocator>(frames: &mut Vec<Octets<A>, A>, kept: Vec<Octets<A>, A>)
+    requires { vec_len frames.old + vec_len kept ≤ vec_capacity frames.old }
+    ensures { frames.new.items ≡ frames.old.items ++ kept.items }
+{
+    for frame in kept {
+        frames.push_reserved(frame);
+    }
+}
