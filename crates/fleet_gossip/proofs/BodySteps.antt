@@ -149,9 +149,6 @@ module _ (name : List (List ℕ)) (octets owner rest : List ℕ) (at : IsPart Is
   owner_spelled : octets ≡ wire at.lawful.name ++ rest
   owner_spelled = at.whole ∙ ap (λ (x : List ℕ). x ++ rest) at.lawful.whole
 
-  pub owner_found : IsUnder name at.lawful.name → IsPart (IsOwnerOf name) octets owner rest
-  owner_found under = record { whole = at.whole; lawful = record { owner = at.lawful.name; named = at.lawful.named; under = under; whole = at.lawful.whole } }
-
   pub owner_stranger : (IsUnder name at.lawful.name → ⊥) → NegativeFails name octets BadBody
   owner_stranger unlike = stranger at.lawful.name rest owner_spelled at.lawful.named unlike refl
 

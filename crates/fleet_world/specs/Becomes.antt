@@ -2,6 +2,7 @@
 use Rattle.std.specs.Prelude.{◌≡◌, ◌≢◌, ℕ, max, List, [], ◌++◌, Option, Some, None, Result, Ok, Err}
 use Rattle.fleet_observe.specs.Fact.{Fact, AreFacts}
 use Rattle.fleet_name.specs.Places.{At}
+use Rattle.fleet_cache.specs.Cached.{IsCached}
 use Rattle.fleet_site.specs.Choice.{when◌then◌otherwise◌}
 use Rattle.fleet_site.specs.Effect.{nothing, effect}
 use Rattle.fleet_site.specs.Merge.{Merges}
@@ -54,6 +55,12 @@ pub record Sweeps {A : Type 0} (o : Outcome A) (a : Replica) : Type 0 where
   pub sweep : IsSweep a.site o.frames
   pub says : effect o ≡ record nothing { frames = o.frames }
 
+-- the site holds something: a sweep of a site that holds nothing needs no memory
+pub record HoldsSome (a : Replica) : Type 0 where
+  pub items : List Fact
+  pub cached : IsCached a.site.taken a.site.floor items
+  pub some : items ≢ []
+
 -- all that another site took in and heard of joins, and so many of its items were given
 pub record MergesAll (m : FleetModel) (from count : ℕ) (a b : Replica) : Type 0 where
   pub other : Replica
@@ -82,7 +89,7 @@ Becomes m (Frame site now bytes) r a b = Calls (frame now bytes) r a b
 Becomes m (Learn site now bytes) r a b = Calls (learn now bytes) r a b
 Becomes m (Deliver site now number) r a b = Delivers m now number r a b
 Becomes m (Sweep site) (Ok o) a b = Sweeps o a × (b ≡ a)
-Becomes m (Sweep site) (Err (OutOfMemory count)) a b = (count ≡ 0) × (b ≡ a)
+Becomes m (Sweep site) (Err (OutOfMemory count)) a b = (count ≡ 0) × (b ≡ a) × HoldsSome a
 Becomes m (Merge into from) (Ok o) a b =
     when into ≡ from then (effect o ≡ nothing) × (b ≡ a) otherwise
     (MergesAll m from o.taken a b × (effect o ≡ record nothing { taken = o.taken }))
