@@ -1,5 +1,5 @@
 -- No address of a script stands twice.
-use Rattle.std.proofs.Common.{◌≡◌, ℕ, zero, suc, ◌+◌, ◌<◌, ◌≤◌, List, [], ◌∷◌, ◌++◌, Some, None, length, Bool, true, false, nat_eq, refl, sym, ap, ◌∙◌, arith, lit≤, cond, length-append, subst}
+use Rattle.std.proofs.Common.{◌≡◌, ℕ, zero, suc, ◌+◌, ◌<◌, ◌≤◌, List, [], ◌∷◌, ◌++◌, Some, None, length, true, false, nat_eq, refl, sym, ap, ◌∙◌, arith, lit≤, cond, length-append, subst}
 use Rattle.std.proofs.lemmas.Option.{same_Some}
 use Rattle.fleet_pending.specs.declared.waiter.Addr.{Addr}
 use Rattle.fleet_name.specs.Places.{At, NoTwo}

@@ -1,5 +1,5 @@
 -- The sites and the frames of a script, once the first event has made them and before.
-use Rattle.std.specs.Prelude.{ℕ, List, length, Option, Some, None}
+use Rattle.std.specs.Prelude.{ℕ, length, Option, Some, None}
 use Rattle.fleet_world.specs.Fleet.{Fleet}
 use Rattle.fleet_world.specs.FleetModel.{opening}
 use Rattle.fleet_world.specs.StandsFor.{StandsFor}

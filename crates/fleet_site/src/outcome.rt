@@ -53,7 +53,7 @@ impl<A: Allocator> Packets<A> {
         ensures value { map sent result.now ≡ self.now }
         ensures len { length result.now ≡ length self.now }
     {
-        &self.items
+        self.items.as_slice()
     }
 
     /// One packet.
@@ -99,11 +99,12 @@ impl<A: Allocator> Frames<A> {
     pub fn into_vec(self) -> Vec<Octets<A>, A>
         ensures { result.items ≡ self }
     {
-        self.items
+        let Frames { items } = self;
+        items
     }
 }
 
-/// Why a site did no more.
+/// Why a site did no more: nothing but its clock has changed. Want of memory is no refusal.
 #[derive(Clone, Copy, Debug, PartialEq, Eq, Error)]
 pub enum Refusal {
     /// No open question waits for the reply.
@@ -126,28 +127,29 @@ pub enum Refusal {
     Dropped,
 }
 
-/// What a step gives.
+/// What a step gives: what is to be sent, and what became of the call.
 #[derive(Drop)]
 pub struct Outcome<A: Allocator = Global> {
     /// What goes to upstreams and to those who asked.
     pub packets: Packets<A>,
     /// What goes to every peer.
     pub frames: Frames<A>,
-    /// How many observations were given to the cache.
+    /// How many observations were given to the cache, whether it kept them or not.
     pub taken: usize,
     /// Why nothing more was done.
     pub refused: Option<Refusal>,
-    /// Whether another open question is due.
+    /// Whether another open question is due; false but for a tick.
     pub more: bool,
 }
 
 /// Why a step was stopped.
 #[derive(Clone, Copy, Debug, PartialEq, Eq, Error)]
 pub enum SiteFault {
-    /// There was no memory for it.
+    /// There was no memory for it. The clock has risen, where the call has a moment, and a tick has purged. Nothing is
+    /// to be sent, and the open questions are as before.
     #[error("out of memory after {taken} observations")]
     OutOfMemory {
-        /// How many observations were taken: just the first ones, in their order.
+        /// How many observations were given to the cache: just the first ones, in their order.
         taken: usize,
     },
 }

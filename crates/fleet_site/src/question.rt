@@ -32,8 +32,11 @@ use std::alloc::{AllocError, Allocator};
 /// When a question came, from whom, and where the search for the id of its query begins.
 #[derive(Clone, Copy)]
 pub(crate) struct Arrival {
+    /// The site's clock.
     pub clock: Moment,
+    /// Who asks.
     pub from: Addr,
+    /// Where the search for an id begins.
     pub word: u16,
 }
 

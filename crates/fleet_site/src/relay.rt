@@ -32,9 +32,13 @@ use std::alloc::{AllocError, Allocator};
 /// All that a reply makes a site write, before its cache or its table changes.
 #[derive(Drop)]
 pub(crate) struct Relay<A: Allocator> {
+    /// The id of the entry that it is for.
     id: u16,
+    /// One for each who waits, in order of joining.
     packets: Packets<A>,
+    /// The observations, packed.
     frames: Frames<A>,
+    /// The observations.
     observed: Vec<Observation<A>, A>,
 }
 
@@ -127,7 +131,9 @@ fn hear_reply<A: Allocator + Copy>(
         Ok(message) => message,
         Err(unheard) => return Err(unheard),
     };
-    let entry = match pending.find(upstream, message.header().id, message.question()) {
+    let id = message.header().id;
+    let question = message.question();
+    let entry = match pending.find(upstream, id, question) {
         Some(entry) => entry,
         None => return Err(Unheard::Refused(Refusal::Unmatched)),
     };
