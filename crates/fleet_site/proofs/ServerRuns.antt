@@ -95,12 +95,12 @@ counts_more a b d r s u h k = record {
   faults = λ n. let y : s.faults ≤ u.faults = k.faults n in let x : r.faults ≤ s.faults = h.faults (omega arith) in omega arith;
   failed = λ n. let y : b ≤ d = k.failed n in let x : a ≤ b = h.failed (omega arith) in omega arith;
   sum = λ l f n.
-    let y : b ≤ d = k.failed n in
-    let v : s.lost ≤ u.lost = k.lost l in
-    let w : s.faults ≤ u.faults = k.faults f in
-    let p : b + (r.lost + r.faults) ≡ a + (s.lost + s.faults) = h.sum (omega arith) (omega arith) (omega arith) in
-    let q : d + (s.lost + s.faults) ≡ b + (u.lost + u.faults) = k.sum l f n in
-    omega arith;
+      let y : b ≤ d = k.failed n in
+      let v : s.lost ≤ u.lost = k.lost l in
+      let w : s.faults ≤ u.faults = k.faults f in
+      let p : b + (r.lost + r.faults) ≡ a + (s.lost + s.faults) = h.sum (omega arith) (omega arith) (omega arith) in
+      let q : d + (s.lost + s.faults) ≡ b + (u.lost + u.faults) = k.sum l f n in
+      omega arith;
 }
 
 counts_same : (a : ℕ) (r q : Report) → q.lost ≡ r.lost → q.faults ≡ r.faults → CountsFailures a a r q
@@ -173,6 +173,8 @@ run_follows ms s every (suc n) a b h m i =
 
 pub serves_follows : (old new : PortState) (ms : Option (ℕ → ℕ)) (s : Stream) (n every : ℕ) (a b : State) (swept : Option ℕ) (r : Report)
     → Serves old new ms s n every a b swept r → FollowsSteps a b
-serves_follows old new ms s n every a b swept r k = record { steps = λ m i.
-    let x = run_follows ms s every n (start_of a) k.end k.run m i in
-    (x.0, x.1, x.2, subst (λ (y : State). StandsFor y x.0) (sym k.is_site) x.3) }
+serves_follows old new ms s n every a b swept r k = record {
+  steps = λ m i.
+      let x = run_follows ms s every n (start_of a) k.end k.run m i in
+      (x.0, x.1, x.2, subst (λ (y : State). StandsFor y x.0) (sym k.is_site) x.3);
+}

@@ -130,7 +130,7 @@ ticking_more old mid new t s u v r q p a k h c e fewer =
     let later : due_at v.outstanding v.clock ≡ due_by v t = ap (due_at v.outstanding) (sym same) in
     let before : due_at u.outstanding v.clock ≡ due_by u t = ap (due_at u.outstanding) e in
     let less : goes_on a ≡ true → (0 < due_by v t) × (due_by v t < due_by u t) =
-      λ i. (let z = fewer i in let x = z.some in let y = z.fewer in (omega arith, omega arith)) in
+    λ i. (let z = fewer i in let x = z.some in let y = z.fewer in (omega arith, omega arith)) in
     record {
       acts = k.acts ++ act ∷ [];
       ticks = next_tick act k.ticks refl;

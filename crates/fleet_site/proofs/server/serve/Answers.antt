@@ -10,7 +10,7 @@ loop-preserved g c =
     let l = left_more _ _ _ c.loop.counter c.next_u32.result c.loop.invariant.stream c.next_u32.ensures in
     record {
       run = serves_more _ _ _ _ _ c.loop.counter c.args.sweep_every c.now-now.result _ c.turn.result c.args.site.now c.loop.site c.turn.new.site c.loop.swept c.loop.report c.turn.new.report c.loop.invariant.run
-        (is_moment _ _ _ c.loop.counter c.now-now.result c.loop.invariant.clock c.now-now.ensures) l.1 c.turn.ensures;
+          (is_moment _ _ _ c.loop.counter c.now-now.result c.loop.invariant.clock c.now-now.ensures) l.1 c.turn.ensures;
       clock = ahead_more _ _ _ c.loop.counter c.now-now.result c.loop.invariant.clock c.now-now.ensures;
       stream = l.0;
     }
