@@ -9,8 +9,12 @@ mod help;
 mod lines;
 mod print;
 mod script;
+mod serve;
+mod settings;
+mod system_clock;
 #[cfg(test)]
 mod tests;
+mod udp_port;
 mod words;
 
 ghost use Rattle.std.specs.Prelude.{◌≡◌, IsOk, IsErr, IfOk};
@@ -18,6 +22,9 @@ ghost use Rattle.std.specs.Prelude.{◌≡◌, IsOk, IsErr, IfOk};
 use clap::{Command, Error};
 pub use fault::{ScriptFault, What};
 pub use script::run_script;
+pub use settings::{Settings, SettingsFault, read_settings};
+pub use system_clock::SystemClock;
+pub use udp_port::UdpPort;
 use std::alloc::{AllocError, Global};
 use std::process::ExitCode;
 use std::{env, io};
@@ -27,11 +34,16 @@ fn program<'a>(alloc: Global) -> Result<Command<'a>, AllocError> {
     let script = Command::new(alloc, "script")
         .about("Runs a script of a fleet: events from standard input, one a line")
         .after_help(help::SCRIPT);
+    let serve = Command::new(alloc, "serve")
+        .about("Serves a site on loopback, for so many turns")
+        .after_help(help::SERVE);
+    let serve = serve::options(alloc, serve)?;
     let program = Command::new(alloc, "dnsfleet")
         .about("A fleet of forwarding DNS caches that gossip")
         .after_help(help::PROGRAM)
         .subcommand_required(true)
-        .subcommand(script)?;
+        .subcommand(script)?
+        .subcommand(serve)?;
     Ok(program)
 }
 
@@ -66,7 +78,10 @@ fn main(rt: HostRuntime) -> io::Result<ExitCode> {
     let words: Vec<String> = env::args(&rt)?.collect(rt.alloc())?;
     let program = program(rt.alloc())?;
     match program.try_get_matches_from(words.as_slice()) {
-        Ok(_) => run_input(&rt),
+        Ok(matches) => match matches.subcommand() {
+            Some(("serve", matches)) => serve::run_server(&rt, serve::Words::of(matches)),
+            _ => run_input(&rt),
+        },
         Err(error) => explain(&rt, &error),
     }
 }
