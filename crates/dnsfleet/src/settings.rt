@@ -1,5 +1,10 @@
 //! What the configuration of a server says.
 
+ghost use Rattle.std.specs.Prelude.{◌≡◌, ◌↔◌, IsTrue, IsFalse, IfOk, Ok, map, option_map};
+ghost use Rattle.toml.specs.Data.{as_array};
+ghost use Rattle.toml.specs.View.{view, table_view, array_view, items_view};
+ghost use Rattle.dnsfleet.specs.Configuration.{ReadsSettings, ReadsTable, HasKeys, IsKey, fault_of, ReadsListen, ReadsUpstreams, ReadsPeers, ReadsSweep, ReadsAddress, ReadsItems, ReadsTexts, are_texts, vec_read};
+
 use crate::words::address;
 use fleet_pending::Addr;
 use fleet_site::{Config, ConfigFault};
@@ -77,7 +82,9 @@ pub struct Settings {
 /// Reads a configuration, a TOML text with the keys `listen`, `upstreams`, `peers` and `sweep`. Of several faults the
 /// first is told, in the order of `SettingsFault`, but that the faults of a value are told key by key; `OutOfMemory` at
 /// the growth that met it.
-pub fn read_settings(alloc: Global, octets: &[u8]) -> Result<Settings, SettingsFault> {
+pub fn read_settings(alloc: Global, octets: &[u8]) -> Result<Settings, SettingsFault>
+    ensures { ReadsSettings octets.now result }
+{
     if octets.len() > LONGEST_CONFIGURATION {
         return Err(SettingsFault::TooLong);
     }
@@ -89,7 +96,9 @@ pub fn read_settings(alloc: Global, octets: &[u8]) -> Result<Settings, SettingsF
 }
 
 /// What a table says.
-fn settings_of(alloc: Global, table: &Table) -> Result<Settings, SettingsFault> {
+fn settings_of(alloc: Global, table: &Table) -> Result<Settings, SettingsFault>
+    ensures { ReadsTable (table_view table.now) result }
+{
     if has_unknown_key(table) {
         return Err(SettingsFault::UnknownKey);
     }
@@ -120,7 +129,9 @@ fn settings_of(alloc: Global, table: &Table) -> Result<Settings, SettingsFault> 
 }
 
 /// Whether a table has a key that no configuration has.
-fn has_unknown_key(table: &Table) -> bool {
+fn has_unknown_key(table: &Table) -> bool
+    ensures { IsFalse result ↔ HasKeys (table_view table.now) }
+{
     for (key, _) in table {
         if !is_known(key.as_str()) {
             return true;
@@ -130,12 +141,16 @@ fn has_unknown_key(table: &Table) -> bool {
 }
 
 /// Whether a key is one of a configuration.
-fn is_known(key: &str) -> bool {
+fn is_known(key: &str) -> bool
+    ensures { IsTrue result ↔ IsKey key.now }
+{
     key == "listen" || key == "upstreams" || key == "peers" || key == "sweep"
 }
 
 /// The fault of upstreams and peers.
-fn config_fault(fault: ConfigFault) -> SettingsFault {
+fn config_fault(fault: ConfigFault) -> SettingsFault
+    ensures { result ≡ fault_of fault }
+{
     match fault {
         ConfigFault::NoUpstream => SettingsFault::NoUpstream,
         ConfigFault::TooManyUpstreams => SettingsFault::TooManyUpstreams,
@@ -145,7 +160,9 @@ fn config_fault(fault: ConfigFault) -> SettingsFault {
 }
 
 /// Where a site listens.
-fn listen_of(value: Option<&Value>) -> Result<Addr, SettingsFault> {
+fn listen_of(value: Option<&Value>) -> Result<Addr, SettingsFault>
+    ensures { ReadsListen (option_map (λ v. view v.now) value.entry) result }
+{
     let Some(value) = value else {
         return Err(SettingsFault::MissingKey);
     };
@@ -162,7 +179,9 @@ fn listen_of(value: Option<&Value>) -> Result<Addr, SettingsFault> {
 }
 
 /// The upstreams, which have to be there.
-fn upstreams_of(alloc: Global, value: Option<&Value>) -> Result<Vec<Addr>, SettingsFault> {
+fn upstreams_of(alloc: Global, value: Option<&Value>) -> Result<Vec<Addr>, SettingsFault>
+    ensures { ReadsUpstreams (option_map (λ v. view v.now) value.entry) (vec_read result) }
+{
     match value {
         Some(value) => addresses_of(alloc, value),
         None => Err(SettingsFault::MissingKey),
@@ -170,7 +189,9 @@ fn upstreams_of(alloc: Global, value: Option<&Value>) -> Result<Vec<Addr>, Setti
 }
 
 /// The peers, if there are any.
-fn peers_of(alloc: Global, value: Option<&Value>) -> Result<Vec<Addr>, SettingsFault> {
+fn peers_of(alloc: Global, value: Option<&Value>) -> Result<Vec<Addr>, SettingsFault>
+    ensures { ReadsPeers (option_map (λ v. view v.now) value.entry) (vec_read result) }
+{
     match value {
         Some(value) => addresses_of(alloc, value),
         None => Ok(Vec::new(alloc)),
@@ -178,7 +199,9 @@ fn peers_of(alloc: Global, value: Option<&Value>) -> Result<Vec<Addr>, SettingsF
 }
 
 /// How many seconds lie between two sweeps.
-fn sweep_of(value: Option<&Value>) -> Result<u32, SettingsFault> {
+fn sweep_of(value: Option<&Value>) -> Result<u32, SettingsFault>
+    ensures { ReadsSweep (option_map (λ v. view v.now) value.entry) result }
+{
     let Some(value) = value else {
         return Ok(USUAL_SWEEP);
     };
@@ -192,7 +215,9 @@ fn sweep_of(value: Option<&Value>) -> Result<u32, SettingsFault> {
 }
 
 /// The address that a text spells.
-fn address_of(value: &Value) -> Result<Addr, SettingsFault> {
+fn address_of(value: &Value) -> Result<Addr, SettingsFault>
+    ensures { ReadsAddress (view value.now) result }
+{
     match value.as_str() {
         Some(text) => address(text).ok_or(SettingsFault::BadAddress),
         None => Err(SettingsFault::WrongKind),
@@ -200,7 +225,9 @@ fn address_of(value: &Value) -> Result<Addr, SettingsFault> {
 }
 
 /// The addresses of a list of texts. That each entry is a text is looked at first.
-fn addresses_of(alloc: Global, value: &Value) -> Result<Vec<Addr>, SettingsFault> {
+fn addresses_of(alloc: Global, value: &Value) -> Result<Vec<Addr>, SettingsFault>
+    ensures { ReadsItems (as_array (view value.now)) (vec_read result) }
+{
     let Some(items) = value.as_array() else {
         return Err(SettingsFault::WrongKind);
     };
@@ -211,12 +238,22 @@ fn addresses_of(alloc: Global, value: &Value) -> Result<Vec<Addr>, SettingsFault
 }
 
 /// Whether each value is a text.
-fn are_texts(items: &[Value]) -> bool {
-    items.iter().all(|item| item.is_str())
+fn are_texts(items: &[Value]) -> bool
+    ensures { result ≡ are_texts (items_view items.now) }
+{
+    for item in items {
+        if !item.is_str() {
+            return false;
+        }
+    }
+    true
 }
 
 /// The addresses that texts spell.
-fn read_addresses(alloc: Global, items: &[Value]) -> Result<Vec<Addr>, SettingsFault> {
+fn read_addresses(alloc: Global, items: &[Value]) -> Result<Vec<Addr>, SettingsFault>
+    requires { IsTrue (are_texts (items_view items.now)) }
+    ensures { ReadsTexts (items_view items.now) (vec_read result) }
+{
     let mut addrs = Vec::new(alloc);
     for item in items {
         match address_of(item) {

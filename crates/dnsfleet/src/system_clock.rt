@@ -1,6 +1,7 @@
 //! The system's clock, in whole seconds.
 
-ghost use Rattle.std.specs.Prelude.{◌≡◌, None};
+ghost use Rattle.std.specs.Prelude.{◌≡◌, ◌/◌, ◌^◌, min, None};
+ghost use Rattle.std.specs.Duration.{as_nanos};
 
 use fleet_observe::Moment;
 use fleet_site::Clock;
@@ -42,6 +43,8 @@ impl<'a, C: time::Clock> Clock for SystemClock<'a, C> {
 }
 
 /// The moment so long after 1970, or the latest.
-fn moment_of(since: Duration) -> Moment {
+fn moment_of(since: Duration) -> Moment
+    ensures { result ≡ min (as_nanos since / 1_000_000_000) (2 ^ 40) }
+{
     Moment::new(since.as_secs().min(LATEST)).unwrap()
 }

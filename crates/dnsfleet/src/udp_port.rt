@@ -1,6 +1,8 @@
 //! A port over the system's UDP socket.
 
-ghost use Rattle.std.specs.Prelude.{◌≡◌, None, IfOk};
+ghost use Rattle.std.specs.Prelude.{◌≡◌, ◌↔◌, IsTrue, Some, None, IfOk};
+ghost use Rattle.fleet_site.specs.PortRecord.{one_more};
+ghost use Rattle.dnsfleet.specs.Socket.{IsQuiet, address_in};
 
 use fleet_pending::Addr;
 use fleet_site::{Port, PortFault};
@@ -48,6 +50,7 @@ impl UdpPort {
 
     /// Counts a call that failed.
     fn count(&mut self)
+        ensures { self.new ≡ record self.old { failed = one_more self.old.failed } }
     {
         self.failed = self.failed.saturating_add(1);
     }
@@ -101,12 +104,16 @@ fn address_of(socket: &UdpSocket) -> Option<Addr> {
 }
 
 /// An address, as the system takes it.
-fn system_addr(addr: Addr) -> SocketAddr {
+fn system_addr(addr: Addr) -> SocketAddr
+    ensures { address_in result ≡ Some addr }
+{
     SocketAddr::V4(SocketAddrV4::new(Ipv4Addr::from_bits(addr.host), addr.port))
 }
 
 /// An address of the system, if it is one of IPv4.
-fn own_addr(addr: SocketAddr) -> Option<Addr> {
+fn own_addr(addr: SocketAddr) -> Option<Addr>
+    ensures { result ≡ address_in addr }
+{
     match addr {
         SocketAddr::V4(addr) => Some(Addr {
             host: addr.ip().to_bits(),
@@ -117,7 +124,9 @@ fn own_addr(addr: SocketAddr) -> Option<Addr> {
 }
 
 /// Whether an error of a receive says that none came in time, or that it was interrupted.
-fn is_no_datagram(kind: ErrorKind) -> bool {
+fn is_no_datagram(kind: ErrorKind) -> bool
+    ensures { IsTrue result ↔ IsQuiet kind }
+{
     matches!(
         kind,
         ErrorKind::WouldBlock | ErrorKind::TimedOut | ErrorKind::Interrupted
