@@ -27,10 +27,10 @@ all_remain all texts = record { keeps = λ more h. h; needs = λ addrs h. (addrs
 
 one_read : (all : Items) (value : Data) (rest : Items) (done : List Addr) (addr : Addr) → Remains all (item value rest) done → ReadsAddress value (Ok addr) → Remains all rest (done ++ addr ∷ [])
 one_read all value rest done addr r h = record {
-    keeps = λ more spell. subst (λ (addrs : List Addr). SpellAddresses all addrs) (sym (append_assoc done (addr ∷ []) more)) (r.keeps (addr ∷ more) (h, spell));
-    needs = λ addrs spell. rest_needed value rest (r.needs addrs spell);
-    texts = (and_parts (is_some (as_str value)) (are_texts rest) r.texts).1;
-  }
+  keeps = λ more spell. subst (λ (addrs : List Addr). SpellAddresses all addrs) (sym (append_assoc done (addr ∷ []) more)) (r.keeps (addr ∷ more) (h, spell));
+  needs = λ addrs spell. rest_needed value rest (r.needs addrs spell);
+  texts = (and_parts (is_some (as_str value)) (are_texts rest) r.texts).1;
+}
   where
     rest_needed : (value : Data) (rest : Items) → (more : List Addr) × SpellAddresses (item value rest) more → (more : List Addr) × SpellAddresses rest more
     rest_needed value rest ([], h) = absurd h

@@ -5,3 +5,6 @@ pub mod Settings
 pub mod Fleet
 pub mod Configuration
 pub mod Socket
+pub mod Key
+pub mod Serving
+pub mod Moments

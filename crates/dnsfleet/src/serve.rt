@@ -1,19 +1,24 @@
 //! The command `serve`: a site on loopback.
 
+ghost use Rattle.std.specs.Prelude.{◌≡◌, ◌⊎◌, List, ℕ, IfOk, IsErr, IsOk, MatchOption};
+ghost use Rattle.std.specs.Process.{exit_status};
+ghost use Rattle.dnsfleet.specs.Key.{SpellsKey};
+ghost use Rattle.dnsfleet.specs.Serving.{ServesNew};
+
 use crate::settings::{LONGEST_CONFIGURATION, Settings, SettingsFault, read_settings};
 use crate::system_clock::SystemClock;
 use crate::udp_port::UdpPort;
 use clap::{Arg, ArgAction, ArgMatches, Command, value_parser};
 use fleet_pending::Addr;
-use fleet_site::{Report, Site};
+use fleet_site::{Clock, Port, Report, Site, serve};
 use rand_chacha::ChaCha20Rng;
 use rand_core::SeedableRng;
 use std::alloc::{AllocError, Global};
 use std::io::{ErrorKind, Read};
 use std::net::Net;
 use std::process::ExitCode;
-use std::rt::{Clock, Files};
-use std::{fmt, fs, io};
+use std::rt::Files;
+use std::{fmt, fs, io, time};
 use thiserror::Error;
 
 /// The words of `serve`, as they were given.
@@ -74,7 +79,9 @@ pub enum ConfigurationFault {
 }
 
 /// The key that 64 hexadecimal digits spell.
-fn key_of(text: &str) -> Option<[u8; 32]> {
+fn key_of(text: &str) -> Option<[u8; 32]>
+    ensures { MatchOption result ((key : List ℕ) → SpellsKey text.now key → ⊥) (λ key. SpellsKey text.now key) }
+{
     let mut key = [0u8; 32];
     match hex::decode_to_slice(text, &mut key) {
         Ok(()) => Some(key),
@@ -92,7 +99,7 @@ fn read_start<R: Files>(rt: &R, alloc: Global, path: &str) -> io::Result<Vec<u8>
 }
 
 /// What the configuration at a path says.
-fn settings_at<R: Files>(
+pub fn settings_at<R: Files>(
     rt: &R,
     alloc: Global,
     path: &str,
@@ -118,7 +125,7 @@ impl fmt::Display for Shown {
 }
 
 /// Prints what a server counted.
-fn print_report<R: Print>(rt: &R, report: &Report) -> io::Result<()> {
+fn print_report<O: Print>(out: &O, report: &Report) -> io::Result<()> {
     let Report {
         turns,
         received,
@@ -128,48 +135,85 @@ fn print_report<R: Print>(rt: &R, report: &Report) -> io::Result<()> {
         refused,
         short,
     } = *report;
-    println!(rt; "turns {turns} received {received} sent {sent} lost {lost} faults {faults} refused {refused} short {short}")
+    println!(out;
+        "turns {turns} received {received} sent {sent} lost {lost} faults {faults} refused {refused} short {short}"
+    )
 }
 
-/// Serves so many turns with these settings, and prints where it listens and what it counted.
-fn serve_site<R: Print + Eprint + Clock + Net + AllocGlobal>(
-    rt: &R,
+/// Serves so many turns with these settings, over any port and clock, with the words of a key.
+fn serve_new<P: Port, C: Clock>(
+    alloc: Global,
+    port: &mut P,
+    clock: &mut C,
     settings: Settings,
     key: [u8; 32],
     turns: u32,
-) -> io::Result<ExitCode> {
-    let Settings {
-        listen,
-        config,
-        sweep,
-    } = settings;
-    let Ok(mut port) = UdpPort::bind(rt, listen) else {
-        eprintln!(rt; "dnsfleet: socket")?;
+) -> Report
+    ensures { ServesNew (P.tells port.old) (P.tells port.new) (C.moments clock.old) key turns settings result }
+{
+    let mut rng = ChaCha20Rng::from_seed(key);
+    let mut site = Site::new(alloc, settings.config);
+    serve(port, clock, &mut rng, &mut site, turns, settings.sweep)
+}
+
+/// Serves so many turns over a socket, and prints where it listens and what it counted.
+fn serve_port<R: time::Clock + AllocGlobal, O: Print>(
+    rt: &R,
+    out: &O,
+    port: &mut UdpPort,
+    settings: Settings,
+    key: [u8; 32],
+    turns: u32,
+) -> io::Result<()> {
+    println!(out; "listening {}", Shown(port.address()))?;
+    let mut clock = SystemClock::new(rt);
+    let report = serve_new(rt.alloc(), port, &mut clock, settings, key, turns);
+    print_report(out, &report)
+}
+
+/// Serves with these settings, if there are any. A fault is told on standard error, and ends with status 1.
+pub fn serve_settings<R: time::Clock + Net + AllocGlobal, O: Print + Eprint>(
+    rt: &R,
+    out: &O,
+    settings: Result<Settings, ConfigurationFault>,
+    key: [u8; 32],
+    turns: u32,
+) -> io::Result<ExitCode>
+    ensures served { IsOk settings → IfOk result (λ code. (exit_status code ≡ 0) ⊎ (exit_status code ≡ 1)) }
+    ensures fault { IsErr settings → IfOk result (λ code. exit_status code ≡ 1) }
+{
+    let settings = match settings {
+        Ok(settings) => settings,
+        Err(fault) => {
+            eprintln!(out; "dnsfleet: config: {fault}")?;
+            return Ok(ExitCode::FAILURE);
+        }
+    };
+    let Ok(mut port) = UdpPort::bind(rt, settings.listen) else {
+        eprintln!(out; "dnsfleet: socket")?;
         return Ok(ExitCode::FAILURE);
     };
-    println!(rt; "listening {}", Shown(port.address()))?;
-    let mut clock = SystemClock::new(rt);
-    let mut rng = ChaCha20Rng::from_seed(key);
-    let mut site = Site::new(rt.alloc(), config);
-    let report = fleet_site::serve(&mut port, &mut clock, &mut rng, &mut site, turns, sweep);
-    print_report(rt, &report)?;
+    serve_port(rt, out, &mut port, settings, key, turns)?;
     Ok(ExitCode::SUCCESS)
 }
 
-/// Serves one site. A fault of the key ends with status 2, every later one with status 1.
-pub fn run_server<R: Files + Print + Eprint + Clock + Net + AllocGlobal>(
+/// Serves one site as the words say. The key is looked at before the configuration; where it is none, the status is 2.
+pub fn run_server<R: Files + time::Clock + Net + AllocGlobal, O: Print + Eprint>(
     rt: &R,
+    out: &O,
     words: Words<'_>,
-) -> io::Result<ExitCode> {
-    let Some(key) = key_of(words.key) else {
-        eprintln!(rt; "dnsfleet: key: 64 hexadecimal digits wanted")?;
-        return Ok(ExitCode::from(2));
-    };
-    match settings_at(rt, rt.alloc(), words.config) {
-        Ok(settings) => serve_site(rt, settings, key, words.turns),
-        Err(fault) => {
-            eprintln!(rt; "dnsfleet: config: {fault}")?;
-            Ok(ExitCode::FAILURE)
+) -> io::Result<ExitCode>
+    ensures bad_key { ((key : List ℕ) → SpellsKey words.entry.key.now key → ⊥) → IfOk result (λ code. exit_status code ≡ 2) }
+    ensures with_key { (key : List ℕ) → SpellsKey words.entry.key.now key → IfOk result (λ code. (exit_status code ≡ 0) ⊎ (exit_status code ≡ 1)) }
+{
+    match key_of(words.key) {
+        Some(key) => {
+            let settings = settings_at(rt, rt.alloc(), words.config);
+            serve_settings(rt, out, settings, key, words.turns)
+        }
+        None => {
+            eprintln!(out; "dnsfleet: key: 64 hexadecimal digits wanted")?;
+            Ok(ExitCode::from(2))
         }
     }
 }

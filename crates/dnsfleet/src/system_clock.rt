@@ -1,12 +1,12 @@
 //! The system's clock, in whole seconds.
 
-ghost use Rattle.std.specs.Prelude.{◌≡◌, ◌/◌, ◌^◌, min, None};
-ghost use Rattle.std.specs.Duration.{as_nanos};
+ghost use Rattle.std.specs.Prelude.{◌≡◌, None};
+ghost use Rattle.dnsfleet.specs.Moments.{moment_in, moment_after};
 
 use fleet_observe::Moment;
 use fleet_site::Clock;
-use std::time;
 use std::time::Duration;
+use std::{io, time};
 
 /// The seconds of the latest moment.
 const LATEST: u64 = 1 << 40;
@@ -29,22 +29,31 @@ impl<'a, C: time::Clock> SystemClock<'a, C> {
             last: moment_of(Duration::ZERO),
         }
     }
-}
 
-impl<'a, C: time::Clock> Clock for SystemClock<'a, C> {
-    ghost moments = { λ _. None };
-
-    fn now(&mut self) -> Moment {
-        if let Ok(since) = self.clock.since_1970() {
+    /// The moment of what was read, which is kept.
+    fn keep(&mut self, read: io::Result<Duration>) -> Moment
+        ensures moment { result ≡ moment_after read self.old.last }
+        ensures kept { self.new.last ≡ result }
+    {
+        if let Ok(since) = read {
             self.last = moment_of(since);
         }
         self.last
     }
 }
 
+impl<'a, C: time::Clock> Clock for SystemClock<'a, C> {
+    ghost moments = { λ _. None };
+
+    fn now(&mut self) -> Moment {
+        let read = self.clock.since_1970();
+        self.keep(read)
+    }
+}
+
 /// The moment so long after 1970, or the latest.
 fn moment_of(since: Duration) -> Moment
-    ensures { result ≡ min (as_nanos since / 1_000_000_000) (2 ^ 40) }
+    ensures { result ≡ moment_in since }
 {
     Moment::new(since.as_secs().min(LATEST)).unwrap()
 }

@@ -49,10 +49,11 @@ impl UdpPort {
     }
 
     /// Counts a call that failed.
-    fn count(&mut self)
+    fn fail(&mut self) -> PortFault
         ensures { self.new ≡ record self.old { failed = one_more self.old.failed } }
     {
         self.failed = self.failed.saturating_add(1);
+        PortFault
     }
 }
 
@@ -63,23 +64,15 @@ impl Port for UdpPort {
     fn recv(&mut self, buffer: &mut [u8]) -> Result<Option<(Addr, usize)>, PortFault> {
         match self.socket.recv_from(buffer) {
             Ok((len, from)) => Ok(own_addr(from).map(|from| (from, len))),
-            Err(error) => {
-                if is_no_datagram(error.kind()) {
-                    return Ok(None);
-                }
-                self.count();
-                Err(PortFault)
-            }
+            Err(error) if is_no_datagram(error.kind()) => Ok(None),
+            Err(_) => Err(self.fail()),
         }
     }
 
     fn send(&mut self, to: Addr, bytes: &[u8]) -> Result<(), PortFault> {
         match self.socket.send_to(bytes, system_addr(to)) {
             Ok(count) if count == bytes.len() => Ok(()),
-            _ => {
-                self.count();
-                Err(PortFault)
-            }
+            _ => Err(self.fail()),
         }
     }
 

@@ -16,15 +16,21 @@ returns-in-Err-upstreams_of c =
 
 pub returns-in-Err-peers_of : goal.returns-in-Err-peers_of
 returns-in-Err-peers_of c =
-    of_peers ((c.if-has_unknown_key.ensures.0 refl, (c.in-Ok.listen, listen_at c.args.table.now.entries (Ok c.in-Ok.listen) c.get.result c.get.ensures.value c.in-Ok.ensures)),
-      (c.in-Ok-upstreams_of.upstreams.items, upstreams_at c.args.table.now.entries (Ok c.in-Ok-upstreams_of.upstreams.items) c.get-2.result c.get-2.ensures.value c.in-Ok-upstreams_of.ensures))
+    of_peers (
+      (c.if-has_unknown_key.ensures.0 refl, (c.in-Ok.listen, listen_at c.args.table.now.entries (Ok c.in-Ok.listen) c.get.result c.get.ensures.value c.in-Ok.ensures)),
+      (c.in-Ok-upstreams_of.upstreams.items, upstreams_at c.args.table.now.entries (Ok c.in-Ok-upstreams_of.upstreams.items) c.get-2.result c.get-2.ensures.value c.in-Ok-upstreams_of.ensures),
+    )
     (peers_at c.args.table.now.entries (Err c.in-Err-peers_of.fault) c.get-3.result c.get-3.ensures.value c.in-Err-peers_of.ensures)
 
 pub returns-in-Err-sweep_of : goal.returns-in-Err-sweep_of
 returns-in-Err-sweep_of c =
-    of_sweep (((c.if-has_unknown_key.ensures.0 refl, (c.in-Ok.listen, listen_at c.args.table.now.entries (Ok c.in-Ok.listen) c.get.result c.get.ensures.value c.in-Ok.ensures)),
-      (c.in-Ok-upstreams_of.upstreams.items, upstreams_at c.args.table.now.entries (Ok c.in-Ok-upstreams_of.upstreams.items) c.get-2.result c.get-2.ensures.value c.in-Ok-upstreams_of.ensures)),
-      (c.in-Ok-peers_of.peers.items, peers_at c.args.table.now.entries (Ok c.in-Ok-peers_of.peers.items) c.get-3.result c.get-3.ensures.value c.in-Ok-peers_of.ensures))
+    of_sweep (
+      (
+        (c.if-has_unknown_key.ensures.0 refl, (c.in-Ok.listen, listen_at c.args.table.now.entries (Ok c.in-Ok.listen) c.get.result c.get.ensures.value c.in-Ok.ensures)),
+        (c.in-Ok-upstreams_of.upstreams.items, upstreams_at c.args.table.now.entries (Ok c.in-Ok-upstreams_of.upstreams.items) c.get-2.result c.get-2.ensures.value c.in-Ok-upstreams_of.ensures),
+      ),
+      (c.in-Ok-peers_of.peers.items, peers_at c.args.table.now.entries (Ok c.in-Ok-peers_of.peers.items) c.get-3.result c.get-3.ensures.value c.in-Ok-peers_of.ensures),
+    )
     (sweep_at c.args.table.now.entries (Err c.in-Err-sweep_of.fault) c.get-4.result c.get-4.ensures.value c.in-Err-sweep_of.ensures)
 
 pub returns-in-Ok-new : goal.returns-in-Ok-new
