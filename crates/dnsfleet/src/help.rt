@@ -34,8 +34,8 @@ Example, a reply with the address of example.com., and a question for it ten sec
 
 /// What `dnsfleet serve --help` says at its end.
 pub const SERVE: &str = "\
-A turn receives at most one datagram, and waits 200 milliseconds for it; so N turns without a datagram last N / 5
-seconds. It prints `listening ADDR`, and after N turns
+A turn receives at most one datagram, and waits 200 milliseconds for it: N turns last N / 5 seconds where none comes,
+and less where some do. It prints `listening ADDR`, and after N turns
 `turns T received R sent S lost L faults F refused X short M`.
 
 Keys of the configuration, a TOML file:
@@ -44,12 +44,12 @@ Keys of the configuration, a TOML file:
   peers      at most 16 addresses that are told what was learnt; none if absent
   sweep      0 to 3600, the seconds between two sweeps of all that is held; 0 is never, 30 if absent
 
-Example, a site that asks the server at port 5301, for an hour at least:
+Example, a site that asks the server at port 5301; with nothing to do it ends after an hour:
   listen = \"127.0.0.1:5400\"
   upstreams = [\"127.0.0.1:5301\"]
 
   dnsfleet serve --config site0.toml --turns 18000 \\
     --key 000102030405060708090a0b0c0d0e0f101112131415161718191a1b1c1d1e1f
 
-The key is for whoever must not guess the identifiers of queries: draw your own and keep it secret. A bad key ends with
-status 2, a bad configuration or an address that can't be bound with status 1, each with a line on standard error.";
+Whoever has the key can guess the identifiers of queries: draw one for each site, and keep it secret. A bad key ends
+with status 2, a bad configuration or an address that can't be bound with status 1, with a line on standard error.";

@@ -11,6 +11,7 @@ use std::alloc::Global;
 use std::cell::Cell;
 use std::io::ErrorKind;
 use std::net::{Ipv4Addr, SocketAddrV4, UdpSocket};
+use std::process::Abort;
 use std::test::Fail;
 use std::time::Duration;
 use std::{io, time};
@@ -47,18 +48,49 @@ fn receive(alloc: Global, socket: &UdpSocket) -> Result<Vec<u8>, Fail> {
     Ok(Vec::from_slice(alloc, &buffer[..len])?)
 }
 
-/// A site with one upstream and one peer.
-fn new_site(alloc: Global, upstream: Addr, peer: Addr) -> Result<Site, Fail> {
-    let upstreams = Vec::from_slice(alloc, &[upstream])?;
-    let peers = Vec::from_slice(alloc, &[peer])?;
-    Ok(Site::new(alloc, Config::new(upstreams, peers)?))
+/// A site on a socket.
+#[derive(Drop)]
+struct Served {
+    port: UdpPort,
+    site: Site,
 }
 
-/// Serves two turns: the datagram that is there, and none.
-fn serve_some(rt: &HostRuntime, port: &mut UdpPort, site: &mut Site) -> Report {
-    let mut clock = SystemClock::new(rt);
-    let mut rng = ChaCha20Rng::from_seed([7; 32]);
-    serve(port, &mut clock, &mut rng, site, 2, 0)
+impl Served {
+    /// A site with one upstream and one peer.
+    fn new(alloc: Global, port: UdpPort, upstream: Addr, peer: Addr) -> Result<Served, Fail> {
+        let upstreams = Vec::from_slice(alloc, &[upstream])?;
+        let peers = Vec::from_slice(alloc, &[peer])?;
+        let site = Site::new(alloc, Config::new(upstreams, peers)?);
+        Ok(Served { port, site })
+    }
+
+    /// Serves two turns: the datagram that is there, and none. So many packets are sent.
+    fn serve<R: Abort + time::Clock>(&mut self, rt: &R, sent: u64) {
+        let mut clock = SystemClock::new(rt);
+        let mut rng = ChaCha20Rng::from_seed([7; 32]);
+        let report = serve(&mut self.port, &mut clock, &mut rng, &mut self.site, 2, 0);
+        let wanted = Report {
+            turns: 2,
+            received: 1,
+            sent,
+            lost: 0,
+            faults: 0,
+            refused: 0,
+            short: 0,
+        };
+        assert_eq!(rt; report, wanted);
+        assert_eq!(rt; self.port.failures(), 0);
+    }
+}
+
+/// Two sites that are each other's peers.
+fn open_sites(rt: &HostRuntime, upstream: Addr) -> Result<(Served, Served), Fail> {
+    let first = UdpPort::bind(rt, loopback(0))?;
+    let second = UdpPort::bind(rt, loopback(0))?;
+    let (here, there) = (first.address(), second.address());
+    let first = Served::new(rt.alloc(), first, upstream, there)?;
+    let second = Served::new(rt.alloc(), second, upstream, here)?;
+    Ok((first, second))
 }
 
 /// The reply to a query: the same header with the bits of a reply and one record, the same question, and the record.
@@ -72,32 +104,30 @@ fn reply_to(alloc: Global, query: &[u8]) -> Result<Vec<u8>, Fail> {
     Ok(reply)
 }
 
+/// The upstream answers the one query that was sent to it.
+fn answer_query(rt: &impl Abort, alloc: Global, stub: &UdpSocket, site: Addr) -> Result<(), Fail> {
+    let query = receive(alloc, stub)?;
+    assert_eq!(rt; query.get(2..), QUESTION.get(2..));
+    let reply = reply_to(alloc, &query)?;
+    send(stub, site, &reply)
+}
+
 #[test]
 fn serves_what_a_peer_learnt(rt: HostRuntime) -> Result<(), Fail> {
     let (client, _) = open(&rt)?;
     let (stub, upstream) = open(&rt)?;
-    let mut first = UdpPort::bind(&rt, loopback(0))?;
-    let mut second = UdpPort::bind(&rt, loopback(0))?;
-    let mut site0 = new_site(rt.alloc(), upstream, second.address())?;
-    let mut site1 = new_site(rt.alloc(), upstream, first.address())?;
-    send(&client, first.address(), QUESTION)?;
-    let report = serve_some(&rt, &mut first, &mut site0);
-    assert_eq!(rt; (report.received, report.sent, report.lost), (1, 1, 0));
-    let query = receive(rt.alloc(), &stub)?;
-    assert_eq!(rt; query.get(2..), QUESTION.get(2..));
-    send(&stub, first.address(), &reply_to(rt.alloc(), &query)?)?;
-    let report = serve_some(&rt, &mut first, &mut site0);
-    assert_eq!(rt; (report.received, report.sent, report.lost), (1, 2, 0));
-    let relayed = receive(rt.alloc(), &client)?;
-    assert_eq!(rt; relayed.as_slice(), ANSWER);
-    let report = serve_some(&rt, &mut second, &mut site1);
-    assert_eq!(rt; (report.received, report.sent, report.refused), (1, 0, 0));
-    send(&client, second.address(), QUESTION)?;
-    let report = serve_some(&rt, &mut second, &mut site1);
-    assert_eq!(rt; (report.received, report.sent, report.lost), (1, 1, 0));
+    let (mut first, mut second) = open_sites(&rt, upstream)?;
+    send(&client, first.port.address(), QUESTION)?;
+    first.serve(&rt, 1);
+    answer_query(&rt, rt.alloc(), &stub, first.port.address())?;
+    first.serve(&rt, 2);
+    assert_eq!(rt; receive(rt.alloc(), &client)?.as_slice(), ANSWER);
+    second.serve(&rt, 0);
+    send(&client, second.port.address(), QUESTION)?;
+    second.serve(&rt, 1);
     let answer = receive(rt.alloc(), &client)?;
     assert!(rt; shows_record(&answer));
-    assert_eq!(rt; (first.failures(), second.failures()), (0, 0));
+    // The upstream was sent nothing more.
     let mut buffer = [0u8; 600];
     stub.set_nonblocking(true)?;
     assert!(rt; stub.recv_from(&mut buffer).is_err());

@@ -216,7 +216,7 @@ fn bounds_its_length(rt: HostRuntime) -> Result<(), Fail> {
         ("=", 65537, Some(SettingsFault::TooLong)),
     ] {
         let mut octets = Vec::from_slice(rt.alloc(), begin.as_bytes())?;
-        while octets.len() < length {
+        for _ in begin.len()..length {
             octets.push(b'\n')?;
         }
         let read = read_settings(rt.alloc(), &octets);
