@@ -205,7 +205,7 @@ def fill(server, data, count, cpus):
     """Asks for each name, until all of a pass are answered at once."""
     began = time.monotonic()
     for _ in range(5):
-        seen = dnsperf(server, data, ["-n", "1", "-q", "10"], cpus, 600)
+        seen = dnsperf(server, data, ["-n", "1", "-q", "20"], cpus, 600)
         if seen["good"] == count and seen["lost"] == 0:
             return time.monotonic() - began
     sys.exit(f"{server} can't be filled:\n{seen['text']}")
