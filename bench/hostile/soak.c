@@ -19,7 +19,7 @@
 #include <time.h>
 #include <unistd.h>
 
-enum { LONGEST = 20000, BURST = 32, WINDOW = 4, ASKERS = 8, KNOWN = 64, TRIES = 20 };
+enum { LONGEST = 20000, BURST = 32, WINDOW = 4, ASKERS = 8, KNOWN = 64, TRIES = 10 };
 
 struct message {
     int length;
@@ -297,7 +297,7 @@ static struct waiting {
     double sent, first;
 } waits[256];
 
-static uint32_t next_id, next_fresh = KNOWN;
+static uint32_t asked_so_far, next_fresh = KNOWN;
 
 static void ask(struct waiting *w) {
     unsigned char octets[64];
@@ -306,13 +306,12 @@ static void ask(struct waiting *w) {
     send_to_site(client, octets, length);
 }
 
+/* Asks for a name, in a place that is free; at most a few are taken at any time. */
 static void begin(uint32_t number) {
-    struct waiting *w = &waits[++next_id % 256];
-    if (w->open) {
-        if (w->number < KNOWN) seen.unanswered++;
-        else seen.fresh_unanswered++;
-    }
-    *w = (struct waiting){.open = 1, .id = next_id % 65536, .number = number, .first = now()};
+    uint32_t place = 0;
+    while (waits[place].open) place++;
+    struct waiting *w = &waits[place];
+    *w = (struct waiting){.open = 1, .id = (++asked_so_far % 256) * 256 + place, .number = number, .first = now()};
     if (number < KNOWN) seen.asked++;
     else seen.fresh++;
     ask(w);
@@ -351,7 +350,7 @@ static void retry(void) {
     double t = now();
     for (int i = 0; i < 256; i++) {
         struct waiting *w = &waits[i];
-        if (!w->open || t - w->sent < (w->number < KNOWN ? 0.2 : 2.5)) continue;
+        if (!w->open || t - w->sent < (w->number < KNOWN ? 0.2 : 1.0)) continue;
         if (++w->tries >= TRIES) {
             w->open = 0;
             if (w->number < KNOWN) seen.unanswered++;
@@ -363,9 +362,10 @@ static void retry(void) {
     }
 }
 
-static int open_known(void) {
+/* How many questions wait, for known names or for fresh ones. */
+static int open_of(int fresh) {
     int count = 0;
-    for (int i = 0; i < 256; i++) count += waits[i].open && waits[i].number < KNOWN;
+    for (int i = 0; i < 256; i++) count += waits[i].open && (waits[i].number >= KNOWN) == fresh;
     return count;
 }
 
@@ -379,7 +379,7 @@ static void turn(void) {
 /* Until fewer questions for known names are open. */
 static void wait_for(int open) {
     double checked = now();
-    while (open_known() > open) {
+    while (open_of(0) > open) {
         struct pollfd wait[2] = {{.fd = client, .events = POLLIN}, {.fd = upstream, .events = POLLIN}};
         poll(wait, 2, 20);
         turn();
@@ -451,11 +451,11 @@ static void run(int pid, double seconds, long most, double began) {
     double told = began;
     for (long round = 0; sent() < most && now() - began < seconds; round++) {
         burst();
-        begin((uint32_t)round % KNOWN);
-        if (round % 32 == 0) begin(next_fresh++);
+        if (open_of(0) < WINDOW) begin((uint32_t)round % KNOWN);
+        if (round % 32 == 0 && open_of(1) < 2 * WINDOW) begin(next_fresh++);
         turn();
         if (!flooding) wait_for(WINDOW - 1);
-        else if (round % 16 == 0) retry();
+        else if (round % 64 == 0) retry();
         if (now() - told > seconds / 8 || (resident(pid) < 0)) {
             tell(pid, began);
             told = now();
@@ -464,7 +464,7 @@ static void run(int pid, double seconds, long most, double began) {
     }
     wait_for(0);
     double end = now();
-    while (now() - end < 3) {
+    while (open_of(1) > 0 && now() - end < 10) {
         turn();
         retry();
         usleep(2000);
