@@ -135,7 +135,7 @@ fn did_alike(one: &Stepped, other: &Stepped) -> bool {
         && one.more == other.more
 }
 
-// What both worlds ask from then on, until all their questions have failed, is the same.
+// What both worlds ask from then on, until all their questions have failed, is the same, and at first there are some.
 fn check_questions(rt: &impl Abort, one: &mut World, other: &mut World) -> Result<(), Fail> {
     let mut seconds = 104;
     for _ in 0..64 {
@@ -143,6 +143,7 @@ fn check_questions(rt: &impl Abort, one: &mut World, other: &mut World) -> Resul
         let tick = Event::Tick { site: 0, now };
         let done = one.step(&tick)?;
         assert!(rt; did_alike(&done, &other.step(&tick)?));
+        assert!(rt; seconds > 104 || !done.packets.as_slice().is_empty());
         if !done.more {
             seconds = seconds.saturating_add(2);
         }
@@ -338,7 +339,7 @@ fn what_is_too_long_changes_nothing(rt: HostRuntime) -> Result<(), Fail> {
     let alloc = rt.alloc();
     let mut twins = new_twins(alloc, HELD)?;
     let mut bytes = HELD.to_vec(alloc)?;
-    while bytes.len() < 16385 {
+    for _ in bytes.len()..16385 {
         bytes.push(0)?;
     }
     for at in (0..bytes.len()).step_by(64) {
