@@ -5,6 +5,8 @@ mod examples;
 mod frames;
 mod questions;
 mod readers;
+mod refused;
+mod refusing;
 
 use crate::{ScriptFault, What, end_script, run_script};
 use datagrams::DATAGRAMS;
