@@ -1,5 +1,6 @@
 //! What is printed, of which no contract speaks, and every fault of a line.
 
+mod bodies;
 mod datagrams;
 mod examples;
 mod frames;

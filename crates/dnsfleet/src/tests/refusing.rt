@@ -2,6 +2,8 @@
 
 use std::alloc::{AllocError, Allocator};
 use std::cell::Cell;
+use std::collections::BTreeMap;
+use std::test::Fail;
 
 /// Calls, of which one is refused.
 #[derive(Drop)]
@@ -55,4 +57,39 @@ unsafe impl<A: Allocator> Allocator for Refusing<A> {
     unsafe fn deallocate(&self, ptr: *mut u8, size: usize, align: usize) {
         self.inner.deallocate(ptr, size, align);
     }
+}
+
+#[test]
+fn refuses_one_call_for_boxes(rt: HostRuntime) -> Result<(), Fail> {
+    for refused in 0..4u64 {
+        let refusing = Refusing::after(rt.alloc(), refused);
+        for call in 1..6u64 {
+            let made = Box::new(&refusing, call);
+            assert_eq!(rt; made.is_err(), call == refused);
+            assert_eq!(rt; refusing.has_refused(), 1 <= refused && refused <= call);
+        }
+    }
+    Ok(())
+}
+
+#[test]
+fn refuses_one_call_for_lists_and_maps(rt: HostRuntime) -> Result<(), Fail> {
+    for refused in 1..9u64 {
+        let refusing = Refusing::after(rt.alloc(), refused);
+        let mut list = Vec::new(&refusing);
+        let mut map = BTreeMap::new(&refusing);
+        let mut faults = 0u64;
+        for key in 0..99u64 {
+            if list.push(key).is_err() {
+                list.push(key)?;
+                faults = faults.saturating_add(1);
+            }
+            if map.insert(key, key).is_err() {
+                map.insert(key, key)?;
+                faults = faults.saturating_add(1);
+            }
+        }
+        assert_eq!(rt; (faults, list.len(), map.len()), (1, 99, 99));
+    }
+    Ok(())
 }
