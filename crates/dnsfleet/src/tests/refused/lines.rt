@@ -132,20 +132,34 @@ fn ended_of<A: Allocator + Copy>(
     }
 }
 
-/// The site and the moment of a line that has both.
-fn moment_of(step: &Step<'_>) -> Option<(usize, Moment)> {
+/// What a want of memory leaves of an event: a frame of the first observations comes to its site, at its moment. A tick
+/// has purged all the same, and a merge has no moment.
+fn part_of_step<A: Allocator>(step: Step<'_>, bytes: Octets<A>) -> Option<Event<A>> {
     match step {
-        Step::Learn { site, now, .. } => Some((*site, *now)),
-        Step::Datagram { site, now, .. } => Some((*site, *now)),
-        Step::Frame { site, now, .. } => Some((*site, *now)),
-        Step::Deliver { site, now, .. } => Some((*site, *now)),
-        Step::Merge { into, .. } => Some((*into, Moment::new(0)?)),
+        Step::Learn { site, now, .. } => Some(Event::Frame { site, now, bytes }),
+        Step::Datagram { site, now, .. } => Some(Event::Frame { site, now, bytes }),
+        Step::Frame { site, now, .. } => Some(Event::Frame { site, now, bytes }),
+        Step::Deliver { site, now, .. } => Some(Event::Frame { site, now, bytes }),
+        Step::Tick { site, now } => Some(Event::Tick { site, now }),
+        Step::Merge { into, .. } => Some(Event::Frame {
+            site: into,
+            now: Moment::new(0)?,
+            bytes,
+        }),
         _ => None,
     }
 }
 
-/// Does what a want of memory after so many observations leaves of a line: a frame of them comes to the site, at the
-/// moment of the line. A tick has purged all the same, and a merge has no moment.
+/// What a want of memory leaves of a line, if anything.
+fn part_of_command<A: Allocator>(command: Command<'_>, bytes: Octets<A>) -> Option<Event<A>> {
+    match command {
+        Command::Ask { site, now, .. } => Some(Event::Frame { site, now, bytes }),
+        Command::Step(step) => part_of_step(step, bytes),
+        _ => None,
+    }
+}
+
+/// Does what a want of memory after so many observations leaves of a line.
 pub fn run_part<A: Allocator + Copy>(
     world: &mut World<A>,
     alloc: A,
@@ -153,19 +167,8 @@ pub fn run_part<A: Allocator + Copy>(
     taken: usize,
 ) -> Result<(), Fail> {
     let bytes = Octets::copy_of(alloc, part_of(line, taken).ok_or("more than it brings")?)?;
-    match read_command(line)? {
-        Command::Ask { site, now, .. } => {
-            world.step(&Event::Frame { site, now, bytes })?;
-        }
-        Command::Step(Step::Tick { site, now }) => {
-            world.step(&Event::Tick { site, now })?;
-        }
-        Command::Step(step) => {
-            if let Some((site, now)) = moment_of(&step) {
-                world.step(&Event::Frame { site, now, bytes })?;
-            }
-        }
-        _ => {}
+    if let Some(event) = part_of_command(read_command(line)?, bytes) {
+        world.step(&event)?;
     }
     Ok(())
 }
