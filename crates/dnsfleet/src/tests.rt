@@ -1,11 +1,14 @@
 //! What is printed, of which no contract speaks, and every fault of a line.
 
+mod bodies;
 mod datagrams;
 mod examples;
 mod frames;
 mod loopback;
 mod questions;
 mod readers;
+mod refused;
+mod refusing;
 mod serving;
 mod settings;
 mod told;

@@ -1,0 +1,217 @@
+//! One call for memory refused, each in turn. A want of memory is told where a call was refused, and nowhere else; the
+//! sites then hold the first observations of the step, and all else is as before; and the step done again is as if
+//! nothing had been.
+
+mod lines;
+mod parts;
+mod runs;
+mod scripts;
+mod served;
+mod sites;
+
+use crate::What;
+use crate::fleet::Fleet;
+use crate::tests::refusing::Refusing;
+use lines::{
+    Ended, Line, begin, example_of, fleet_after, has_same_sites, keeps_same_frames, lines_of,
+    run_line, run_part, without_frames,
+};
+use std::alloc::{Allocator, Global};
+use std::process::Abort;
+use std::test::Fail;
+
+/// More calls for memory than any of the examples makes.
+const MANY: u64 = 65536;
+
+/// A reply with two aliases and a denial, and what is asked of them.
+const DENIAL: &str =
+    "a name error behind two aliases denies the last target, for each type but the alias itself";
+
+/// What the examples show that are run with a call refused.
+const REFUSED: [&str; 6] = [
+    "a reply is learnt, and answers ten seconds later with a TTL that is ten less",
+    DENIAL,
+    "sites that took in the same hold the same, whatever came twice or out of order, once both are purged",
+    "all who wait are answered, a question asked again counts once, and a reply from elsewhere matches nothing",
+    "a question goes to the next upstream after two seconds, and fails after the last",
+    "a site takes in all that another holds, and its floor",
+];
+
+/// How often a call was refused at a line that then told a want of memory: after no observation, after some, and when
+/// all was done but the keeping of frames.
+#[derive(Clone, Copy, Debug)]
+struct Met {
+    short: u64,
+    partly: u64,
+    lost: u64,
+}
+
+impl Met {
+    /// Nothing was refused yet.
+    fn new() -> Met {
+        Met {
+            short: 0,
+            partly: 0,
+            lost: 0,
+        }
+    }
+
+    /// Counts a line that was stopped after so many observations.
+    fn count(&mut self, taken: usize) {
+        if taken == 0 {
+            self.short = self.short.saturating_add(1);
+        } else {
+            self.partly = self.partly.saturating_add(1);
+        }
+    }
+
+    /// Counts a line whose frames were not kept.
+    fn count_lost(&mut self) {
+        self.lost = self.lost.saturating_add(1);
+    }
+}
+
+/// Makes the sites of an example, a second time where a call was refused.
+fn begin_refused(
+    rt: &impl Abort,
+    fleet: &mut Fleet<&Refusing<Global>>,
+    refusing: &Refusing<Global>,
+    first: &str,
+) -> Result<(), Fail> {
+    let begun = begin(fleet, first);
+    assert_eq!(rt; begun.is_err(), refusing.has_refused());
+    if let Err(what) = begun {
+        assert_eq!(rt; what, What::OutOfMemory);
+        begin(fleet, first)?;
+    }
+    Ok(())
+}
+
+/// Checks a fleet after a line that found no memory, and does the line again.
+fn check_short<A: Allocator + Copy>(
+    rt: &impl Abort,
+    alloc: A,
+    fleet: &mut Fleet<A>,
+    before: &mut Fleet<A>,
+    line: &Line<'_>,
+    taken: usize,
+) -> Result<(), Fail> {
+    let shows = line.text;
+    run_part(before.world()?, alloc, line.text, taken)?;
+    assert!(rt;
+        has_same_sites(fleet.world()?, before.world()?),
+        "{shows} after {taken}"
+    );
+    assert!(rt;
+        keeps_same_frames(fleet.world()?, before.world()?),
+        "{shows} after {taken}"
+    );
+    match run_line(fleet.world()?, alloc, line.text)? {
+        Ended::Done(text) => assert_eq!(rt; text.as_str(), line.prints, "{shows}"),
+        _ => return Err("no memory twice".into()),
+    }
+    Ok(())
+}
+
+/// Checks a fleet after a line that was done, and whose frames were not kept.
+fn check_lost<A: Allocator + Copy>(
+    rt: &impl Abort,
+    alloc: A,
+    fleet: &mut Fleet<A>,
+    before: &mut Fleet<A>,
+    line: &Line<'_>,
+    text: &str,
+) -> Result<(), Fail> {
+    let shows = line.text;
+    let told = without_frames(alloc, text)?;
+    let wanted = without_frames(alloc, line.prints)?;
+    assert_eq!(rt; told.as_str(), wanted.as_str(), "{shows}");
+    assert!(rt;
+        keeps_same_frames(fleet.world()?, before.world()?),
+        "{shows}"
+    );
+    run_line(before.world()?, alloc, line.text)?;
+    assert!(rt; has_same_sites(fleet.world()?, before.world()?), "{shows}");
+    Ok(())
+}
+
+/// Does the lines of an example with a call refused, and says whether that call was made.
+fn run_refused(
+    rt: &impl Abort,
+    alloc: Global,
+    lines: &[Line<'_>],
+    call: u64,
+    met: &mut Met,
+) -> Result<bool, Fail> {
+    let ample = Refusing::after(alloc, 0);
+    let refusing = Refusing::after(alloc, call);
+    let first = lines.first().ok_or("no line")?.text;
+    let mut fleet = Fleet::new(&refusing);
+    begin_refused(rt, &mut fleet, &refusing, first)?;
+    for (place, line) in lines.iter().enumerate() {
+        let had_refused = refusing.has_refused();
+        let ended = run_line(fleet.world()?, &ample, line.text)?;
+        let is_done = matches!(&ended, Ended::Done(_));
+        assert_eq!(rt; is_done, refusing.has_refused() == had_refused);
+        match ended {
+            Ended::Done(text) => assert_eq!(rt; text.as_str(), line.prints),
+            Ended::Short(taken) => {
+                met.count(taken);
+                let mut before = fleet_after(&ample, first, &lines[..place])?;
+                check_short(rt, &ample, &mut fleet, &mut before, line, taken)?;
+            }
+            Ended::Lost(text) => {
+                met.count_lost();
+                let mut before = fleet_after(&ample, first, &lines[..place])?;
+                check_lost(rt, &ample, &mut fleet, &mut before, line, text.as_str())?;
+                return Ok(true);
+            }
+        }
+    }
+    Ok(refusing.has_refused())
+}
+
+/// Does the lines of a transcript with each call refused in turn, until one is not made.
+fn refuse_each(
+    rt: &impl Abort,
+    alloc: Global,
+    transcript: &str,
+    met: &mut Met,
+) -> Result<(), Fail> {
+    let lines = lines_of(alloc, transcript)?;
+    for call in 1..MANY {
+        if !run_refused(rt, alloc, &lines, call, met)? {
+            return Ok(());
+        }
+    }
+    Err("refused each time".into())
+}
+
+/// A transcript that begins with so many other observations, one for each digit.
+fn after_others(alloc: Global, count: u8, transcript: &str) -> Result<String, Fail> {
+    let mut text = format!(in alloc; "> frame 0 100 44470100{count:02x}")?;
+    for digit in 0..count {
+        write!(
+            text,
+            "030100000000000000640000012c013{digit}00000100010004c0000201"
+        )?;
+    }
+    write!(text, "\ntaken {count}\n{transcript}")?;
+    Ok(text)
+}
+
+#[test]
+fn a_line_without_memory_is_done_again(rt: HostRuntime) -> Result<(), Fail> {
+    let mut met = Met::new();
+    for shows in REFUSED {
+        let example = example_of(shows).ok_or("no example")?;
+        refuse_each(&rt, rt.alloc(), example.transcript, &mut met)?;
+    }
+    let denial = example_of(DENIAL).ok_or("no example")?;
+    for count in 1..5u8 {
+        let text = after_others(rt.alloc(), count, denial.transcript)?;
+        refuse_each(&rt, rt.alloc(), text.as_str(), &mut met)?;
+    }
+    assert!(rt; met.short > 0 && met.partly > 0 && met.lost > 0, "{met:?}");
+    Ok(())
+}

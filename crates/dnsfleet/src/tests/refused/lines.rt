@@ -1,0 +1,232 @@
+//! Lines of examples, done one by one on a fleet, and what a want of memory leaves of each.
+
+use crate::What;
+use crate::command::{Command, Step, read_command};
+use crate::fleet::Fleet;
+use crate::print::{print_looked, print_same, print_site, print_stepped};
+use crate::tests::datagrams::DATAGRAMS;
+use crate::tests::examples::Example;
+use crate::tests::frames::FRAMES;
+use crate::tests::questions::QUESTIONS;
+use crate::tests::refused::parts::part_of;
+use fleet_name::Octets;
+use fleet_observe::Moment;
+use fleet_world::{Event, Stepped, World, WorldFault};
+use std::alloc::{AllocError, Allocator, Global};
+use std::test::Fail;
+
+/// A line of an example, and what it prints.
+#[derive(Clone, Copy)]
+pub struct Line<'a> {
+    /// The line.
+    pub text: &'a str,
+    /// What it prints.
+    pub prints: &'a str,
+}
+
+/// The example that shows this.
+pub fn example_of(shows: &str) -> Option<Example> {
+    for examples in [&QUESTIONS[..], &DATAGRAMS[..], &FRAMES[..]] {
+        for example in examples {
+            if example.shows == shows {
+                return Some(*example);
+            }
+        }
+    }
+    None
+}
+
+/// The lines of a transcript.
+pub fn lines_of<'a>(alloc: Global, transcript: &'a str) -> Result<Vec<Line<'a>>, AllocError> {
+    let mut lines = Vec::new(alloc);
+    for part in transcript.split("> ") {
+        if let Some((text, prints)) = part.split_once('\n') {
+            lines.push(Line { text, prints })?;
+        }
+    }
+    Ok(lines)
+}
+
+/// What became of a line.
+#[derive(Drop)]
+pub enum Ended<A: Allocator> {
+    /// It was done, and prints this.
+    Done(String<A>),
+    /// It found no memory, after so many observations.
+    Short(usize),
+    /// It was done, and prints this, but its frames were not kept.
+    Lost(String<A>),
+}
+
+/// Makes the sites of an example: as many as its first line says, or one.
+pub fn begin<A: Allocator + Copy>(fleet: &mut Fleet<A>, first: &str) -> Result<(), What> {
+    if let Command::Sites { count } = read_command(first)? {
+        return fleet.begin(count);
+    }
+    fleet.world()?;
+    Ok(())
+}
+
+/// Does a line.
+pub fn run_line<A: Allocator + Copy>(
+    world: &mut World<A>,
+    alloc: A,
+    line: &str,
+) -> Result<Ended<A>, Fail> {
+    let mut out = String::new(alloc);
+    match read_command(line)? {
+        Command::Sites { .. } => {}
+        Command::Ask {
+            site,
+            now,
+            question,
+        } => {
+            let question = question.octets(alloc)?;
+            match world.ask(site, now, question.as_slice()) {
+                Ok(looked) => print_looked(&mut out, &looked)?,
+                Err(WorldFault::Memory { taken }) => return Ok(Ended::Short(taken)),
+                Err(fault) => return Err(fault.into()),
+            }
+        }
+        Command::Show { site } => print_site(&mut out, world.site(site).ok_or("no site")?)?,
+        Command::Same { one, other } => {
+            let one = world.site(one).ok_or("no site")?;
+            let other = world.site(other).ok_or("no site")?;
+            print_same(&mut out, one.cache().same(other.cache()))?;
+        }
+        Command::Step(step) => {
+            let event = step.event(alloc)?;
+            let stepped = world.step(&event);
+            return ended_of(world, alloc, &event, stepped);
+        }
+    }
+    Ok(Ended::Done(out))
+}
+
+/// What an event prints.
+pub fn printed_of<A: Allocator + Copy>(
+    world: &World<A>,
+    alloc: A,
+    event: &Event<A>,
+    stepped: &Stepped<A>,
+) -> Result<String<A>, AllocError> {
+    let mut out = String::new(alloc);
+    print_stepped(&mut out, world, event, stepped)?;
+    Ok(out)
+}
+
+/// What became of an event.
+fn ended_of<A: Allocator + Copy>(
+    world: &World<A>,
+    alloc: A,
+    event: &Event<A>,
+    stepped: Result<Stepped<A>, WorldFault<A>>,
+) -> Result<Ended<A>, Fail> {
+    match stepped {
+        Ok(stepped) => Ok(Ended::Done(printed_of(world, alloc, event, &stepped)?)),
+        Err(WorldFault::Memory { taken }) => Ok(Ended::Short(taken)),
+        Err(WorldFault::FramesLost(stepped)) => {
+            Ok(Ended::Lost(printed_of(world, alloc, event, &stepped)?))
+        }
+        Err(fault) => Err(fault.into()),
+    }
+}
+
+/// What a want of memory leaves of an event: a frame of the first observations comes to its site, at its moment. A tick
+/// has purged all the same, and a merge has no moment.
+fn part_of_step<A: Allocator>(step: Step<'_>, bytes: Octets<A>) -> Option<Event<A>> {
+    match step {
+        Step::Learn { site, now, .. } => Some(Event::Frame { site, now, bytes }),
+        Step::Datagram { site, now, .. } => Some(Event::Frame { site, now, bytes }),
+        Step::Frame { site, now, .. } => Some(Event::Frame { site, now, bytes }),
+        Step::Deliver { site, now, .. } => Some(Event::Frame { site, now, bytes }),
+        Step::Tick { site, now } => Some(Event::Tick { site, now }),
+        Step::Merge { into, .. } => Some(Event::Frame {
+            site: into,
+            now: Moment::new(0)?,
+            bytes,
+        }),
+        _ => None,
+    }
+}
+
+/// What a want of memory leaves of a line, if anything.
+fn part_of_command<A: Allocator>(command: Command<'_>, bytes: Octets<A>) -> Option<Event<A>> {
+    match command {
+        Command::Ask { site, now, .. } => Some(Event::Frame { site, now, bytes }),
+        Command::Step(step) => part_of_step(step, bytes),
+        _ => None,
+    }
+}
+
+/// Does what a want of memory after so many observations leaves of a line.
+pub fn run_part<A: Allocator + Copy>(
+    world: &mut World<A>,
+    alloc: A,
+    line: &str,
+    taken: usize,
+) -> Result<(), Fail> {
+    let bytes = Octets::copy_of(alloc, part_of(line, taken).ok_or("more than it brings")?)?;
+    if let Some(event) = part_of_command(read_command(line)?, bytes) {
+        world.step(&event)?;
+    }
+    Ok(())
+}
+
+/// A fleet that did these lines, the first of which may say how many sites it has.
+pub fn fleet_after<A: Allocator + Copy>(
+    alloc: A,
+    first: &str,
+    lines: &[Line<'_>],
+) -> Result<Fleet<A>, Fail> {
+    let mut fleet = Fleet::new(alloc);
+    begin(&mut fleet, first)?;
+    for line in lines {
+        run_line(fleet.world()?, alloc, line.text)?;
+    }
+    Ok(fleet)
+}
+
+/// Whether there are the same sites, which hold the same at the same floor and the same clock.
+pub fn has_same_sites<A: Allocator + Copy>(one: &World<A>, other: &World<A>) -> bool {
+    for number in 0..10usize {
+        match (one.site(number), other.site(number)) {
+            (Some(one), Some(other)) => {
+                if !one.cache().same(other.cache()) || one.clock() != other.clock() {
+                    return false;
+                }
+            }
+            (None, None) => {}
+            _ => return false,
+        }
+    }
+    true
+}
+
+/// Whether the same frames are kept.
+pub fn keeps_same_frames<A: Allocator + Copy>(one: &World<A>, other: &World<A>) -> bool {
+    for number in 0..10usize {
+        match (one.frame(number), other.frame(number)) {
+            (Some(one), Some(other)) => {
+                if one != other {
+                    return false;
+                }
+            }
+            (None, None) => {}
+            _ => return false,
+        }
+    }
+    true
+}
+
+/// The lines of a text that tell no frame.
+pub fn without_frames<A: Allocator>(alloc: A, text: &str) -> Result<String<A>, AllocError> {
+    let mut rest = String::new(alloc);
+    for line in text.lines() {
+        if !line.starts_with("frame ") && !line.starts_with("swept ") {
+            rest.push_str(line)?;
+            rest.push_str("\n")?;
+        }
+    }
+    Ok(rest)
+}

@@ -1,0 +1,70 @@
+//! The first observations of lines that bring several, as frames.
+
+/// A line that brings several observations, and a frame of the first of them: so many.
+struct Part {
+    line: &'static str,
+    taken: usize,
+    frame: &'static [u8],
+}
+
+/// The reply that tells of two aliases and a denial, and what comes of frames and sites that have two observations.
+const PARTS: [Part; 6] = [
+    Part {
+        line: "learn 0 100 0002",
+        taken: 1,
+        frame: ONE_ALIAS,
+    },
+    Part {
+        line: "learn 0 100 0002",
+        taken: 2,
+        frame: TWO_ALIASES,
+    },
+    Part {
+        line: "deliver 1 200 1",
+        taken: 1,
+        frame: NEWER,
+    },
+    Part {
+        line: "deliver 2 200 2",
+        taken: 1,
+        frame: NEWER,
+    },
+    Part {
+        line: "merge 1 0",
+        taken: 1,
+        frame: NEWER,
+    },
+    Part {
+        line: "merge 0 1",
+        taken: 1,
+        frame: NEWER,
+    },
+];
+
+/// No observation.
+const EMPTY: &[u8] = b"\x44\x47\x01\x00\x00";
+
+/// www.example. is an alias of a.example., with rank 1, stamp 100 and life 60.
+const ONE_ALIAS: &[u8] =
+    b"\x44\x47\x01\x00\x01\x03\x01\x00\x00\x00\x00\x00\x00\x00\x64\x00\x00\x00\x3c\x03www\x07example\x00\x00\x05\x00\x01\x00\x0b\x01a\x07example\x00";
+
+/// The same, and a.example. is one of b.example.
+const TWO_ALIASES: &[u8] =
+    b"\x44\x47\x01\x00\x02\x03\x01\x00\x00\x00\x00\x00\x00\x00\x64\x00\x00\x00\x3c\x03www\x07example\x00\x00\x05\x00\x01\x00\x0b\x01a\x07example\x00\x03\x01\x00\x00\x00\x00\x00\x00\x00\x64\x00\x00\x00\x3c\x01a\x07example\x00\x00\x05\x00\x01\x00\x0b\x01b\x07example\x00";
+
+/// example.com. has the address 192.0.2.2, with rank 1, stamp 200 and life 10.
+const NEWER: &[u8] =
+    b"\x44\x47\x01\x00\x01\x03\x01\x00\x00\x00\x00\x00\x00\x00\xc8\x00\x00\x00\x0a\x07example\x03com\x00\x00\x01\x00\x01\x00\x04\xc0\x00\x02\x02";
+
+/// A frame of the first observations that a line brings: so many.
+pub fn part_of(line: &str, taken: usize) -> Option<&'static [u8]> {
+    if taken == 0 {
+        return Some(EMPTY);
+    }
+    for part in &PARTS {
+        if line.starts_with(part.line) && part.taken == taken {
+            return Some(part.frame);
+        }
+    }
+    None
+}

@@ -1,0 +1,75 @@
+//! Scripts with one call for memory refused.
+
+use crate::tests::datagrams::DATAGRAMS;
+use crate::tests::examples::Example;
+use crate::tests::frames::FRAMES;
+use crate::tests::questions::QUESTIONS;
+use crate::tests::refused::MANY;
+use crate::tests::refused::lines::{Line, lines_of};
+use crate::tests::refusing::Refusing;
+use crate::{What, run_script};
+use std::alloc::Global;
+use std::process::Abort;
+use std::test::Fail;
+
+/// How many octets of a transcript stand before the line with this number.
+fn end_before(lines: &[Line<'_>], number: u64) -> usize {
+    let mut end = 0usize;
+    let mut next = 1;
+    for line in lines {
+        if next < number {
+            let octets = line.text.len().saturating_add(line.prints.len());
+            end = end.saturating_add(octets).saturating_add("> \n".len());
+            next += 1;
+        }
+    }
+    end
+}
+
+/// Runs an example with a call refused, and says whether that call was made.
+fn run_refused(
+    rt: &impl Abort,
+    alloc: Global,
+    example: &Example,
+    text: &str,
+    call: u64,
+) -> Result<bool, Fail> {
+    let refusing = Refusing::after(alloc, call);
+    let mut printed = Vec::new(alloc);
+    let ended = run_script(&refusing, &mut text.as_bytes(), &mut printed);
+    assert_eq!(rt; ended.is_err(), refusing.has_refused());
+    let Err(fault) = ended else {
+        return Ok(false);
+    };
+    assert_eq!(rt; fault.what, What::OutOfMemory);
+    let lines = lines_of(alloc, example.transcript)?;
+    let end = end_before(&lines, fault.line);
+    let before = Example {
+        shows: example.shows,
+        transcript: example.transcript.get(..end).ok_or("no such line")?,
+    };
+    let (_, wanted) = before.parts(alloc)?;
+    assert_eq!(rt; printed.as_slice(), wanted.as_bytes());
+    Ok(true)
+}
+
+/// Runs an example with each call refused in turn, until one is not made.
+fn refuse_each(rt: &impl Abort, alloc: Global, example: &Example) -> Result<(), Fail> {
+    let (text, _) = example.parts(alloc)?;
+    for call in 1..MANY {
+        if !run_refused(rt, alloc, example, text.as_str(), call)? {
+            return Ok(());
+        }
+    }
+    Err("refused each time".into())
+}
+
+#[test]
+fn a_script_ends_where_a_call_is_refused(rt: HostRuntime) -> Result<(), Fail> {
+    for examples in [&QUESTIONS[..], &DATAGRAMS[..], &FRAMES[..]] {
+        for example in examples {
+            refuse_each(&rt, rt.alloc(), example)?;
+        }
+    }
+    Ok(())
+}

@@ -1,0 +1,53 @@
+//! What a site holds where one call for memory was refused.
+
+use crate::tests::refused::MANY;
+use crate::tests::refusing::Refusing;
+use fleet_observe::Moment;
+use fleet_pending::Addr;
+use fleet_site::{Config, Site, SiteFault};
+use std::alloc::{Allocator, Global};
+use std::process::Abort;
+use std::test::Fail;
+
+/// The reply with two aliases and a denial.
+const REPLY: &[u8] =
+    b"\x00\x02\x81\x83\x00\x01\x00\x02\x00\x01\x00\x00\x03www\x07example\x00\x00\x01\x00\x01\xc0\x0c\x00\x05\x00\x01\x00\x00\x00\x3c\x00\x04\x01a\xc0\x10\xc0\x29\x00\x05\x00\x01\x00\x00\x00\x3c\x00\x04\x01b\xc0\x10\xc0\x10\x00\x06\x00\x01\x00\x00\x0e\x10\x00\x1a\x02ns\xc0\x10\x00\x00\x00\x00\x01\x00\x00\x0e\x10\x00\x00\x02\x58\x00\x01\x51\x80\x00\x00\x01\x2c";
+
+/// A site that asks one upstream.
+fn site<A: Allocator + Copy>(alloc: A, ample: A) -> Result<Site<A>, Fail> {
+    let host = 0x7f00_0001;
+    let mut upstreams = Vec::new(ample);
+    upstreams.push(Addr { host, port: 5301 })?;
+    Ok(Site::new(alloc, Config::new(upstreams, Vec::new(ample))?))
+}
+
+/// A site learns the reply with a call refused; says whether that call was made.
+fn learn_refused(rt: &impl Abort, alloc: Global, call: u64) -> Result<bool, Fail> {
+    let ample = Refusing::after(alloc, 0);
+    let refusing = Refusing::after(alloc, call);
+    let mut site = site(&refusing, &ample)?;
+    let now = Moment::new(100).ok_or("no moment")?;
+    let learnt = site.learn(now, REPLY);
+    assert_eq!(rt; learnt.is_err(), refusing.has_refused());
+    assert_eq!(rt; site.clock(), now);
+    match learnt {
+        Ok(outcome) => {
+            assert_eq!(rt; (outcome.taken, site.cache().len()), (3, 3));
+            return Ok(false);
+        }
+        Err(SiteFault::OutOfMemory { taken }) => assert_eq!(rt; site.cache().len(), taken),
+    }
+    assert_eq!(rt; site.learn(now, REPLY)?.taken, 3);
+    assert_eq!(rt; site.cache().len(), 3);
+    Ok(true)
+}
+
+#[test]
+fn a_site_holds_as_many_as_it_says(rt: HostRuntime) -> Result<(), Fail> {
+    for call in 1..MANY {
+        if !learn_refused(&rt, rt.alloc(), call)? {
+            return Ok(());
+        }
+    }
+    Err("refused each time".into())
+}

@@ -1,0 +1,101 @@
+#!/usr/bin/env python3
+"""Makes each call that can find no memory always say so, and sees that its test fails.
+
+The prover lets such a body pass, since a contract allows the answer whatever the call is given; so no wrong body under
+must-fail/ can show it. Here each call of the table in docs/PROMISES.md gets such a body in a copy of the sources, and the
+tests run there, unproved (`rt try --test`): the test that the table names has to fail, and to pass without the edit.
+
+    python3 tools/always_wants_memory.py [CALL..]     all calls, or those that are named, as `Name::push`
+
+A call takes from a few seconds to a minute, all of them a quarter of an hour or more. The status is 1 where a test passed.
+"""
+
+import re
+import shutil
+import subprocess
+import sys
+import tempfile
+from pathlib import Path
+
+from memory_calls import ROOT, rows
+
+# What a call answers that finds no memory, by the fault of its signature.
+FAULTS = {
+    "AllocError": "AllocError",
+    "NameFault": "NameFault::OutOfMemory",
+    "ReadFault": "ReadFault::OutOfMemory",
+    "DigestFault": "DigestFault::OutOfMemory",
+    "FrameFault": "FrameFault::OutOfMemory",
+    "Stopped": "Stopped { taken: 0 }",
+    "Unasked": "Unasked { fault: PendingFault::OutOfMemory, waiter }",
+    "SiteFault": "SiteFault::OutOfMemory { taken: 0 }",
+    "WorldFault": "WorldFault::Memory { taken: 0 }",
+    "Halted": "Halted { at: 0, fault: WorldFault::Memory { taken: 0 } }",
+    "ScriptFault": "ScriptFault { line: 1, what: What::OutOfMemory }",
+}
+
+
+def body_at(text, call):
+    """Where the body of a public call begins, and the head before it."""
+    owner, _, name = call.rpartition("::")
+    for found in re.finditer(rf"^( *)pub fn {name}\b.*?^\1\{{$|^( *)pub fn {name}\b[^\n]*\{{$", text, re.M | re.S):
+        owners = re.findall(r"^impl\b.*?(\w+)(?:<[^\n{]*>)? *\{", text[: found.start()], re.M)
+        is_method = bool(found[1] or found[2])
+        if is_method == bool(owner) and (not owner or owners[-1:] == [owner]):
+            return found.end(), found[0]
+    return None
+
+
+def edited(folder, call):
+    """Gives the call a body that always wants memory; whether it was found."""
+    for file in sorted((folder / "src").rglob("*.rt")):
+        text = file.read_text()
+        found = body_at(text, call)
+        if not found:
+            continue
+        end, head = found
+        if call == "serve":
+            text = text.replace("Ok(outcome) => {\n            if", "Ok(outcome) if false => {\n            if")
+            return None
+        fault = re.findall(rf"\b({'|'.join(FAULTS)})\b", head.split("->", 1)[1])
+        file.write_text(text[:end] + f"\n    if true {{ return Err({FAULTS[fault[0]]}); }}" + text[end:])
+        return True
+    return False
+
+
+def fails(root, crate, test):
+    """Whether the test fails, and what the run said."""
+    ran = subprocess.run(["rt", "try", "--test"], cwd=root / "crates" / crate, capture_output=True, text=True)
+    lines = [line for line in ran.stdout.splitlines() if re.match(rf"test (\w+::)*{test} ", line)]
+    return [line.split("... ")[-1] for line in lines], ran.stdout + ran.stderr
+
+
+def main():
+    wanted = sys.argv[1:]
+    passed = 0
+    for crate, calls, test in rows():
+        place, _, name = test.rpartition("::")
+        for call in calls:
+            if wanted and call not in wanted:
+                continue
+            with tempfile.TemporaryDirectory() as room:
+                root = Path(room)
+                shutil.copy(ROOT / "crates.txt", root)
+                shutil.copy(ROOT / "HANDLES", root)
+                shutil.copytree(ROOT / "crates", root / "crates", ignore=shutil.ignore_patterns("out"))
+                if not edited(root / "crates" / crate, call):
+                    print(f"{crate}: {call}: not found")
+                    passed += 1
+                    continue
+                told, text = fails(root, place or crate, name)
+            if told == ["FAILED"]:
+                print(f"{crate}: {call}: {name} fails, as it has to", flush=True)
+            else:
+                passed += 1
+                last = text.strip().splitlines()[-1:] or [""]
+                print(f"{crate}: {call}: {name} does not fail: {told} {last[0][:200]}", flush=True)
+    sys.exit(1 if passed else 0)
+
+
+if __name__ == "__main__":
+    main()

@@ -1,0 +1,137 @@
+#!/usr/bin/env python3
+"""Finds public calls that can find no memory and have no row in docs/PROMISES.md.
+
+A contract that allows an answer for want of memory is met by a body that always gives it. So each such call is made with
+ample memory by a test that compares its answer, and the table under "## Calls that can find no memory" names that test.
+Run at the top of the repository, by hand: `python3 tools/memory_calls.py`. It reads signatures: a call counts where the
+fault that it may answer is `AllocError`, or a type of the repository that speaks of memory or has such a part. It looks
+whether each test that the table names is there and makes the calls of its row, and ends with status 1 where one is not.
+"""
+
+import re
+import sys
+from pathlib import Path
+
+ROOT = Path(__file__).resolve().parent.parent
+TABLE = ROOT / "docs" / "PROMISES.md"
+HEADING = "## Calls that can find no memory"
+
+
+def sources(crate):
+    """The source files of a crate, without comments."""
+    files = sorted((ROOT / "crates" / crate / "src").rglob("*.rt"))
+    return {file: re.sub(r"//[^\n]*", "", file.read_text()) for file in files}
+
+
+def exports(files):
+    """The names that the root of a crate makes public, and the files of its public modules."""
+    root = next(text for file, text in files.items() if file.name in ("lib.rt", "main.rt"))
+    names = set()
+    for path in re.findall(r"^pub use ([^;]*);", root, re.M):
+        names.update(re.findall(r"\w+", path.split("{")[-1] if "{" in path else path.split("::")[-1]))
+    return names, set(re.findall(r"^pub mod (\w+);", root, re.M))
+
+
+def types(files):
+    """The public types with their definitions."""
+    pattern = r"^((?:#\[[^\n]*\n)*)pub (?:enum|struct) (\w+)[^\n{;]*(\{.*?^\}|;)"
+    found = {}
+    for text in files.values():
+        for attributes, name, body in re.findall(pattern, text, re.M | re.S):
+            found[name] = attributes + body
+    return found
+
+
+def faults(definitions):
+    """The types whose values can tell a want of memory."""
+    told = {"AllocError", "AllocFailed"}
+    told |= {name for name, body in definitions.items() if "out of memory" in body}
+    while True:
+        more = {
+            name
+            for name, body in definitions.items()
+            if name not in told and any(re.search(rf"[:(] *{fault}\b", body) for fault in told)
+        }
+        if not more:
+            return told
+        told |= more
+
+
+def refused_with(signature):
+    """The name of the fault of a `Result`, or none."""
+    answer = re.search(r"->\s*Result<(.*)>\s*$", signature, re.S)
+    if not answer:
+        return None
+    depth = 0
+    for at in range(len(answer[1]) - 1, -1, -1):
+        letter = answer[1][at]
+        depth += (letter == ">" and answer[1][at - 1] != "-") - (letter == "<")
+        if letter == "," and depth == 0:
+            found = re.match(r"\s*(?:\w+::)*(\w+)", answer[1][at + 1 :])
+            return found[1] if found and found[1].strip() else refused_with("->Result<" + answer[1][:at] + ">")
+    return None
+
+
+def calls(crate, files, told):
+    """The public calls of a crate that can find no memory."""
+    names, modules = exports(files)
+    found = set()
+    pattern = r"^( *)pub fn (\w+)(.*?)(?=\{|;|^\s*(?:ensures|requires|where|ghost)\b)"
+    for file, text in files.items():
+        for call in re.finditer(pattern, text, re.M | re.S):
+            if refused_with(call[3]) not in told:
+                continue
+            owners = re.findall(r"^impl\b.*?(\w+)(?:<[^\n{]*>)? *\{", text[: call.start()], re.M)
+            if call[1] and owners and owners[-1] in names:
+                found.add(f"{owners[-1]}::{call[2]}")
+            elif not call[1] and (call[2] in names or file.stem in modules):
+                found.add(call[2])
+    return found
+
+
+def rows():
+    """The rows of the table: a crate, its calls and the test that makes them."""
+    text = TABLE.read_text()
+    if HEADING not in text:
+        sys.exit(f"{TABLE.name} has no part '{HEADING}'")
+    part = text.split(HEADING, 1)[1].split("\n## ", 1)[0]
+    for line in part.splitlines():
+        cells = [re.findall(r"`([^`]+)`", cell) for cell in line.split("|")[1:-1]]
+        if len(cells) == 3 and all(cells):
+            yield cells[0][0], cells[1], cells[2][0]
+
+
+def test_files(files, test):
+    """The text of the files that have a test of this name."""
+    pattern = rf"#\[test\]\s*fn {test}\b"
+    return "".join(text for text in files.values() if re.search(pattern, text))
+
+
+def main():
+    crates = sorted(path.name for path in (ROOT / "crates").iterdir() if (path / "src").is_dir())
+    files = {crate: sources(crate) for crate in crates}
+    definitions = {}
+    for crate in crates:
+        definitions.update(types(files[crate]))
+    told = faults(definitions)
+    wrong = []
+    with_row = set()
+    for crate, made, test in rows():
+        place, _, name = test.rpartition("::")
+        text = test_files(files.get(place or crate, {}), name)
+        if not text:
+            wrong.append(f"{crate}: no test {test}")
+        for call in made:
+            with_row.add((crate, call))
+            if text and not re.search(rf"\b{call.split('::')[-1]}\(", text):
+                wrong.append(f"{crate}: {test} does not call {call}")
+    wanted = {(crate, call) for crate in crates for call in calls(crate, files[crate], told)}
+    wrong += [f"{crate}: {call} has no row" for crate, call in sorted(wanted - with_row)]
+    for line in wrong:
+        print(line)
+    print(f"{len(wanted)} calls can find no memory, {len(wanted & with_row)} of them have a row")
+    sys.exit(1 if wrong else 0)
+
+
+if __name__ == "__main__":
+    main()
