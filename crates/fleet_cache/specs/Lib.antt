@@ -8,6 +8,8 @@ pub mod Shown
 pub mod Told
 pub mod Kinds
 pub mod Best
+pub mod Orders
+pub mod Slots
 pub mod Underway
 pub mod Path
 pub mod Laws

@@ -327,16 +327,18 @@ fn merges_agree(rt: HostRuntime) -> Result<(), Fail> {
 }
 
 #[test]
-fn what_is_dominated_stays(rt: HostRuntime) -> Result<(), Fail> {
-    let mut cache = Cache::new(rt.alloc());
-    assert!(rt; cache.take(seen(&rt, EXAMPLE, 1, FIRST, 3, 100, 300)?)?);
-    assert!(rt; cache.take(seen(&rt, EXAMPLE, 1, SECOND, 1, 100, 300)?)?);
-    let mut ranks = cache.items().map(|item| item.rank());
-    assert_eq!(rt; ranks.next(), Some(3));
-    assert_eq!(rt; ranks.next(), Some(1));
-    assert_eq!(rt; ranks.next(), None);
-    cache.purge(at(400)?);
-    assert_eq!(rt; cache.items().count(), 0);
+fn what_is_dominated_goes(rt: HostRuntime) -> Result<(), Fail> {
+    for first in [3, 1] {
+        let mut cache = Cache::new(rt.alloc());
+        assert!(rt; cache.take(seen(&rt, EXAMPLE, 1, FIRST, first, 100, 300)?)?);
+        let other = seen(&rt, EXAMPLE, 1, SECOND, 4 - first, 100, 300)?;
+        assert_eq!(rt; cache.take(other)?, first == 1);
+        let mut ranks = cache.items().map(|item| item.rank());
+        assert_eq!(rt; ranks.next(), Some(3));
+        assert_eq!(rt; ranks.next(), None);
+        cache.purge(at(400)?);
+        assert_eq!(rt; cache.items().count(), 0);
+    }
     Ok(())
 }
 
