@@ -10,7 +10,8 @@ ghost use Rattle.fleet_cache.specs.Kinds.{HasKinds};
 
 use crate::answer::{Answer, follow};
 use crate::items::Items;
-use crate::store::{Fronts, covers, expire, store};
+use crate::store::{Fronts, covers, store};
+use crate::sweep::{Cursor, sweep};
 use fleet_observe::{Moment, Observation};
 use fleet_wire::Question;
 use std::alloc::{AllocError, Allocator, Global};
@@ -30,28 +31,31 @@ pub struct Stopped {
 /// name, the kind, the type) in one front, the preferred first, and the fronts in a map by the
 /// octets of their keys.
 ///
-/// `earliest` is a moment before which none of them ends, so that a purge up to an earlier one
-/// looks at none. `most` is how many they are at most, so that they can be counted: at the greatest
-/// number, which no machine reaches, nothing more is taken.
+/// The fronts may hold observations that ended by the floor: they are shown to nobody, and a sweep,
+/// which goes on at the cursor, drops some of them at each purge. `most` is how many the fronts hold
+/// at most, so that they can be counted: at the greatest number, which no machine reaches, nothing
+/// more is taken.
 #[derive(Drop)]
 pub struct Cache<A: Allocator = Global> {
     floor: Moment,
-    earliest: u64,
     most: usize,
     fronts: Fronts<A>,
+    cursor: Cursor<A>,
     alloc: A,
 }
 
 impl<A: Allocator> Model for Cache<A> {
     ghost use Rattle.std.specs.Prelude.{length, ◌≤◌};
+    ghost use Rattle.fleet_cache.specs.Front.{shown};
+    ghost use Rattle.fleet_cache.specs.Live.{hidden};
     ghost use Rattle.fleet_cache.specs.Cached.{Held, IsKept};
     ghost use Rattle.fleet_cache.specs.Slots.{items_of, IsLaid};
 
     ghost Value = { Held };
 
-    ghost view = { λ c. record { floor = c.floor; items = items_of c.fronts.entries } };
+    ghost view = { λ c. record { floor = c.floor; items = shown hidden c.floor (items_of c.fronts.entries) } };
 
-    ghost invariant = { λ c. IsKept c.floor c.earliest (items_of c.fronts.entries) × IsLaid (λ k. k.items) c.fronts.entries × (length (items_of c.fronts.entries) ≤ c.most) };
+    ghost invariant = { λ c. IsKept (items_of c.fronts.entries) × IsLaid (λ k. k.items) c.fronts.entries × (length (items_of c.fronts.entries) ≤ c.most) };
 }
 
 impl<A: Allocator> Cache<A> {
@@ -64,9 +68,9 @@ impl<A: Allocator> Cache<A> {
     {
         Cache {
             floor: Moment::new(0).unwrap(),
-            earliest: u64::MAX,
             most: 0,
             fronts: BTreeMap::new(alloc),
+            cursor: Cursor::new(alloc),
             alloc,
         }
     }
@@ -83,16 +87,17 @@ impl<A: Allocator> Cache<A> {
         ensures memory { OnErr result (¬ IsNeedless self.old.floor self.old.items observation) }
         ensures err { OnErr result (self.new ≡ self.old) }
     {
-        let expires = observation.expires();
-        if expires <= self.floor.value() {
+        if observation.expires() <= self.floor.value() {
             return Ok(false);
         }
         if self.most == usize::MAX {
             return self.take_uncounted(&observation);
         }
+        if !self.cursor.has_room() && !covers(&self.fronts, &observation) {
+            self.cursor.make_room()?;
+        }
         let kept = store(&mut self.fronts, self.alloc, observation)?;
         self.most += 1;
-        self.earliest = self.earliest.min(expires);
         Ok(kept)
     }
 
@@ -151,11 +156,7 @@ impl<A: Allocator> Cache<A> {
             return;
         }
         self.floor = moment;
-        if moment.value() < self.earliest {
-            return;
-        }
-        expire(&mut self.fronts, moment);
-        self.earliest = earliest_end(Items::new(self.fronts.values()));
+        sweep(&mut self.fronts, &mut self.cursor, moment);
     }
 
     /// Drops all items and sets the floor back to 0: it is then as a new cache. This takes no memory.
@@ -164,9 +165,9 @@ impl<A: Allocator> Cache<A> {
         ensures cached { IsCached [] self.new.floor self.new.items }
     {
         self.floor = Moment::new(0).unwrap();
-        self.earliest = u64::MAX;
         self.most = 0;
         self.fronts.clear();
+        self.cursor.rewind();
     }
 
     /// The moment up to which the cache was purged: what has ended by then is not held.
@@ -207,7 +208,7 @@ impl<A: Allocator> Cache<A> {
     {
         // What the proof needs to know of the count.
         prove!(self.most <= usize::MAX);
-        Items::new(self.fronts.values())
+        Items::new(self.floor, self.fronts.values())
     }
 
     /// What the set answers to a question at a moment, or at the floor where the moment is before
@@ -279,17 +280,6 @@ fn later(one: Moment, other: Moment) -> Moment
         return other;
     }
     one
-}
-
-// A lower bound of the ends: the least of them, if there is one.
-fn earliest_end<A: Allocator>(mut items: Items<'_, A>) -> u64
-    ensures { (x : Fact) → Has items.entry x → result ≤ end_of x }
-{
-    let mut earliest = u64::MAX;
-    while let Some(item) = items.next() {
-        earliest = earliest.min(item.expires());
-    }
-    earliest
 }
 
 // Whether both give the same items.

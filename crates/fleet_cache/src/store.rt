@@ -3,21 +3,23 @@
 ghost use Rattle.std.specs.Prelude.{◌≡◌, ℕ, Bool, ◌≤◌, ◌↔◌, [], ◌∷◌, length, IsTrue, OnErr, IfOk};
 ghost use Rattle.fleet_observe.specs.Fact.{kind_number, key_of};
 ghost use Rattle.fleet_observe.specs.Preference.{preference};
-ghost use Rattle.fleet_cache.specs.Front.{IsFront, shown};
+ghost use Rattle.fleet_cache.specs.Front.{IsFront};
 ghost use Rattle.fleet_cache.specs.Dominates.{dominates};
-ghost use Rattle.fleet_cache.specs.Live.{hidden};
 ghost use Rattle.fleet_cache.specs.Cached.{key_with, is_covered, IsCovered};
-ghost use Rattle.fleet_cache.specs.Slots.{items_of, trimmed, IsLaid, Put};
+ghost use Rattle.fleet_cache.specs.Slots.{items_of, IsLaid, Put};
 
 use crate::item::Item;
 use arrayvec::ArrayVec;
 use fleet_front::Front;
-use fleet_observe::{Kind, Moment, Observation};
+use fleet_observe::{Kind, Observation};
 use std::alloc::{AllocError, Allocator};
 use std::collections::BTreeMap;
 
+/// The octets of a key.
+pub(crate) type Key<A> = Vec<u8, A>;
+
 /// The fronts of a cache, by the octets of their keys.
-pub(crate) type Fronts<A> = BTreeMap<Vec<u8, A>, Front<Item<A>, A>, A>;
+pub(crate) type Fronts<A> = BTreeMap<Key<A>, Front<Item<A>, A>, A>;
 
 /// The octets of a key on the stack: those of the name, the kind, the type in two octets.
 pub(crate) fn key_octets(name: &[u8], kind: Kind, rtype: u16) -> ArrayVec<u8, 258>
@@ -96,47 +98,4 @@ fn first<A: Allocator>(
     let mut front = Front::new(alloc);
     front.take(Item::new(observation))?;
     Ok(front)
-}
-
-/// What drops a part of itself at a moment, and says whether anything is left.
-trait Trim: Drop {
-    ghost rest: { ℕ → Self → Self };
-
-    ghost left: { Self → Bool };
-
-    /// Drops what has ended at the moment.
-    fn trim(&mut self, moment: Moment) -> bool
-        ensures { (self.new ≡ rest moment self.old) × (result ≡ left self.new) };
-}
-
-impl<A: Allocator> Trim for Front<Item<A>, A> {
-    ghost use Rattle.std.specs.Prelude.{not};
-    ghost use Rattle.fleet_cache.specs.Front.{shown};
-    ghost use Rattle.fleet_cache.specs.Live.{hidden};
-    ghost use Rattle.fleet_cache.specs.Slots.{is_nil};
-
-    ghost rest = { shown hidden };
-
-    ghost left = { λ f. not (is_nil f) };
-
-    fn trim(&mut self, moment: Moment) -> bool {
-        self.drop_hidden(&moment);
-        !self.items().is_empty()
-    }
-}
-
-// Trims the values, and drops those of which nothing is left.
-fn keep<K: Ord + Drop, V: Trim, A: Allocator>(map: &mut BTreeMap<K, V, A>, moment: Moment)
-    ensures { map.new.entries ≡ trimmed (V.rest moment) V.left map.old.entries }
-{
-    map.retain(|_, value| value.trim(moment));
-}
-
-/// Drops what has ended at the moment.
-pub(crate) fn expire<A: Allocator>(fronts: &mut Fronts<A>, moment: Moment)
-    requires { IsLaid (λ k. k.items) fronts.old.entries }
-    ensures laid { IsLaid (λ k. k.items) fronts.new.entries }
-    ensures items { items_of fronts.new.entries ≡ shown hidden moment (items_of fronts.old.entries) }
-{
-    keep(fronts, moment);
 }
