@@ -1,20 +1,21 @@
 -- How the items of a cache follow the set.
-use Rattle.std.proofs.Common.{ℕ, ◌≡◌, ◌<◌, ◌≤◌, true, false, not, List, [], ◌∷◌, ◌++◌, ◌⊎◌, inl, inr, length, take, slice_get, Some, Result, Ok, Err, OnOk, OnErr, sym, ap, refl, ◌∙◌, subst, arith, length-append}
+use Rattle.std.proofs.Common.{ℕ, ◌≡◌, ◌<◌, ◌≤◌, true, false, not, List, [], ◌∷◌, ◌++◌, ◌⊎◌, ◌↔◌, inl, inr, length, take, slice_get, Some, Result, Ok, Err, OnOk, OnErr, sym, ap, refl, ◌∙◌, subst, arith, length-append}
 use mathlib.Core.Bool.{false≢true}
 use Rattle.std.proofs.Math.Seq.{take-append_seam}
 use Rattle.std.specs.Result.{is_ok, is_err}
 use Rattle.std.proofs.lemmas.Bool.Decides.{nat_tests}
 use Rattle.fleet_observe.specs.Members.{Has}
 use Rattle.fleet_observe.specs.Fact.{Fact, IsFact, AreFacts, expires}
-use Rattle.fleet_cache.specs.Front.{IsUndominated, IsFront, shown}
+use Rattle.fleet_cache.specs.Front.{IsDescending, IsUndominated, IsFront, shown}
 use Rattle.fleet_cache.specs.Live.{hidden}
 use Rattle.fleet_cache.specs.Dominates.{dominates}
 use Rattle.fleet_cache.specs.Cached.{place, Held, IsCached, IsKept, IsCovered, IsNeedless, IsSameSet}
+use Rattle.fleet_cache.specs.Swept.{IsSwept}
 use Rattle.fleet_cache.proofs.Fronts.{bool_cases, climb, front_itself, front_shown, front_same, not_true, Has-append, Has-left, Has-right, Has-filter, Has-in_filter}
 use Rattle.fleet_cache.specs.Orders.{place_laws}
 
 -- what is shown later was shown before
-shown_twice : (f m : ℕ) (s : List Fact) → f ≤ m → shown hidden m (shown hidden f s) ≡ shown hidden m s
+pub shown_twice : (f m : ℕ) (s : List Fact) → f ≤ m → shown hidden m (shown hidden f s) ≡ shown hidden m s
 shown_twice f m [] le = refl
 shown_twice f m (x ∷ s) le = elim (bool_cases (hidden f x)) [
   | inl e ↦
@@ -102,10 +103,6 @@ cached_purged s items f m le cached = record {
   lawful = cached.lawful;
   front = subst (λ v. IsFront place dominates v (shown hidden m items)) (shown_twice f m s le) (front_shown place_laws m (shown hidden f s) items cached.front);
 }
-
--- the same set at a later floor, where no item has ended by then
-pub cached_later : (s items : List Fact) (f m : ℕ) → f ≤ m → ((x : Fact) → Has items x → hidden m x ≡ false) → IsCached s f items → IsCached s m items
-cached_later s items f m le live cached = subst (IsCached s m) (all_shown m items live) (cached_purged s items f m le cached)
 
 -- the items of a cache stand for its set: taken into another at no lower floor, they give the cache of both
 pub cached_both : (s u theirs items : List Fact) (f g : ℕ) → g ≤ f → IsCached u g theirs → IsCached (theirs ++ s) f items → IsCached (u ++ s) f items
@@ -195,21 +192,92 @@ more_same ys s x = record {
 pub cached_more : (ys s items : List Fact) (f : ℕ) (x : Fact) → IsCached (x ∷ (ys ++ s)) f items → IsCached ((ys ++ x ∷ []) ++ s) f items
 cached_more ys s items f x cached = cached_listed (x ∷ (ys ++ s)) ((ys ++ x ∷ []) ++ s) items f cached (more_same ys s x)
 
--- what was kept stays kept
-pub kept_put : (f earliest : ℕ) (items new : List Fact) (x : Fact) → IsKept f earliest items → IsFact x → hidden f x ≡ false → IsFront place dominates (x ∷ items) new → (least : ℕ) → least ≤ earliest → least ≤ expires x → IsKept f least new
-kept_put f earliest items new x kept lawful e front least le lx = record {
-  own = cached_itself (x ∷ items) new f (cached_put items items f x lawful kept.own new e (subst (λ v. IsFront place dominates (x ∷ v) new) (sym (all_shown f items (λ o h. (item_of_set items items f kept.own o h).1))) front));
-  bound = λ y h. elim (front.of_set y h) [ inl same ↦ subst (λ v. least ≤ expires v) same lx | inr old ↦ let b = kept.bound y old in omega arith ];
+-- what is shown of all that is kept is its cache
+pub kept_cached : (items : List Fact) (f : ℕ) → IsKept items → IsCached items f (shown hidden f items)
+kept_cached items f kept = record { lawful = kept.lawful; front = front_shown place_laws f items items kept.front }
+
+-- it is the cache of its own set
+pub kept_itself : (items : List Fact) (f : ℕ) → IsKept items → IsCached (shown hidden f items) f (shown hidden f items)
+kept_itself items f kept = cached_itself items (shown hidden f items) f (kept_cached items f kept)
+
+-- nothing had ended at the start of time
+pub kept_whole : (items : List Fact) → IsKept items → IsCached items 0 items
+kept_whole items kept = record {
+  lawful = kept.lawful;
+  front = subst (λ v. IsFront place dominates v items) (sym (all_shown 0 items (λ x h. let l = (kept.lawful x h).life.0 in grind (arith, nat_tests, l)))) kept.front;
 }
 
-pub kept_purged : (f m earliest least : ℕ) (items : List Fact) → f ≤ m → IsKept f earliest items → ((y : Fact) → Has (shown hidden m items) y → least ≤ expires y) → IsKept m least (shown hidden m items)
-kept_purged f m earliest least items le kept bound = record {
-  own = cached_itself items (shown hidden m items) m (cached_purged items items f m le kept.own);
-  bound = bound;
+-- the last of a list, or the first
+last_first : (s : List Fact) (x : Fact) → IsSameSet (s ++ x ∷ []) (x ∷ s)
+last_first s x = record {
+  into = λ z h. elim (Has-append s (x ∷ []) z h) [ inl l ↦ inr l | inr r ↦ elim r [ inl e ↦ inl e | inr none ↦ absurd none ] ];
+  back = λ z h. elim h [ inl e ↦ Has-right s (x ∷ []) z (inl e) | inr m ↦ Has-left s (x ∷ []) z m ];
 }
 
-pub kept_later : (f m earliest : ℕ) (items : List Fact) → f ≤ m → ((x : Fact) → Has items x → hidden m x ≡ false) → IsKept f earliest items → IsKept m earliest items
-kept_later f m earliest items le live kept = record { own = cached_later items items f m le live kept.own; bound = kept.bound }
+first_last : (s : List Fact) (x : Fact) → IsSameSet (x ∷ s) (s ++ x ∷ [])
+first_last s x = record { into = (last_first s x).back; back = (last_first s x).into }
+
+-- one more was taken up into what is kept: what is shown of it is the cache of the set with it
+pub cached_taken : (s items new : List Fact) (f : ℕ) (x : Fact) → IsFact x → hidden f x ≡ false → IsCached s f (shown hidden f items) → IsFront place dominates (x ∷ items) new → IsCached (x ∷ s) f (shown hidden f new)
+cached_taken s items new f x one live cached front =
+    let held = shown hidden f items in
+    let whole : IsFront place dominates (x ∷ held) (shown hidden f new) = rw live at (front_shown place_laws f (x ∷ items) new front) in
+    let small : IsCached (x ∷ held) f (shown hidden f new) = record {
+      lawful = more_lawful held x one (cached_itself s held f cached).lawful;
+      front = rw live (subst (λ v. IsFront place dominates (x ∷ v) (shown hidden f new)) (sym (all_live s held f cached)) whole);
+    } in
+    let both = cached_both (x ∷ []) s held (shown hidden f new) f f (omega arith) cached (cached_listed (x ∷ held) (held ++ x ∷ []) (shown hidden f new) f small (first_last held x)) in
+    cached_listed (s ++ x ∷ []) (x ∷ s) (shown hidden f new) f both (last_first s x)
+
+-- what has ended covers nothing that has not
+pub covered_shown : (items : List Fact) (f : ℕ) (x : Fact) → hidden f x ≡ false → IsCovered items x → IsCovered (shown hidden f items) x
+covered_shown items f x live c =
+    let seen : hidden f c.0 ≡ false = elim (bool_cases (hidden f c.0)) [
+      | inr nay ↦ nay
+      | inl end ↦ absurd (false≢true (sym live ∙ elim c.2 [ inl same ↦ ap (hidden f) (sym same) ∙ end | inr over ↦ place_laws.hides_below f c.0 x end over ]))
+    ] in
+    (c.0, Has-in_filter (λ o. not (hidden f o)) items c.0 c.1 (ap not seen), c.2)
+
+-- what need not be held: it is covered by what is kept, or has ended
+pub needless_shown : (items : List Fact) (f : ℕ) (x : Fact) → hidden f x ≡ false → IsCovered items x ↔ IsNeedless f (shown hidden f items) x
+needless_shown items f x live = (
+  (λ c. inr (covered_shown items f x live c)),
+  λ n. elim n [
+    | inl ended ↦ absurd (grind (arith, nat_tests, live, ended))
+    | inr c ↦ (c.0, (Has-filter (λ o. not (hidden f o)) items c.0 c.1).0, c.2)
+  ],
+)
+
+-- with one more, it is kept
+pub kept_put : (items new : List Fact) (x : Fact) → IsKept items → IsFact x → IsFront place dominates (x ∷ items) new → IsKept new
+kept_put items new x kept one front = record {
+  lawful = λ y h. more_lawful items x one kept.lawful y (front.of_set y h);
+  front = front_itself place_laws (x ∷ items) new front;
+}
+
+-- what is left of what is kept, in order, is kept
+pub kept_swept : (items rest : List Fact) (m : ℕ) → IsKept items → IsDescending place rest → IsSwept m items rest → IsKept rest
+kept_swept items rest m kept order swept = record {
+  lawful = λ x h. kept.lawful x (swept.of_items x h);
+  front = record {
+    descending = order;
+    of_set = λ x h. h;
+    undominated = λ x h w k. kept.front.undominated x (swept.of_items x h) w (swept.of_items w k);
+    whole = λ x h free. h;
+  };
+}
+
+-- the same set at a later floor, and some of what has ended by then dropped
+pub cached_swept : (s items rest : List Fact) (f m : ℕ) → f ≤ m → IsSwept m items rest → IsCached s f (shown hidden f items) → IsCached s m (shown hidden m rest)
+cached_swept s items rest f m le swept cached = subst (IsCached s m) (shown_twice f m items le ∙ sym swept.shown_still) (cached_purged s (shown hidden f items) f m le cached)
+
+-- what is shown is no more than what is there
+pub shown_shorter : (m : ℕ) (s : List Fact) → length (shown hidden m s) ≤ length s
+shown_shorter m [] = omega arith
+shown_shorter m (x ∷ s) = elim (bool_cases (hidden m x)) [
+  | inl e ↦ rw e (let n = shown_shorter m s in omega (arith, n))
+  | inr e ↦ rw e (let n = shown_shorter m s in omega (arith, n))
+]
 
 -- a cache took a list in, and its floor stayed
 pub record HasTaken (before after : Held) (list : List Fact) : Type 0 where

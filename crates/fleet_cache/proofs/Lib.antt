@@ -5,6 +5,7 @@ mod Lawful
 mod Caches
 mod Keyed
 mod Slots
+mod Sweeps
 mod Best
 mod Looked
 mod Answers

@@ -33,10 +33,10 @@ pub record Held : Type 0 where
   pub floor : ℕ
   pub items : List Fact
 
--- what a cache keeps: its items are those of their own set, and none of them ends before the earliest
-pub record IsKept (floor earliest : ℕ) (items : List Fact) : Type 0 where
-  pub own : IsCached items floor items
-  pub bound : (x : Fact) → Has items x → earliest ≤ expires x
+-- what a cache keeps: observations of which none dominates another, in order
+pub record IsKept (items : List Fact) : Type 0 where
+  pub lawful : AreFacts items
+  pub front : IsFront place dominates items items
 
 -- o is one of the items, or one of them dominates it
 abbrev pub IsCovered : List Fact → Fact → Type 0

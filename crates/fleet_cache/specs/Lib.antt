@@ -10,6 +10,7 @@ pub mod Kinds
 pub mod Best
 pub mod Orders
 pub mod Slots
+pub mod Swept
 pub mod Underway
 pub mod Path
 pub mod Laws
