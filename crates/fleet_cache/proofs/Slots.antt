@@ -18,7 +18,7 @@ use Rattle.fleet_cache.specs.Front.{IsDescending, IsFront, shown}
 use Rattle.fleet_cache.specs.Live.{hidden}
 use Rattle.fleet_cache.specs.Dominates.{dominates}
 use Rattle.fleet_cache.specs.Cached.{key_cmp, place, IsCovered}
-use Rattle.fleet_cache.specs.Slots.{items_of, joined, is_nil, trimmed, IsSlot, IsLaid, Put}
+use Rattle.fleet_cache.specs.Slots.{items_of, joined, is_nil, IsSlot, IsLaid, Put}
 use Rattle.fleet_cache.proofs.Fronts.{bool_cases, ordering_cases, not_true, climb, front_itself, front_shown, Has-append, Has-left, Has-right, Has-filter, IsDescending-append}
 use Rattle.fleet_cache.specs.Orders.{ranked, place_laws, over_from, same_key, equal_from}
 

@@ -1,8 +1,7 @@
 //! What a site holds.
 
 ghost use Rattle.std.specs.Prelude.{◌≡◌, ℕ, ◌^◌, ◌<◌, ◌≤◌, max, true, false, List, [], ◌∷◌, ◌++◌, ◌↔◌, length, take, IsTrue, IfOk, IfErr, OnOk, OnErr};
-ghost use Rattle.fleet_observe.specs.Members.{Has};
-ghost use Rattle.fleet_observe.specs.Fact.{Fact, IsFact, expires as end_of};
+ghost use Rattle.fleet_observe.specs.Fact.{Fact, IsFact};
 ghost use Rattle.fleet_cache.specs.Cached.{IsCached, IsNeedless, IsNeededAt, IsSameSet};
 ghost use Rattle.fleet_cache.specs.Answer.{answer_of};
 ghost use Rattle.fleet_cache.specs.Told.{told};
@@ -93,9 +92,7 @@ impl<A: Allocator> Cache<A> {
         if self.most == usize::MAX {
             return self.take_uncounted(&observation);
         }
-        if !self.cursor.has_room() && !covers(&self.fronts, &observation) {
-            self.cursor.make_room()?;
-        }
+        self.cursor.make_room(&self.fronts, &observation)?;
         let kept = store(&mut self.fronts, self.alloc, observation)?;
         self.most += 1;
         Ok(kept)

@@ -1,11 +1,12 @@
 //! Dropping what has ended, a part of the map at a time.
 
-ghost use Rattle.std.specs.Prelude.{IsTrue};
+ghost use Rattle.std.specs.Prelude.{OnErr};
+ghost use Rattle.fleet_cache.specs.Cached.{IsCovered};
 ghost use Rattle.fleet_cache.specs.Slots.{items_of, IsLaid};
 ghost use Rattle.fleet_cache.specs.Swept.{IsSwept};
 
-use crate::store::{Fronts, Key};
-use fleet_observe::Moment;
+use crate::store::{Fronts, Key, covers};
+use fleet_observe::{Moment, Observation};
 use std::alloc::{AllocError, Allocator};
 use std::ops::Bound;
 
@@ -32,13 +33,19 @@ impl<A: Allocator> Cursor<A> {
         }
     }
 
-    /// Whether there is room for any key.
-    pub(crate) fn has_room(&self) -> bool {
-        self.key.capacity() >= KEY
-    }
-
-    /// Goes back to the start, and makes room for any key.
-    pub(crate) fn make_room(&mut self) -> Result<(), AllocError> {
+    /// Makes room for any key, going back to the start, before the map takes an observation in that
+    /// it does not hold. Memory is wanted once at most.
+    pub(crate) fn make_room(
+        &mut self,
+        fronts: &Fronts<A>,
+        observation: &Observation<A>,
+    ) -> Result<(), AllocError>
+        requires { IsLaid (λ k. k.items) fronts.now.entries }
+        ensures memory { OnErr result (¬ IsCovered (items_of fronts.now.entries) observation.now) }
+    {
+        if self.key.capacity() >= KEY || covers(fronts, observation) {
+            return Ok(());
+        }
         self.key.clear();
         self.key.reserve_exact(KEY)
     }
