@@ -45,12 +45,13 @@ invariant_of-self-2 g c =
     let o = c.args.observation in
     let items = items_of i.fronts.entries in
     let live : hidden i.floor o ≡ false = grind (arith, nat_tests, c.expires-expires.ensures.value, c.value.ensures.value, c.if-expires-value.false) in
-    let put = c.in_ok-kept.ensures.put in
-    (kept_put i.floor i.earliest items (items_of c.store.new.fronts.entries) o c.self.invariant.0 c.expires-expires.ensures.lawful live
-    (subst (λ v. IsFront place dominates (o ∷ v) (items_of c.store.new.fronts.entries)) (all_live items items i.floor c.self.invariant.0.own) (put.taken (shown hidden i.floor items) c.self.invariant.0.own.front))
-    c.min-self-inside.result (omega (arith, c.min-self-inside.ensures)) (omega (arith, c.min-self-inside.ensures, c.expires-expires.ensures.value)),
-    put.laid,
-    omega (arith, put.size, c.self.invariant.2))
+    let put = c.in_ok-kept.ensures.put in (
+      kept_put i.floor i.earliest items (items_of c.store.new.fronts.entries) o c.self.invariant.0 c.expires-expires.ensures.lawful live
+          (subst (λ v. IsFront place dominates (o ∷ v) (items_of c.store.new.fronts.entries)) (all_live items items i.floor c.self.invariant.0.own) (put.taken (shown hidden i.floor items) c.self.invariant.0.own.front))
+          c.min-self-inside.result (omega (arith, c.min-self-inside.ensures)) (omega (arith, c.min-self-inside.ensures, c.expires-expires.ensures.value)),
+      put.laid,
+      omega (arith, put.size, c.self.invariant.2),
+    )
 
 -- what is told of a value holds where there is one
 known : {E P Q : Type 0} (r : Result Bool E) → IfOk r (λ kept. (kept ≡ false) × P) → (P → Q) → OnOk r Q
