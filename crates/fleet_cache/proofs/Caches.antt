@@ -69,10 +69,13 @@ module _ (s items : List Fact) (f : ℕ) (x : Fact) (lawful : IsFact x) (cached 
 
   -- one that is there, or is dominated
   pub cached_covered : IsCovered items x → IsCached (x ∷ s) f items
-  cached_covered c = record { lawful = more_lawful s x lawful cached.lawful; front = elim (bool_cases (hidden f x)) [
-    | inl e ↦ rw e cached.front
-    | inr e ↦ rw e (front_covered (shown hidden f s) items x c cached.front)
-  ] }
+  cached_covered c = record {
+    lawful = more_lawful s x lawful cached.lawful;
+    front = elim (bool_cases (hidden f x)) [
+      | inl e ↦ rw e cached.front
+      | inr e ↦ rw e (front_covered (shown hidden f s) items x c cached.front)
+    ];
+  }
 
   -- one that need not be held
   pub cached_needless : IsNeedless f items x → IsCached (x ∷ s) f items

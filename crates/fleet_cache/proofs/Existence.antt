@@ -1,5 +1,5 @@
 -- Each set of observations has a cache at each floor: of what it shows, in order, what no member dominates.
-use Rattle.std.proofs.Common.{ℕ, ◌≡◌, Bool, true, false, refl, not, List, [], ◌∷◌, ◌⊎◌, inl, inr, sym, ap, ◌∙◌, subst}
+use Rattle.std.proofs.Common.{ℕ, ◌≡◌, Bool, false, refl, not, List, [], ◌∷◌, inl, inr, sym, ap, ◌∙◌, subst}
 use mathlib.Core.Bool.{false≢true}
 use Rattle.std.specs.List.{filter, list_any}
 use Rattle.std.specs.Ordering.{ordering_reverse}

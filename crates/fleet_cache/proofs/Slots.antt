@@ -161,7 +161,6 @@ module _ {K : Type 0} (octets : K → List ℕ) where
     pub over : (e : Slot) → Has post e → key_cmp q (octets e.0) ≡ Less
     pub among : (e : Slot) → Has pre e → Has es e
 
-
   turned : (a b : List ℕ) → key_cmp a b ≡ Greater → key_cmp b a ≡ Less
   turned a b e = nat_list_cmp_total.antisymm b a ∙ ap ordering_reverse e
 

@@ -3,7 +3,7 @@
 ghost use Rattle.std.specs.Prelude.{◌≡◌, ◌||◌};
 ghost use Rattle.std.specs.Ordering.{is_eq};
 ghost use Rattle.fleet_observe.specs.Preference.{preference};
-ghost use Rattle.fleet_cache.specs.Dominates.{dominates as over};
+ghost use Rattle.fleet_cache.specs.Dominates.{dominates as over, is_same_key};
 
 use fleet_front::Ranked;
 use fleet_observe::{Moment, Observation};
@@ -48,9 +48,22 @@ impl<A: Allocator> Item<A> {
     }
 }
 
-// Whether an observation dominates another one.
+// Whether an observation dominates another one; what is cheap to ask comes first.
 fn is_over<A: Allocator>(one: &Observation<A>, other: &Observation<A>) -> bool
     ensures { result ≡ over one.now other.now }
+{
+    if one.expires() < other.expires() {
+        return false;
+    }
+    if !one.cmp(other).is_gt() {
+        return false;
+    }
+    has_key_of(one, other)
+}
+
+// Whether an observation has the name, the kind and the type of another one.
+fn has_key_of<A: Allocator>(one: &Observation<A>, other: &Observation<A>) -> bool
+    ensures { result ≡ is_same_key one.now other.now }
 {
     if one.kind().number() != other.kind().number() {
         return false;
@@ -58,13 +71,7 @@ fn is_over<A: Allocator>(one: &Observation<A>, other: &Observation<A>) -> bool
     if one.rtype() != other.rtype() {
         return false;
     }
-    if one.name().cmp(other.name()).is_ne() {
-        return false;
-    }
-    if !one.cmp(other).is_gt() {
-        return false;
-    }
-    other.expires() <= one.expires()
+    one.name().cmp(other.name()).is_eq()
 }
 
 impl<A: Allocator> Ranked for Item<A> {

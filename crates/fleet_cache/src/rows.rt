@@ -1,6 +1,8 @@
 //! Small caches, and what they answer.
 
+use crate::item::Item;
 use crate::{Answer, Cache};
+use fleet_front::Front;
 use fleet_name::{Name, Octets};
 use fleet_observe::{Moment, Observation, Soa};
 use fleet_wire::{Question, read_query};
@@ -128,6 +130,33 @@ fn the_preferred_of_two_answers(rt: HostRuntime) -> Result<(), Fail> {
             Told::Found(0, 2, 100)
         );
         assert_eq!(rt; answered(&rt, &cache, EXAMPLE, 1, 500)?, Told::Miss);
+    }
+    Ok(())
+}
+
+#[test]
+fn a_front_has_both_of_which_neither_dominates(rt: HostRuntime) -> Result<(), Fail> {
+    let high = (3, 100, FIRST);
+    let low = (1, 200, SECOND);
+    for order in [
+        [(high, true), (low, true), (low, false), (high, false)],
+        [(low, true), (high, true), (high, false), (low, false)],
+    ] {
+        let mut front = Front::new(rt.alloc());
+        for ((rank, stamp, rdata), new) in order {
+            let observation = seen(&rt, EXAMPLE, 1, rdata, rank, stamp, 300)?;
+            assert_eq!(rt; front.take(Item::new(observation))?, new);
+        }
+        let mut ranks = front.items().iter().map(|item| item.observation().rank());
+        assert_eq!(rt; ranks.next(), Some(3));
+        assert_eq!(rt; ranks.next(), Some(1));
+        assert_eq!(rt; ranks.next(), None);
+        for (moment, rank) in [(399, Some(3)), (400, Some(1)), (499, Some(1)), (500, None)] {
+            let first = front.first_shown(&at(moment)?);
+            assert_eq!(rt; first.map(|item| item.observation().rank()), rank);
+        }
+        front.drop_hidden(&at(400)?);
+        assert_eq!(rt; front.items().len(), 1);
     }
     Ok(())
 }

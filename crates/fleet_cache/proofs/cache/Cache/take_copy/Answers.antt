@@ -1,4 +1,4 @@
-use Rattle.std.proofs.Common.{◌≡◌, OnErr, subst}
+use Rattle.std.proofs.Common.{OnErr, subst}
 use Rattle.fleet_cache.specs.Cached.{IsNeedless}
 use Rattle.fleet_cache.proofs.Caches.{cached_needless}
 use Rattle.fleet_cache.proofs.cache.Cache.take_copy.Goals as goal
