@@ -16,7 +16,7 @@ use Rattle.fleet_cache.specs.Answer.{Part, Answered, Missed, Found, NoData, NxDo
 use Rattle.fleet_cache.specs.Told.{onto}
 use Rattle.fleet_cache.specs.Path.{shown_part}
 use Rattle.fleet_cache.proofs.Fronts.{Has-filter}
-use Rattle.fleet_cache.proofs.Orders.{wire_exact, equal_from, nat_eq_from, nat_eq_to}
+use Rattle.fleet_cache.specs.Orders.{wire_exact, equal_from, nat_eq_from, nat_eq_to}
 use Rattle.fleet_cache.proofs.Best.{best_same, best_unique, best_filtered, best_kept}
 use Rattle.fleet_cache.proofs.Lawful.{untyped}
 
@@ -87,12 +87,16 @@ live_to t o e = grind (arith, nat_tests, e)
 pub live_from : (t : ℕ) (o : Fact) → is_live t o ≡ true → hidden t o ≡ false
 live_from t o e = grind (arith, nat_tests, e)
 
+-- what is relevant follows from kind, type and name
+as_relevant : (n : List (List ℕ)) (q : ℕ) (x y : Fact) → x.kind ≡ y.kind → x.rtype ≡ y.rtype → x.name ≡ y.name → is_relevant n q x ≡ true → is_relevant n q y ≡ true
+as_relevant n q x y k r m e = let same : is_relevant n q x ≡ is_relevant n q y = cc in sym same ∙ e
+
 pub decides : (s items : List Fact) (f t : ℕ) (n : List (List ℕ)) (q : ℕ) (a : Option Fact) → f ≤ t → IsCached s f items → IsBest (Speaks t n q) items a → a ≡ deciding s t n q
 decides s items f t n q a le cached best =
     let one = best_same (Speaks t n q) (Matters t n q) items a
     (λ o h k. matters_from t n q o k)
     (λ o h k. speaks_from t n q o (cached.lawful o (Has-filter (λ x. not (hidden f x)) s o (cached.front.of_set o h)).0) k) best in
-    let two = best_kept (λ o. is_relevant n q o ≡ true) s items f t le cached a one in
+    let two = best_kept (λ o. is_relevant n q o ≡ true) (as_relevant n q) s items f t le cached a one in
     let three = best_same (Matters t n q) (λ o. (is_live t o && is_relevant n q o) ≡ true) s a
     (λ o h k. and_from _ _ (live_to t o k.0) k.1)
     (λ o h k. let p = and_parts (is_live t o) (is_relevant n q o) k in (live_from t o p.0, p.1)) two in

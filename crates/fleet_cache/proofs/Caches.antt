@@ -1,23 +1,21 @@
 -- How the items of a cache follow the set.
-use Rattle.std.proofs.Common.{ℕ, ◌≡◌, ◌<◌, ◌≤◌, true, false, not, List, [], ◌∷◌, ◌++◌, ◌⊎◌, inl, inr, length, take, drop, slice_get, Some, Result, Ok, Err, OnOk, OnErr, sym, ap, refl, ◌∙◌, subst, arith, length-append}
+use Rattle.std.proofs.Common.{ℕ, ◌≡◌, ◌<◌, ◌≤◌, true, false, not, List, [], ◌∷◌, ◌++◌, ◌⊎◌, ◌↔◌, inl, inr, length, take, slice_get, Some, Result, Ok, Err, OnOk, OnErr, sym, ap, refl, ◌∙◌, subst, arith, length-append}
 use mathlib.Core.Bool.{false≢true}
 use Rattle.std.proofs.Math.Seq.{take-append_seam}
-use Rattle.std.specs.List.{insert}
 use Rattle.std.specs.Result.{is_ok, is_err}
-use Rattle.std.specs.declared.cmp.Ordering.TheVariants.{Greater}
 use Rattle.std.proofs.lemmas.Bool.Decides.{nat_tests}
-use Rattle.std.proofs.lemmas.List.{take-append-drop}
 use Rattle.fleet_observe.specs.Members.{Has}
 use Rattle.fleet_observe.specs.Fact.{Fact, IsFact, AreFacts, expires}
 use Rattle.fleet_cache.specs.Front.{IsDescending, IsUndominated, IsFront, shown}
 use Rattle.fleet_cache.specs.Live.{hidden}
-use Rattle.fleet_cache.specs.Dominates.{prunes}
-use Rattle.fleet_cache.specs.Cached.{place, Held, IsCached, IsKept, IsGapFor, IsSameSet}
-use Rattle.fleet_cache.proofs.Fronts.{bool_cases, climb, front_itself, front_shown, front_same, not_true, Has-append, Has-left, Has-right, Has-filter, Has-in_filter, IsDescending-append, IsDescending-parts}
-use Rattle.fleet_cache.proofs.Orders.{place_laws}
+use Rattle.fleet_cache.specs.Dominates.{dominates}
+use Rattle.fleet_cache.specs.Cached.{place, Held, IsCached, IsKept, IsCovered, IsNeedless, IsSameSet}
+use Rattle.fleet_cache.specs.Swept.{IsSwept}
+use Rattle.fleet_cache.proofs.Fronts.{bool_cases, climb, front_itself, front_shown, front_same, not_true, Has-append, Has-left, Has-right, Has-filter, Has-in_filter}
+use Rattle.fleet_cache.specs.Orders.{place_laws}
 
 -- what is shown later was shown before
-shown_twice : (f m : ℕ) (s : List Fact) → f ≤ m → shown hidden m (shown hidden f s) ≡ shown hidden m s
+pub shown_twice : (f m : ℕ) (s : List Fact) → f ≤ m → shown hidden m (shown hidden f s) ≡ shown hidden m s
 shown_twice f m [] le = refl
 shown_twice f m (x ∷ s) le = elim (bool_cases (hidden f x)) [
   | inl e ↦
@@ -34,48 +32,32 @@ pub all_shown : (m : ℕ) (s : List Fact) → ((x : Fact) → Has s x → hidden
 all_shown m [] h = refl
 all_shown m (x ∷ s) h = rw (h x (inl refl)) (ap (λ t. x ∷ t) (all_shown m s (λ y k. h y (inr k))))
 
--- the members of a list with one more at a place
-module _ (items : List Fact) (at : ℕ) (x y : Fact) where
-  among : Has (insert items at x) y → (x ≡ y) ⊎ Has items y
-  among h = elim (Has-append (take at items) (x ∷ drop at items) y h) [
-    | inl l ↦ inr (subst (λ v. Has v y) (take-append-drop at items) (Has-left (take at items) (drop at items) y l))
-    | inr m ↦ elim m [
-      | inl same ↦ inl same
-      | inr r ↦ inr (subst (λ v. Has v y) (take-append-drop at items) (Has-right (take at items) (drop at items) y r))
-    ]
-  ]
-
-  inserted : (x ≡ y) ⊎ Has items y → Has (insert items at x) y
-  inserted h = elim h [
-    | inl same ↦ Has-right (take at items) (x ∷ drop at items) y (inl same)
-    | inr old ↦ elim (Has-append (take at items) (drop at items) y (subst (λ v. Has v y) (sym (take-append-drop at items)) old)) [
-      | inl l ↦ Has-left (take at items) (x ∷ drop at items) y l
-      | inr r ↦ Has-right (take at items) (x ∷ drop at items) y (inr r)
-    ]
-  ]
-
--- one more, in the gap for it
-front_inserted : (s items : List Fact) (at : ℕ) (x : Fact) → IsGapFor x at items → IsFront place prunes s items → IsFront place prunes (x ∷ s) (insert items at x)
-front_inserted s items at x gap front = record {
-  descending =
-      let p = IsDescending-parts place (take at items) (drop at items) (subst (IsDescending place) (sym (take-append-drop at items)) front.descending) in
-      IsDescending-append place (take at items) (x ∷ drop at items) p.0 (gap.behind, p.1) (λ y z h k. elim k [
-        | inl same ↦ subst (λ v. place y v ≡ Greater) same (gap.before y h)
-        | inr r ↦ p.2 y z h r
-      ]);
-  of_set = λ y h. elim (among items at x y h) [ inl same ↦ inl same | inr old ↦ inr (front.of_set y old) ];
-  undominated = λ y h w m. refl;
-  whole = λ y m free. inserted items at x y (elim m [ inl same ↦ inl same | inr old ↦ inr (front.whole y old (λ w k. refl)) ]);
-}
-
--- one that is there
-front_there : (s items : List Fact) (x : Fact) → Has items x → IsFront place prunes s items → IsFront place prunes (x ∷ s) items
-front_there s items x there front = record {
+-- one that is there, or is dominated
+front_covered : (s items : List Fact) (x : Fact) → IsCovered items x → IsFront place dominates s items → IsFront place dominates (x ∷ s) items
+front_covered s items x c front = record {
   descending = front.descending;
   of_set = λ y h. inr (front.of_set y h);
-  undominated = λ y h w m. refl;
-  whole = λ y m free. elim m [ inl same ↦ subst (Has items) same there | inr old ↦ front.whole y old (λ w k. refl) ];
+  undominated = λ y h w m. elim m [ inl same ↦ ap (λ v. dominates v y) (sym same) ∙ not_over y h | inr old ↦ front.undominated y h w old ];
+  whole = λ y m free. elim m [ inl same ↦ by_cover y same free | inr old ↦ front.whole y old (λ w k. free w (inr k)) ];
 }
+  where
+    above : (y : Fact) → Has items y → dominates c.0 y ≡ false
+    above y h = front.undominated y h c.0 (front.of_set c.0 c.1)
+
+    not_over : (y : Fact) → Has items y → dominates x y ≡ false
+    not_over y h = elim (bool_cases (dominates x y)) [
+      | inr nay ↦ nay
+      | inl over ↦ elim c.2 [
+        | inl same ↦ absurd (false≢true (sym (above y h) ∙ (ap (λ v. dominates v y) same ∙ over)))
+        | inr far ↦ absurd (false≢true (sym (above y h) ∙ place_laws.chained c.0 x y far over))
+      ]
+    ]
+
+    by_cover : (y : Fact) → x ≡ y → IsUndominated dominates (x ∷ s) y → Has items y
+    by_cover y same free = elim c.2 [
+      | inl here ↦ subst (Has items) (here ∙ same) c.1
+      | inr far ↦ absurd (false≢true (sym (free c.0 (inr (front.of_set c.0 c.1))) ∙ (ap (dominates c.0) (sym same) ∙ far)))
+    ]
 
 more_lawful : (s : List Fact) (x : Fact) → IsFact x → AreFacts s → AreFacts (x ∷ s)
 more_lawful s x one all o h = elim h [ inl same ↦ subst IsFact same one | inr old ↦ all o old ]
@@ -85,34 +67,45 @@ module _ (s items : List Fact) (f : ℕ) (x : Fact) (lawful : IsFact x) (cached 
   pub cached_ended : hidden f x ≡ true → IsCached (x ∷ s) f items
   cached_ended e = record { lawful = more_lawful s x lawful cached.lawful; front = rw e cached.front }
 
-  -- one that is there
-  pub cached_there : hidden f x ≡ false → Has items x → IsCached (x ∷ s) f items
-  cached_there e there = record { lawful = more_lawful s x lawful cached.lawful; front = rw e (front_there (shown hidden f s) items x there cached.front) }
+  -- one that is there, or is dominated
+  pub cached_covered : IsCovered items x → IsCached (x ∷ s) f items
+  cached_covered c = record {
+    lawful = more_lawful s x lawful cached.lawful;
+    front = elim (bool_cases (hidden f x)) [
+      | inl e ↦ rw e cached.front
+      | inr e ↦ rw e (front_covered (shown hidden f s) items x c cached.front)
+    ];
+  }
 
-  -- a new one
-  pub cached_put : (at : ℕ) → hidden f x ≡ false → IsGapFor x at items → IsCached (x ∷ s) f (insert items at x)
-  cached_put at e gap = record { lawful = more_lawful s x lawful cached.lawful; front = rw e (front_inserted (shown hidden f s) items at x gap cached.front) }
+  -- one that need not be held
+  pub cached_needless : IsNeedless f items x → IsCached (x ∷ s) f items
+  cached_needless (inl ended) = cached_ended (grind (arith, nat_tests, ended))
+  cached_needless (inr c) = cached_covered c
+
+  -- one that has not
+  pub cached_put : (new : List Fact) → hidden f x ≡ false → IsFront place dominates (x ∷ shown hidden f s) new → IsCached (x ∷ s) f new
+  cached_put new e front = record { lawful = more_lawful s x lawful cached.lawful; front = rw e front }
 
 -- each item is of the set, and has not ended
 pub item_of_set : (s items : List Fact) (f : ℕ) → IsCached s f items → (x : Fact) → Has items x → Has s x × (hidden f x ≡ false)
 item_of_set s items f cached x h = let k = Has-filter (λ o. not (hidden f o)) s x (cached.front.of_set x h) in (k.0, not_true (hidden f x) k.1)
 
+-- no item has ended
+pub all_live : (s items : List Fact) (f : ℕ) → IsCached s f items → shown hidden f items ≡ items
+all_live s items f cached = all_shown f items (λ x h. (item_of_set s items f cached x h).1)
+
 -- the items are those of their own set
 pub cached_itself : (s items : List Fact) (f : ℕ) → IsCached s f items → IsCached items f items
 cached_itself s items f cached = record {
   lawful = λ o h. cached.lawful o (item_of_set s items f cached o h).0;
-  front = subst (λ v. IsFront place prunes v items) (sym (all_shown f items (λ o h. (item_of_set s items f cached o h).1))) (front_itself place_laws (shown hidden f s) items cached.front);
+  front = subst (λ v. IsFront place dominates v items) (sym (all_shown f items (λ o h. (item_of_set s items f cached o h).1))) (front_itself place_laws (shown hidden f s) items cached.front);
 }
 
 pub cached_purged : (s items : List Fact) (f m : ℕ) → f ≤ m → IsCached s f items → IsCached s m (shown hidden m items)
 cached_purged s items f m le cached = record {
   lawful = cached.lawful;
-  front = subst (λ v. IsFront place prunes v (shown hidden m items)) (shown_twice f m s le) (front_shown place_laws m (shown hidden f s) items cached.front);
+  front = subst (λ v. IsFront place dominates v (shown hidden m items)) (shown_twice f m s le) (front_shown place_laws m (shown hidden f s) items cached.front);
 }
-
--- the same set at a later floor, where no item has ended by then
-pub cached_later : (s items : List Fact) (f m : ℕ) → f ≤ m → ((x : Fact) → Has items x → hidden m x ≡ false) → IsCached s f items → IsCached s m items
-cached_later s items f m le live cached = subst (IsCached s m) (all_shown m items live) (cached_purged s items f m le cached)
 
 -- the items of a cache stand for its set: taken into another at no lower floor, they give the cache of both
 pub cached_both : (s u theirs items : List Fact) (f g : ℕ) → g ≤ f → IsCached u g theirs → IsCached (theirs ++ s) f items → IsCached (u ++ s) f items
@@ -121,10 +114,10 @@ cached_both s u theirs items f g le from cached = record {
   front = record {
     descending = cached.front.descending;
     of_set = λ x h. widen x (cached.front.of_set x h);
-    undominated = λ x h w m. elim (bool_cases (prunes w x)) [
+    undominated = λ x h w m. elim (bool_cases (dominates w x)) [
       | inr nay ↦ nay
       | inl over ↦ absurd (false≢true (sym (cached.front.undominated x h (peak w m).0 (peak w m).1) ∙ elim (peak w m).2 [
-        | inl same ↦ ap (λ v. prunes v x) same ∙ over
+        | inl same ↦ ap (λ v. dominates v x) same ∙ over
         | inr far ↦ place_laws.chained (peak w m).0 w x far over
       ]))
     ];
@@ -141,8 +134,8 @@ cached_both s u theirs items f g le from cached = record {
       | inr r ↦ Has-in_filter (λ o. not (hidden f o)) (u ++ s) x (Has-right u s x r) k.1
     ]
 
-    -- what prunes w, or w itself, among what is shown of theirs and s
-    peak : (w : Fact) → Has (shown hidden f (u ++ s)) w → (p : Fact) × Has (shown hidden f (theirs ++ s)) p × ((p ≡ w) ⊎ (prunes p w ≡ true))
+    -- what dominates w, or w itself, among what is shown of theirs and s
+    peak : (w : Fact) → Has (shown hidden f (u ++ s)) w → (p : Fact) × Has (shown hidden f (theirs ++ s)) p × ((p ≡ w) ⊎ (dominates p w ≡ true))
     peak w m = let k = Has-filter (λ o. not (hidden f o)) (u ++ s) w m in elim (Has-append u s w k.0) [
       | inr r ↦ (w, Has-in_filter (λ o. not (hidden f o)) (theirs ++ s) w (Has-right theirs s w r) k.1, inl refl)
       | inl l ↦
@@ -156,10 +149,10 @@ cached_both s u theirs items f g le from cached = record {
           (c.0, Has-in_filter (λ o. not (hidden f o)) (theirs ++ s) c.0 (Has-left theirs s c.0 (from.front.whole c.0 member c.2)) (ap not seen), elim c.1 [ inl same ↦ inl same | inr far ↦ inr far.1 ])
     ]
 
-    narrow : (x : Fact) → Has (shown hidden f (u ++ s)) x → IsUndominated prunes (shown hidden f (u ++ s)) x → Has (shown hidden f (theirs ++ s)) x
+    narrow : (x : Fact) → Has (shown hidden f (u ++ s)) x → IsUndominated dominates (shown hidden f (u ++ s)) x → Has (shown hidden f (theirs ++ s)) x
     narrow x m free = let k = Has-filter (λ o. not (hidden f o)) (u ++ s) x m in elim (Has-append u s x k.0) [
       | inr r ↦ Has-in_filter (λ o. not (hidden f o)) (theirs ++ s) x (Has-right theirs s x r) k.1
-      | inl l ↦ Has-in_filter (λ o. not (hidden f o)) (theirs ++ s) x (Has-left theirs s x (from.front.whole x (Has-in_filter (λ o. not (hidden g o)) u x l (ap not (later x (not_true _ k.1)))) (λ w h. elim (bool_cases (prunes w x)) [
+      | inl l ↦ Has-in_filter (λ o. not (hidden f o)) (theirs ++ s) x (Has-left theirs s x (from.front.whole x (Has-in_filter (λ o. not (hidden g o)) u x l (ap not (later x (not_true _ k.1)))) (λ w h. elim (bool_cases (dominates w x)) [
         | inr nay ↦ nay
         | inl over ↦ elim (bool_cases (hidden f w)) [
           | inl end ↦ absurd (false≢true (sym (not_true _ k.1) ∙ place_laws.hides_below f w x end over))
@@ -202,21 +195,92 @@ more_same ys s x = record {
 pub cached_more : (ys s items : List Fact) (f : ℕ) (x : Fact) → IsCached (x ∷ (ys ++ s)) f items → IsCached ((ys ++ x ∷ []) ++ s) f items
 cached_more ys s items f x cached = cached_listed (x ∷ (ys ++ s)) ((ys ++ x ∷ []) ++ s) items f cached (more_same ys s x)
 
--- what was kept stays kept
-pub kept_put : (f earliest : ℕ) (items : List Fact) (at : ℕ) (x : Fact) → IsKept f earliest items → IsFact x → hidden f x ≡ false → IsGapFor x at items → (least : ℕ) → least ≤ earliest → least ≤ expires x → IsKept f least (insert items at x)
-kept_put f earliest items at x kept lawful e gap least le lx = record {
-  own = cached_itself (x ∷ items) (insert items at x) f (cached_put items items f x lawful kept.own at e gap);
-  bound = λ y h. elim (among items at x y h) [ inl same ↦ subst (λ v. least ≤ expires v) same lx | inr old ↦ let b = kept.bound y old in omega arith ];
+-- what is shown of all that is kept is its cache
+pub kept_cached : (items : List Fact) (f : ℕ) → IsKept items → IsCached items f (shown hidden f items)
+kept_cached items f kept = record { lawful = kept.lawful; front = front_shown place_laws f items items kept.front }
+
+-- it is the cache of its own set
+pub kept_itself : (items : List Fact) (f : ℕ) → IsKept items → IsCached (shown hidden f items) f (shown hidden f items)
+kept_itself items f kept = cached_itself items (shown hidden f items) f (kept_cached items f kept)
+
+-- nothing had ended at the start of time
+pub kept_whole : (items : List Fact) → IsKept items → IsCached items 0 items
+kept_whole items kept = record {
+  lawful = kept.lawful;
+  front = subst (λ v. IsFront place dominates v items) (sym (all_shown 0 items (λ x h. let l = (kept.lawful x h).life.0 in grind (arith, nat_tests, l)))) kept.front;
 }
 
-pub kept_purged : (f m earliest least : ℕ) (items : List Fact) → f ≤ m → IsKept f earliest items → ((y : Fact) → Has (shown hidden m items) y → least ≤ expires y) → IsKept m least (shown hidden m items)
-kept_purged f m earliest least items le kept bound = record {
-  own = cached_itself items (shown hidden m items) m (cached_purged items items f m le kept.own);
-  bound = bound;
+-- the last of a list, or the first
+last_first : (s : List Fact) (x : Fact) → IsSameSet (s ++ x ∷ []) (x ∷ s)
+last_first s x = record {
+  into = λ z h. elim (Has-append s (x ∷ []) z h) [ inl l ↦ inr l | inr r ↦ elim r [ inl e ↦ inl e | inr none ↦ absurd none ] ];
+  back = λ z h. elim h [ inl e ↦ Has-right s (x ∷ []) z (inl e) | inr m ↦ Has-left s (x ∷ []) z m ];
 }
 
-pub kept_later : (f m earliest : ℕ) (items : List Fact) → f ≤ m → ((x : Fact) → Has items x → hidden m x ≡ false) → IsKept f earliest items → IsKept m earliest items
-kept_later f m earliest items le live kept = record { own = cached_later items items f m le live kept.own; bound = kept.bound }
+first_last : (s : List Fact) (x : Fact) → IsSameSet (x ∷ s) (s ++ x ∷ [])
+first_last s x = record { into = (last_first s x).back; back = (last_first s x).into }
+
+-- one more was taken up into what is kept: what is shown of it is the cache of the set with it
+pub cached_taken : (s items new : List Fact) (f : ℕ) (x : Fact) → IsFact x → hidden f x ≡ false → IsCached s f (shown hidden f items) → IsFront place dominates (x ∷ items) new → IsCached (x ∷ s) f (shown hidden f new)
+cached_taken s items new f x one live cached front =
+    let held = shown hidden f items in
+    let whole : IsFront place dominates (x ∷ held) (shown hidden f new) = rw live at (front_shown place_laws f (x ∷ items) new front) in
+    let small : IsCached (x ∷ held) f (shown hidden f new) = record {
+      lawful = more_lawful held x one (cached_itself s held f cached).lawful;
+      front = rw live (subst (λ v. IsFront place dominates (x ∷ v) (shown hidden f new)) (sym (all_live s held f cached)) whole);
+    } in
+    let both = cached_both (x ∷ []) s held (shown hidden f new) f f (omega arith) cached (cached_listed (x ∷ held) (held ++ x ∷ []) (shown hidden f new) f small (first_last held x)) in
+    cached_listed (s ++ x ∷ []) (x ∷ s) (shown hidden f new) f both (last_first s x)
+
+-- what has ended covers nothing that has not
+pub covered_shown : (items : List Fact) (f : ℕ) (x : Fact) → hidden f x ≡ false → IsCovered items x → IsCovered (shown hidden f items) x
+covered_shown items f x live c =
+    let seen : hidden f c.0 ≡ false = elim (bool_cases (hidden f c.0)) [
+      | inr nay ↦ nay
+      | inl end ↦ absurd (false≢true (sym live ∙ elim c.2 [ inl same ↦ ap (hidden f) (sym same) ∙ end | inr over ↦ place_laws.hides_below f c.0 x end over ]))
+    ] in
+    (c.0, Has-in_filter (λ o. not (hidden f o)) items c.0 c.1 (ap not seen), c.2)
+
+-- what need not be held: it is covered by what is kept, or has ended
+pub needless_shown : (items : List Fact) (f : ℕ) (x : Fact) → hidden f x ≡ false → IsCovered items x ↔ IsNeedless f (shown hidden f items) x
+needless_shown items f x live = (
+  (λ c. inr (covered_shown items f x live c)),
+  λ n. elim n [
+    | inl ended ↦ absurd (grind (arith, nat_tests, live, ended))
+    | inr c ↦ (c.0, (Has-filter (λ o. not (hidden f o)) items c.0 c.1).0, c.2)
+  ],
+)
+
+-- with one more, it is kept
+pub kept_put : (items new : List Fact) (x : Fact) → IsKept items → IsFact x → IsFront place dominates (x ∷ items) new → IsKept new
+kept_put items new x kept one front = record {
+  lawful = λ y h. more_lawful items x one kept.lawful y (front.of_set y h);
+  front = front_itself place_laws (x ∷ items) new front;
+}
+
+-- what is left of what is kept, in order, is kept
+pub kept_swept : (items rest : List Fact) (m : ℕ) → IsKept items → IsDescending place rest → IsSwept m items rest → IsKept rest
+kept_swept items rest m kept order swept = record {
+  lawful = λ x h. kept.lawful x (swept.of_items x h);
+  front = record {
+    descending = order;
+    of_set = λ x h. h;
+    undominated = λ x h w k. kept.front.undominated x (swept.of_items x h) w (swept.of_items w k);
+    whole = λ x h free. h;
+  };
+}
+
+-- the same set at a later floor, and some of what has ended by then dropped
+pub cached_swept : (s items rest : List Fact) (f m : ℕ) → f ≤ m → IsSwept m items rest → IsCached s f (shown hidden f items) → IsCached s m (shown hidden m rest)
+cached_swept s items rest f m le swept cached = subst (IsCached s m) (shown_twice f m items le ∙ sym swept.shown_still) (cached_purged s (shown hidden f items) f m le cached)
+
+-- what is shown is no more than what is there
+pub shown_shorter : (m : ℕ) (s : List Fact) → length (shown hidden m s) ≤ length s
+shown_shorter m [] = omega arith
+shown_shorter m (x ∷ s) = elim (bool_cases (hidden m x)) [
+  | inl e ↦ rw e (let n = shown_shorter m s in omega (arith, n))
+  | inr e ↦ rw e (let n = shown_shorter m s in omega (arith, n))
+]
 
 -- a cache took a list in, and its floor stayed
 pub record HasTaken (before after : Held) (list : List Fact) : Type 0 where
@@ -256,3 +320,8 @@ at_ok (Err y) e p = absurd (false≢true e)
 pub at_err : {T E P : Type 0} (r : Result T E) → true ≡ is_err r → OnErr r P → P
 at_err (Ok x) e p = absurd (false≢true (sym e))
 at_err (Err y) e p = p
+
+-- what holds anyhow holds of a refusal
+pub on_err : {T E P : Type 0} (r : Result T E) → P → OnErr r P
+on_err (Ok x) p = tt
+on_err (Err y) p = p

@@ -1,73 +1,101 @@
--- Each set of observations has a cache at each floor: its members are taken in, one after another.
-use Rattle.std.proofs.Common.{ℕ, suc, ◌≡◌, List, [], ◌∷◌, ◌⊎◌, inl, inr, refl, sym, ap, ◌∙◌, subst, arith}
-use Rattle.std.specs.List.{insert}
+-- Each set of observations has a cache at each floor: of what it shows, in order, what no member dominates.
+use Rattle.std.proofs.Common.{ℕ, ◌≡◌, Bool, false, refl, not, List, [], ◌∷◌, inl, inr, sym, ap, ◌∙◌, subst}
+use mathlib.Core.Bool.{false≢true}
+use Rattle.std.specs.List.{filter, list_any}
 use Rattle.std.specs.Ordering.{ordering_reverse}
 use Rattle.std.specs.declared.cmp.Ordering.TheVariants.{Greater}
 use Rattle.fleet_observe.specs.Members.{Has}
 use Rattle.fleet_observe.specs.Fact.{Fact, AreFacts}
-use Rattle.fleet_cache.specs.Front.{IsDescending}
+use Rattle.fleet_cache.specs.Front.{IsDescending, IsUndominated, shown}
 use Rattle.fleet_cache.specs.Live.{hidden}
-use Rattle.fleet_cache.specs.Cached.{place, IsCached, IsGapFor}
-use Rattle.fleet_cache.proofs.Fronts.{bool_cases, above}
-use Rattle.fleet_cache.proofs.Keys.{ordering_cases}
-use Rattle.fleet_cache.proofs.Orders.{place_total, place_exact, place_laws}
-use Rattle.fleet_cache.proofs.Caches.{cached_ended, cached_there, cached_put}
+use Rattle.fleet_cache.specs.Dominates.{dominates}
+use Rattle.fleet_cache.specs.Cached.{place, IsCached}
+use Rattle.fleet_cache.specs.Orders.{place_total, place_exact, place_laws}
+use Rattle.fleet_cache.proofs.Fronts.{bool_cases, ordering_cases, above, not_true, Has-filter, Has-in_filter, IsDescending-filter}
 
--- the place of an observation that is there, or its gap
-abbrev Placed : Fact → List Fact → Type 0
-Placed x items = Has items x ⊎ ((at : ℕ) × IsGapFor x at items)
-
--- before all
-at_front : (x y : Fact) (items : List Fact) → IsDescending place (y ∷ items) → place x y ≡ Greater → Placed x (y ∷ items)
-at_front x y items down over = inr (
-  0,
-  record {
-    within = omega arith;
-    before = λ z h. absurd h;
-    behind = λ z h. elim h [
-      | inl same ↦ subst (λ v. place x v ≡ Greater) same over
-      | inr far ↦ above place_laws x y z over (down.0 z far)
-    ];
-  },
-)
+-- the members of a list, each once, in order
+record Ranked (s : List Fact) : Type 0 where
+  pub items : List Fact
+  pub descending : IsDescending place items
+  pub from : (z : Fact) → Has items z → Has s z
+  pub to : (z : Fact) → Has s z → Has items z
 
 -- behind the first
-past_first : (x y : Fact) (items : List Fact) → place y x ≡ Greater → Placed x items → Placed x (y ∷ items)
-past_first x y items over (inl there) = inl (inr there)
-past_first x y items over (inr p) = inr (
-  suc p.0,
-  record {
-    within = omega (arith, p.1.within);
-    before = λ z h. elim h [ inl same ↦ subst (λ v. place v x ≡ Greater) same over | inr far ↦ p.1.before z far ];
-    behind = p.1.behind;
-  },
-)
+ranked_behind : (x y : Fact) (items : List Fact) → place y x ≡ Greater → IsDescending place (y ∷ items) → Ranked (x ∷ items) → Ranked (x ∷ y ∷ items)
+ranked_behind x y items over down rest = record {
+  items = y ∷ rest.items;
+  descending = ((λ z h. elim (rest.from z h) [ inl same ↦ subst (λ v. place y v ≡ Greater) same over | inr old ↦ down.0 z old ]), rest.descending);
+  from = λ z h. elim h [
+    | inl same ↦ inr (inl same)
+    | inr far ↦ elim (rest.from z far) [ inl same ↦ inl same | inr old ↦ inr (inr old) ]
+  ];
+  to = λ z h. elim h [
+    | inl same ↦ inr (rest.to z (inl same))
+    | inr far ↦ elim far [ inl same ↦ inl same | inr old ↦ inr (rest.to z (inr old)) ]
+  ];
+}
 
-placed : (x : Fact) (items : List Fact) → IsDescending place items → Placed x items
-placed x [] down = inr (0, record { within = omega arith; before = λ z h. absurd h; behind = λ z h. absurd h })
-placed x (y ∷ items) down = elim (ordering_cases (place x y)) [
-  | inl less ↦ past_first x y items (place_total.antisymm y x ∙ ap ordering_reverse less) (placed x items down.1)
+-- one more
+ranked_more : (x : Fact) (items : List Fact) → IsDescending place items → Ranked (x ∷ items)
+ranked_more x [] down = record { items = x ∷ []; descending = ((λ z h. absurd h), tt); from = λ z h. h; to = λ z h. h }
+ranked_more x (y ∷ items) down = elim (ordering_cases (place x y)) [
+  | inl less ↦ ranked_behind x y items (place_total.antisymm y x ∙ ap ordering_reverse less) down (ranked_more x items down.1)
   | inr more ↦ elim more [
-    | inl equal ↦ inl (inl (sym (place_exact x y equal)))
-    | inr greater ↦ at_front x y items down greater
+    | inl equal ↦ record {
+      items = y ∷ items;
+      descending = down;
+      from = λ z h. inr h;
+      to = λ z h. elim h [ inl same ↦ inl (sym (place_exact x y equal) ∙ same) | inr old ↦ old ];
+    }
+    | inr greater ↦ record {
+      items = x ∷ y ∷ items;
+      descending = ((λ z h. elim h [ inl same ↦ subst (λ v. place x v ≡ Greater) same greater | inr far ↦ above place_laws x y z greater (down.0 z far) ]), down);
+      from = λ z h. h;
+      to = λ z h. h;
+    }
   ]
 ]
 
--- no observations
-cached_none : (f : ℕ) → IsCached [] f []
-cached_none f = record {
-  lawful = λ o h. absurd h;
-  front = record { descending = tt; of_set = λ x h. h; undominated = λ x h. absurd h; whole = λ x h free. h };
-}
+ranked : (s : List Fact) → Ranked s
+ranked [] = record { items = []; descending = tt; from = λ z h. h; to = λ z h. h }
+ranked (x ∷ s) =
+    let old = ranked s in
+    let new = ranked_more x old.items old.descending in
+    record {
+      items = new.items;
+      descending = new.descending;
+      from = λ z h. elim (new.from z h) [ inl same ↦ inl same | inr k ↦ inr (old.from z k) ];
+      to = λ z h. new.to z (elim h [ inl same ↦ inl same | inr k ↦ inr (old.to z k) ]);
+    }
+
+-- whether a member of a list dominates x
+abbrev is_dominated : List Fact → Fact → Bool
+is_dominated s x = list_any (λ y. dominates y x) s
+
+none_over : (s : List Fact) (x : Fact) → is_dominated s x ≡ false → IsUndominated dominates s x
+none_over [] x e y h = absurd h
+none_over (w ∷ s) x e y h = elim (bool_cases (dominates w x)) [
+  | inl yea ↦ absurd (false≢true (sym (rw yea at e)))
+  | inr nay ↦ elim h [ inl same ↦ ap (λ v. dominates v x) (sym same) ∙ nay | inr far ↦ none_over s x (rw nay at e) y far ]
+]
+
+over_none : (s : List Fact) (x : Fact) → IsUndominated dominates s x → is_dominated s x ≡ false
+over_none [] x free = refl
+over_none (w ∷ s) x free = rw (free w (inl refl)) (over_none s x (λ y h. free y (inr h)))
 
 pub cache_of : (s : List Fact) (f : ℕ) → AreFacts s → (items : List Fact) × IsCached s f items
-cache_of [] f lawful = ([], cached_none f)
-cache_of (x ∷ s) f lawful =
-    let old = cache_of s f (λ o h. lawful o (inr h)) in
-    elim (bool_cases (hidden f x)) [
-      | inl ended ↦ (old.0, cached_ended s old.0 f x (lawful x (inl refl)) old.1 ended)
-      | inr live ↦ elim (placed x old.0 old.1.front.descending) [
-        | inl there ↦ (old.0, cached_there s old.0 f x (lawful x (inl refl)) old.1 live there)
-        | inr gap ↦ (insert old.0 gap.0 x, cached_put s old.0 f x (lawful x (inl refl)) old.1 gap.0 live gap.1)
-      ]
-    ]
+cache_of s f lawful =
+    let seen = shown hidden f s in
+    let all = ranked seen in
+    let test = λ (x : Fact). not (is_dominated seen x) in (
+      filter test all.items,
+      record {
+        lawful = lawful;
+        front = record {
+          descending = IsDescending-filter place test all.items all.descending;
+          of_set = λ x h. all.from x (Has-filter test all.items x h).0;
+          undominated = λ x h. none_over seen x (not_true _ (Has-filter test all.items x h).1);
+          whole = λ x m free. Has-in_filter test all.items x (all.to x m) (ap not (over_none seen x free));
+        };
+      },
+    )

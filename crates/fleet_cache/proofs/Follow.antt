@@ -11,7 +11,7 @@ use Rattle.fleet_cache.specs.Told.{onto}
 use Rattle.fleet_cache.specs.Path.{shown_part}
 use Rattle.fleet_cache.specs.Underway.{IsUnderway}
 use Rattle.fleet_cache.specs.declared.shown.Shown.{Shown}
-use Rattle.fleet_cache.proofs.Orders.{wire_exact}
+use Rattle.fleet_cache.specs.Orders.{wire_exact}
 use Rattle.fleet_cache.proofs.Answers.{decides, within_none, within_last, within_full, within_link, onto_missed, onto_found, onto_no_data, onto_denied, onto_more}
 
 pub ended_found : (ps : List Part) (x : Part) → 3 ≡ x.fact.kind → Found ps x ≡ onto ps (by_kind x)

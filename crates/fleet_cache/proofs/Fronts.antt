@@ -3,23 +3,21 @@ use Rattle.std.proofs.Common.{◌≡◌, Bool, true, false, not, List, [], ◌�
 use mathlib.Core.Bool.{false≢true}
 use Rattle.std.specs.List.{filter}
 use Rattle.std.specs.declared.cmp.Ordering.{Ordering}
-use Rattle.std.specs.declared.cmp.Ordering.TheVariants.{Less, Greater}
+use Rattle.std.specs.declared.cmp.Ordering.TheVariants.{Less, Equal, Greater}
 use Rattle.std.specs.Ordering.{ordering_reverse}
-use Rattle.std.specs.Cmp.{IsTotalOrder}
 use Rattle.std.proofs.lemmas.Cmp.{tied_itself}
 use Rattle.fleet_observe.specs.Members.{Has}
+use Rattle.fleet_front.specs.Front.{RankedLaws}
 use Rattle.fleet_cache.specs.Front.{IsDescending, IsUndominated, IsFront, shown}
-
--- the laws of an order, a dominance and a cut
-pub record RankedLaws {T C : Type 0} (order : T → T → Ordering) (dominates : T → T → Bool) (hidden : C → T → Bool) : Type 0 where
-  pub total : IsTotalOrder order
-  pub chained : (x y z : T) → dominates x y ≡ true → dominates y z ≡ true → dominates x z ≡ true
-  pub greater : (x y : T) → dominates x y ≡ true → order x y ≡ Greater
-  pub hides_below : (c : C) (x y : T) → hidden c x ≡ true → dominates x y ≡ true → hidden c y ≡ true
 
 pub bool_cases : (b : Bool) → (b ≡ true) ⊎ (b ≡ false)
 bool_cases true = inl refl
 bool_cases false = inr refl
+
+pub ordering_cases : (o : Ordering) → (o ≡ Less) ⊎ ((o ≡ Equal) ⊎ (o ≡ Greater))
+ordering_cases Less = inl refl
+ordering_cases Equal = inr (inl refl)
+ordering_cases Greater = inr (inr refl)
 
 pub not_true : (b : Bool) → not b ≡ true → b ≡ false
 not_true true e = absurd (false≢true e)

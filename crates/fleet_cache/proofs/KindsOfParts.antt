@@ -10,7 +10,7 @@ use Rattle.fleet_cache.specs.Answer.{Part, Answered, Missed, Found, NoData, NxDo
 use Rattle.fleet_cache.specs.Told.{told}
 use Rattle.fleet_cache.specs.Kinds.{IsPositivePart, HasKinds}
 use Rattle.fleet_cache.proofs.Best.{best_filtered}
-use Rattle.fleet_cache.proofs.Orders.{nat_eq_from}
+use Rattle.fleet_cache.specs.Orders.{nat_eq_from}
 
 has_kinds-behind : (p : Part) (a : Answered) → IsPositivePart p → HasKinds a → HasKinds (behind p a)
 has_kinds-behind p Missed k h = tt

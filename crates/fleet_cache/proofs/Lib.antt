@@ -1,11 +1,13 @@
 mod Fronts
-mod Orders
 mod Keys
 mod Names
 mod Lawful
 mod Caches
-mod Sorted
+mod Keyed
+mod Slots
+mod Sweeps
 mod Best
+mod Looked
 mod Answers
 mod Follow
 mod Paths

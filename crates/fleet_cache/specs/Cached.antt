@@ -1,15 +1,15 @@
 -- What a cache holds of a set of observations.
-use Rattle.std.specs.Prelude.{◌≡◌, ℕ, ◌/◌, ◌%◌, ◌≤◌, true, ◌⊎◌, List, [], ◌∷◌, ◌++◌, length, take, drop, slice_get, Some}
+use Rattle.std.specs.Prelude.{◌≡◌, ℕ, Bool, ◌||◌, ◌/◌, ◌%◌, ◌≤◌, true, ◌⊎◌, List, [], ◌∷◌, ◌++◌, slice_get, Some}
 use Rattle.std.specs.declared.cmp.Ordering.{Ordering}
-use Rattle.std.specs.declared.cmp.Ordering.TheVariants.{Greater}
-use Rattle.std.specs.Ordering.{nat_cmp, ordering_then}
+use Rattle.std.specs.Ordering.{nat_cmp, ordering_then, is_eq}
+use Rattle.std.specs.List.{list_any}
 use Rattle.std.specs.Cmp.Lexicographic.{slice_cmp}
 use Rattle.fleet_observe.specs.Members.{Has}
 use Rattle.fleet_observe.specs.Fact.{Fact, AreFacts, expires, key_of}
 use Rattle.fleet_observe.specs.Preference.{preference}
 use Rattle.fleet_cache.specs.Front.{IsFront, shown}
 use Rattle.fleet_cache.specs.Live.{hidden}
-use Rattle.fleet_cache.specs.Dominates.{prunes}
+use Rattle.fleet_cache.specs.Dominates.{dominates}
 
 -- octets in the order of a dictionary
 abbrev pub key_cmp : List ℕ → List ℕ → Ordering
@@ -23,24 +23,32 @@ key_with name kind rtype = name ++ kind ∷ rtype / 256 ∷ rtype % 256 ∷ []
 abbrev pub place : Fact → Fact → Ordering
 place x y = ordering_then (key_cmp (key_of y) (key_of x)) (preference x y)
 
--- the items are the observations of s that end after the floor and are not pruned, in order
+-- the items are the undominated observations of s that end after the floor, in order
 pub record IsCached (s : List Fact) (floor : ℕ) (items : List Fact) : Type 0 where
   pub lawful : AreFacts s
-  pub front : IsFront place prunes (shown hidden floor s) items
+  pub front : IsFront place dominates (shown hidden floor s) items
 
 -- what a cache holds: its floor, and its items in order
 pub record Held : Type 0 where
   pub floor : ℕ
   pub items : List Fact
 
--- what a cache keeps: its items are those of their own set, and none of them ends before the earliest
-pub record IsKept (floor earliest : ℕ) (items : List Fact) : Type 0 where
-  pub own : IsCached items floor items
-  pub bound : (x : Fact) → Has items x → earliest ≤ expires x
+-- what a cache keeps: observations of which none dominates another, in order
+pub record IsKept (items : List Fact) : Type 0 where
+  pub lawful : AreFacts items
+  pub front : IsFront place dominates items items
 
--- a cache need not take o in: it has ended at the floor, or is there already, or would be pruned
+-- o is one of the items, or one of them dominates it
+abbrev pub IsCovered : List Fact → Fact → Type 0
+IsCovered items o = (p : Fact) × Has items p × ((p ≡ o) ⊎ (dominates p o ≡ true))
+
+-- the same as a test
+abbrev pub is_covered : List Fact → Fact → Bool
+is_covered items o = list_any (λ p. is_eq (preference p o) || dominates p o) items
+
+-- a cache need not take o in: it has ended at the floor, or is there already, or is dominated
 abbrev pub IsNeedless : ℕ → List Fact → Fact → Type 0
-IsNeedless floor items o = (expires o ≤ floor) ⊎ ((p : Fact) × Has items p × ((p ≡ o) ⊎ (prunes p o ≡ true)))
+IsNeedless floor items o = (expires o ≤ floor) ⊎ IsCovered items o
 
 -- the observation at this place of a list is to be held
 abbrev pub IsNeededAt : ℕ → List Fact → List Fact → ℕ → Type 0
@@ -50,9 +58,3 @@ IsNeededAt floor items list at = (o : Fact) × (slice_get list at ≡ Some o) ×
 pub record IsSameSet (s t : List Fact) : Type 0 where
   pub into : (x : Fact) → Has s x → Has t x
   pub back : (x : Fact) → Has t x → Has s x
-
--- all before the place stand before x, and all others behind it
-pub record IsGapFor (x : Fact) (at : ℕ) (items : List Fact) : Type 0 where
-  pub within : at ≤ length items
-  pub before : (y : Fact) → Has (take at items) y → place y x ≡ Greater
-  pub behind : (y : Fact) → Has (drop at items) y → place x y ≡ Greater

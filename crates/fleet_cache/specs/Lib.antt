@@ -8,6 +8,9 @@ pub mod Shown
 pub mod Told
 pub mod Kinds
 pub mod Best
+pub mod Orders
+pub mod Slots
+pub mod Swept
 pub mod Underway
 pub mod Path
 pub mod Laws

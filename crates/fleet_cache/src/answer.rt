@@ -3,9 +3,9 @@
 ghost use Rattle.std.specs.Prelude.{◌≡◌, ℕ, ◌≤◌, ◌++◌, [], ◌∷◌, List, IfOk, OnOk};
 ghost use Rattle.fleet_name.specs.Name.{wire, IsName};
 ghost use Rattle.fleet_observe.specs.Fact.{Fact};
-ghost use Rattle.fleet_cache.specs.Front.{IsDescending};
+ghost use Rattle.fleet_cache.specs.Slots.{items_of, IsLaid};
 ghost use Rattle.fleet_cache.specs.Best.{IsWire};
-ghost use Rattle.fleet_cache.specs.Cached.{IsCached, place};
+ghost use Rattle.fleet_cache.specs.Cached.{IsCached};
 ghost use Rattle.fleet_cache.specs.Live.{shown_ttl as ttl_at};
 ghost use Rattle.fleet_cache.specs.Answer.{answer_of, by_kind, is_link as leads_on, target as alias_target};
 ghost use Rattle.fleet_cache.specs.Shown.{part_of, parts_of};
@@ -14,7 +14,8 @@ ghost use Rattle.fleet_cache.specs.Path.{shown_part};
 
 use crate::lookup::deciding;
 use crate::shown::Shown;
-use fleet_observe::{Kind, Observation};
+use crate::store::Fronts;
+use fleet_observe::{Kind, Moment, Observation};
 use std::alloc::{AllocError, Allocator, Global};
 use std::marker::Model;
 
@@ -79,19 +80,19 @@ pub enum Answer<A: Allocator = Global> {
 }
 
 // The TTL that is shown of an observation at the moment.
-fn shown_ttl<A: Allocator>(observation: &Observation<A>, moment: u64) -> u32
+fn shown_ttl<A: Allocator>(observation: &Observation<A>, moment: Moment) -> u32
     ensures { result ≡ ttl_at moment observation.now }
 {
     observation
         .expires()
-        .saturating_sub(moment)
+        .saturating_sub(moment.value())
         .min(u64::from(observation.life())) as u32
 }
 
 // A copy of an observation with its TTL.
 fn shown<A: Allocator + Copy>(
     observation: &Observation<A>,
-    moment: u64,
+    moment: Moment,
 ) -> Result<Shown<A>, AllocError>
     ensures { IfOk result (λ p. part_of p ≡ shown_part moment observation.now) }
 {
@@ -132,19 +133,19 @@ fn ending<A: Allocator>(chain: Chain<A>, last: Shown<A>) -> Answer<A>
 /// Follows the aliases from a name, by its octets.
 pub(crate) fn follow<A: Allocator + Copy>(
     alloc: A,
-    items: &[Observation<A>],
+    fronts: &Fronts<A>,
     name: &[u8],
     rtype: u16,
-    moment: u64,
+    moment: Moment,
 ) -> Result<Answer<A>, AllocError>
-    requires sorted { IsDescending place items.now }
+    requires laid { IsLaid (λ k. k.items) fronts.now.entries }
     requires named { IsWire name.now }
-    ensures told { (n : List (List ℕ)) → name.now ≡ wire n → (s : List Fact) → (floor : ℕ) → floor ≤ moment → IsCached s floor items.now → IfOk result (λ a. told a ≡ answer_of s moment n rtype) }
+    ensures told { (n : List (List ℕ)) → name.now ≡ wire n → (s : List Fact) → (floor : ℕ) → floor ≤ moment → IsCached s floor (items_of fronts.now.entries) → IfOk result (λ a. told a ≡ answer_of s moment n rtype) }
 {
     let mut links = Vec::new(alloc);
     let mut at = name;
     loop {
-        let Some(observation) = deciding(items, at, rtype, moment) else {
+        let Some(observation) = deciding(fronts, at, rtype, moment) else {
             return Ok(Answer::Miss);
         };
         if !is_link(observation, rtype) {

@@ -1,22 +1,20 @@
 //! What a site holds.
 
-ghost use Rattle.std.specs.Prelude.{◌≡◌, ℕ, ◌<◌, ◌≤◌, max, false, not, List, [], ◌∷◌, ◌++◌, ◌↔◌, length, take, IsTrue, IfSome, IfNone, IfOk, IfErr, OnOk, OnErr};
-ghost use Rattle.fleet_observe.specs.Members.{Has};
-ghost use Rattle.fleet_observe.specs.Fact.{Fact, IsFact, expires as end_of};
-ghost use Rattle.fleet_cache.specs.Front.{IsDescending, shown};
-ghost use Rattle.fleet_cache.specs.Live.{hidden};
-ghost use Rattle.fleet_cache.specs.Cached.{place, IsCached, IsNeedless, IsNeededAt, IsSameSet, IsGapFor};
+ghost use Rattle.std.specs.Prelude.{◌≡◌, ℕ, ◌^◌, ◌<◌, ◌≤◌, max, true, false, List, [], ◌∷◌, ◌++◌, ◌↔◌, length, take, IsTrue, IfOk, IfErr, OnOk, OnErr};
+ghost use Rattle.fleet_observe.specs.Fact.{Fact, IsFact};
+ghost use Rattle.fleet_cache.specs.Cached.{IsCached, IsNeedless, IsNeededAt, IsSameSet};
 ghost use Rattle.fleet_cache.specs.Answer.{answer_of};
 ghost use Rattle.fleet_cache.specs.Told.{told};
 ghost use Rattle.fleet_cache.specs.Kinds.{HasKinds};
 
 use crate::answer::{Answer, follow};
 use crate::items::Items;
-use crate::order::place_order;
+use crate::store::{Fronts, covers, store};
+use crate::sweep::{Cursor, sweep};
 use fleet_observe::{Moment, Observation};
 use fleet_wire::Question;
 use std::alloc::{AllocError, Allocator, Global};
-use std::cmp::Ordering;
+use std::collections::BTreeMap;
 use std::marker::Model;
 use thiserror::Error;
 
@@ -28,61 +26,83 @@ pub struct Stopped {
     pub taken: usize,
 }
 
-/// The observations of a set that end after a floor, in one list: by key (the octets of the name,
-/// the kind, the type), and the preferred first within a key.
+/// The undominated observations of a set that end after a floor: those of a key (the octets of the
+/// name, the kind, the type) in one front, the preferred first, and the fronts in a map by the
+/// octets of their keys.
 ///
-/// `earliest` is a moment before which none of them ends, so that a purge up to an earlier one
-/// looks at none.
+/// The fronts may hold observations that ended by the floor: they are shown to nobody, and a sweep,
+/// which goes on at the cursor, drops some of them at each purge. `most` is how many the fronts hold
+/// at most, so that they can be counted: at the greatest number, which no machine reaches, nothing
+/// more is taken.
 #[derive(Drop)]
 pub struct Cache<A: Allocator = Global> {
     floor: Moment,
-    earliest: u64,
-    items: Vec<Observation<A>, A>,
+    most: usize,
+    fronts: Fronts<A>,
+    cursor: Cursor<A>,
+    alloc: A,
 }
 
 impl<A: Allocator> Model for Cache<A> {
+    ghost use Rattle.std.specs.Prelude.{length, ◌≤◌};
+    ghost use Rattle.fleet_cache.specs.Front.{shown};
+    ghost use Rattle.fleet_cache.specs.Live.{hidden};
     ghost use Rattle.fleet_cache.specs.Cached.{Held, IsKept};
+    ghost use Rattle.fleet_cache.specs.Slots.{items_of, IsLaid};
 
     ghost Value = { Held };
 
-    ghost view = { λ c. record { floor = c.floor; items = c.items.items } };
+    ghost view = { λ c. record { floor = c.floor; items = shown hidden c.floor (items_of c.fronts.entries) } };
 
-    ghost invariant = { λ c. IsKept c.floor c.earliest c.items.items };
+    ghost invariant = { λ c. IsKept (items_of c.fronts.entries) × IsLaid (λ k. k.items) c.fronts.entries × (length (items_of c.fronts.entries) ≤ c.most) };
 }
 
 impl<A: Allocator> Cache<A> {
     /// No items, at floor 0: the cache of no observations.
     pub fn new(alloc: A) -> Cache<A>
+    where
+        A: Copy,
         ensures held { result ≡ record { floor = 0; items = [] } }
         ensures cached { IsCached [] result.floor result.items }
     {
         Cache {
             floor: Moment::new(0).unwrap(),
-            earliest: u64::MAX,
-            items: Vec::new(alloc),
+            most: 0,
+            fronts: BTreeMap::new(alloc),
+            cursor: Cursor::new(alloc),
+            alloc,
         }
     }
 
-    /// Takes an observation in; `false` where it had ended at the floor or was there already, and
-    /// nothing changed. Memory is wanted only for one that is to be held; without it nothing
-    /// changes.
+    /// Takes an observation in; `false` where it had ended at the floor, or was there already, or
+    /// is dominated, and nothing changed. Else what it dominates goes. Memory is wanted only for
+    /// one that is to be held; without it nothing changes.
     pub fn take(&mut self, observation: Observation<A>) -> Result<bool, AllocError>
+    where
+        A: Copy,
         ensures taken { (s : List Fact) → IsCached s self.old.floor self.old.items → OnOk result (IsCached (observation ∷ s) self.new.floor self.new.items) }
         ensures kept { IfOk result (λ kept. (kept ≡ false) ↔ IsNeedless self.old.floor self.old.items observation) }
         ensures floor { self.new.floor ≡ self.old.floor }
         ensures memory { OnErr result (¬ IsNeedless self.old.floor self.old.items observation) }
         ensures err { OnErr result (self.new ≡ self.old) }
     {
-        let Some(at) = self.gap_for(&observation) else {
+        if observation.expires() <= self.floor.value() {
             return Ok(false);
-        };
-        self.put(at, observation)?;
-        Ok(true)
+        }
+        if self.most == usize::MAX {
+            return self.take_uncounted(&observation);
+        }
+        self.cursor.make_room(&self.fronts, &observation)?;
+        let kept = store(&mut self.fronts, self.alloc, observation)?;
+        self.most += 1;
+        Ok(kept)
     }
 
     /// Takes observations in, one after the other, as `take` does. Memory is wanted only for those
     /// that are to be held.
     pub fn take_list(&mut self, observations: Vec<Observation<A>, A>) -> Result<(), Stopped>
+    where
+        A: Copy,
         ensures taken { (s : List Fact) → IsCached s self.old.floor self.old.items → OnOk result (IsCached (observations.items ++ s) self.new.floor self.new.items) }
         ensures stopped { (s : List Fact) → IsCached s self.old.floor self.old.items → IfErr result (λ e. IsCached (take e.taken observations.items ++ s) self.new.floor self.new.items) }
         ensures within { IfErr result (λ e. e.taken < length observations.items) }
@@ -112,10 +132,13 @@ impl<A: Allocator> Cache<A> {
         ensures memory { IfErr result (λ e. IsNeededAt self.new.floor self.new.items other.now.items e.taken) }
         ensures floor_stopped { OnErr result (self.new.floor ≡ self.old.floor) }
     {
-        for (taken, item) in other.items.iter().enumerate() {
+        let mut items = other.items();
+        let mut taken = 0;
+        while let Some(item) = items.next() {
             if self.take_copy(item).is_err() {
                 return Err(Stopped { taken });
             }
+            taken += 1;
         }
         self.purge(other.floor);
         Ok(())
@@ -130,11 +153,7 @@ impl<A: Allocator> Cache<A> {
             return;
         }
         self.floor = moment;
-        if moment.value() < self.earliest {
-            return;
-        }
-        expire(&mut self.items, moment.value());
-        self.earliest = earliest_end(&self.items);
+        sweep(&mut self.fronts, &mut self.cursor, moment);
     }
 
     /// Drops all items and sets the floor back to 0: it is then as a new cache. This takes no memory.
@@ -143,8 +162,9 @@ impl<A: Allocator> Cache<A> {
         ensures cached { IsCached [] self.new.floor self.new.items }
     {
         self.floor = Moment::new(0).unwrap();
-        self.earliest = u64::MAX;
-        self.items.clear();
+        self.most = 0;
+        self.fronts.clear();
+        self.cursor.rewind();
     }
 
     /// The moment up to which the cache was purged: what has ended by then is not held.
@@ -159,21 +179,21 @@ impl<A: Allocator> Cache<A> {
         ensures same { IsTrue result ↔ (self.now ≡ other.now) }
         ensures alike { (s t : List Fact) → IsCached s self.now.floor self.now.items → IsCached t other.now.floor other.now.items → IsSameSet s t → self.now.floor ≡ other.now.floor → IsTrue result }
     {
-        self.floor == other.floor && same_items(&self.items, &other.items)
+        self.floor == other.floor && same_items(self.items(), other.items())
     }
 
-    /// How many items there are.
+    /// How many items there are: it counts them.
     pub fn len(&self) -> usize
         ensures { result ≡ length self.now.items }
     {
-        self.items.len()
+        count(self.items())
     }
 
     /// Whether there are no items.
     pub fn is_empty(&self) -> bool
         ensures { IsTrue result ↔ (self.now.items ≡ []) }
     {
-        self.items.is_empty()
+        self.items().next().is_none()
     }
 
     /// The items, by key (the octets of the name, the kind, the type), and the preferred first
@@ -181,8 +201,11 @@ impl<A: Allocator> Cache<A> {
     pub fn items(&self) -> Items<'_, A>
         ensures items { result ≡ self.now.items }
         ensures own { IsCached self.now.items self.now.floor self.now.items }
+        ensures countable { length self.now.items < 2 ^ 64 }
     {
-        Items::new(&self.items)
+        // What the proof needs to know of the count.
+        prove!(self.most <= usize::MAX);
+        Items::new(self.floor, self.fronts.values())
     }
 
     /// What the set answers to a question at a moment, or at the floor where the moment is before
@@ -204,10 +227,10 @@ impl<A: Allocator> Cache<A> {
         let at = later(self.floor, moment);
         follow(
             alloc,
-            &self.items,
+            &self.fronts,
             question.name.octets(),
             question.rtype,
-            at.value(),
+            at,
         )
     }
 
@@ -220,39 +243,29 @@ impl<A: Allocator> Cache<A> {
         ensures memory { OnErr result (¬ IsNeedless self.old.floor self.old.items observation.now) }
         ensures err { OnErr result (self.new ≡ self.old) }
     {
-        let Some(at) = self.gap_for(observation) else {
+        if !self.needs(observation) {
             return Ok(false);
-        };
-        self.put(at, observation.try_clone()?)?;
-        Ok(true)
+        }
+        self.take(observation.try_clone()?)
     }
 
-    // Where an observation goes among the items; none where it need not be held.
-    fn gap_for(&self, observation: &Observation<A>) -> Option<usize>
-        ensures gap { IfSome result (λ at. IsGapFor observation.now at self.now.items) }
-        ensures live { IfSome result (λ _. hidden self.now.floor observation.now ≡ false) }
-        ensures needed { IfSome result (λ _. ¬ IsNeedless self.now.floor self.now.items observation.now) }
-        ensures none { IfNone result (IsNeedless self.now.floor self.now.items observation.now) }
+    // What `take` says at the greatest count, where nothing more is held.
+    fn take_uncounted(&self, observation: &Observation<A>) -> Result<bool, AllocError>
+        ensures needless { IfOk result (λ kept. (kept ≡ false) × IsNeedless self.now.floor self.now.items observation.now) }
+        ensures memory { OnErr result (¬ IsNeedless self.now.floor self.now.items observation.now) }
+    {
+        if self.needs(observation) {
+            return Err(AllocError);
+        }
+        Ok(false)
+    }
+
+    // Whether an observation is to be held.
+    fn needs(&self, observation: &Observation<A>) -> bool
+        ensures needless { (result ≡ false) ↔ IsNeedless self.now.floor self.now.items observation.now }
         ensures lawful { IsFact observation.now }
     {
-        if observation.expires() <= self.floor.value() {
-            return None;
-        }
-        place_of(&self.items, observation).err()
-    }
-
-    // Puts an observation where it goes.
-    fn put(&mut self, at: usize, observation: Observation<A>) -> Result<(), AllocError>
-        requires gap { IsGapFor observation at self.old.items }
-        requires live { hidden self.old.floor observation ≡ false }
-        ensures taken { (s : List Fact) → IsCached s self.old.floor self.old.items → OnOk result (IsCached (observation ∷ s) self.new.floor self.new.items) }
-        ensures floor { self.new.floor ≡ self.old.floor }
-        ensures err { OnErr result (self.new ≡ self.old) }
-    {
-        let expires = observation.expires();
-        self.items.insert(at, observation)?;
-        self.earliest = self.earliest.min(expires);
-        Ok(())
+        observation.expires() > self.floor.value() && !covers(&self.fronts, observation)
     }
 }
 
@@ -266,47 +279,29 @@ fn later(one: Moment, other: Moment) -> Moment
     one
 }
 
-// Where an observation is in a list, or where it would go.
-fn place_of<A: Allocator>(
-    items: &[Observation<A>],
-    observation: &Observation<A>,
-) -> Result<usize, usize>
-    requires { IsDescending place items.now }
-    ensures found { IfOk result (λ _. Has items.now observation.now) }
-    ensures absent { IfErr result (λ at. IsGapFor observation.now at items.now) }
+// Whether both give the same items.
+fn same_items<A: Allocator>(mut ours: Items<'_, A>, mut theirs: Items<'_, A>) -> bool
+    ensures { IsTrue result ↔ (ours.entry ≡ theirs.entry) }
 {
-    items.binary_search_by(
-        |item: &Observation<A>| -> Ordering
-            ensures { result ≡ place observation.entry.now item.now }
-        { place_order(item, observation) },
-    )
-}
-
-// Drops what has ended at the moment.
-fn expire<A: Allocator>(items: &mut Vec<Observation<A>, A>, moment: u64)
-    ensures { items.new.items ≡ shown hidden moment items.old.items }
-{
-    items.retain(
-        |item: &Observation<A>| -> bool
-            ensures { result ≡ not (hidden moment item.now) }
-        { item.expires() > moment },
-    );
-}
-
-// A lower bound of the ends: the least of them, if there is one.
-fn earliest_end<A: Allocator>(items: &[Observation<A>]) -> u64
-    ensures { (x : Fact) → Has items.now x → result ≤ end_of x }
-{
-    let mut earliest = u64::MAX;
-    for item in items {
-        earliest = earliest.min(item.expires());
+    while let Some(item) = ours.next() {
+        let Some(other) = theirs.next() else {
+            return false;
+        };
+        if item.cmp(other).is_ne() {
+            return false;
+        }
     }
-    earliest
+    theirs.next().is_none()
 }
 
-// Whether both lists have the same items.
-fn same_items<A: Allocator>(ours: &[Observation<A>], theirs: &[Observation<A>]) -> bool
-    ensures { IsTrue result ↔ (ours.now ≡ theirs.now) }
+// How many items are left.
+fn count<A: Allocator>(mut items: Items<'_, A>) -> usize
+    requires { length items < 2 ^ 64 }
+    ensures { result ≡ length items.entry }
 {
-    ours == theirs
+    let mut count = 0;
+    while items.next().is_some() {
+        count += 1;
+    }
+    count
 }

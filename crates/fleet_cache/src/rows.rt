@@ -1,6 +1,8 @@
 //! Small caches, and what they answer.
 
+use crate::item::Item;
 use crate::{Answer, Cache};
+use fleet_front::Front;
 use fleet_name::{Name, Octets};
 use fleet_observe::{Moment, Observation, Soa};
 use fleet_wire::{Question, read_query};
@@ -128,6 +130,33 @@ fn the_preferred_of_two_answers(rt: HostRuntime) -> Result<(), Fail> {
             Told::Found(0, 2, 100)
         );
         assert_eq!(rt; answered(&rt, &cache, EXAMPLE, 1, 500)?, Told::Miss);
+    }
+    Ok(())
+}
+
+#[test]
+fn a_front_has_both_of_which_neither_dominates(rt: HostRuntime) -> Result<(), Fail> {
+    let high = (3, 100, FIRST);
+    let low = (1, 200, SECOND);
+    for order in [
+        [(high, true), (low, true), (low, false), (high, false)],
+        [(low, true), (high, true), (high, false), (low, false)],
+    ] {
+        let mut front = Front::new(rt.alloc());
+        for ((rank, stamp, rdata), new) in order {
+            let observation = seen(&rt, EXAMPLE, 1, rdata, rank, stamp, 300)?;
+            assert_eq!(rt; front.take(Item::new(observation))?, new);
+        }
+        let mut ranks = front.items().iter().map(|item| item.observation().rank());
+        assert_eq!(rt; ranks.next(), Some(3));
+        assert_eq!(rt; ranks.next(), Some(1));
+        assert_eq!(rt; ranks.next(), None);
+        for (moment, rank) in [(399, Some(3)), (400, Some(1)), (499, Some(1)), (500, None)] {
+            let first = front.first_shown(&at(moment)?);
+            assert_eq!(rt; first.map(|item| item.observation().rank()), rank);
+        }
+        front.drop_hidden(&at(400)?);
+        assert_eq!(rt; front.items().len(), 1);
     }
     Ok(())
 }
@@ -327,16 +356,18 @@ fn merges_agree(rt: HostRuntime) -> Result<(), Fail> {
 }
 
 #[test]
-fn what_is_dominated_stays(rt: HostRuntime) -> Result<(), Fail> {
-    let mut cache = Cache::new(rt.alloc());
-    assert!(rt; cache.take(seen(&rt, EXAMPLE, 1, FIRST, 3, 100, 300)?)?);
-    assert!(rt; cache.take(seen(&rt, EXAMPLE, 1, SECOND, 1, 100, 300)?)?);
-    let mut ranks = cache.items().map(|item| item.rank());
-    assert_eq!(rt; ranks.next(), Some(3));
-    assert_eq!(rt; ranks.next(), Some(1));
-    assert_eq!(rt; ranks.next(), None);
-    cache.purge(at(400)?);
-    assert_eq!(rt; cache.items().count(), 0);
+fn what_is_dominated_goes(rt: HostRuntime) -> Result<(), Fail> {
+    for first in [3, 1] {
+        let mut cache = Cache::new(rt.alloc());
+        assert!(rt; cache.take(seen(&rt, EXAMPLE, 1, FIRST, first, 100, 300)?)?);
+        let other = seen(&rt, EXAMPLE, 1, SECOND, 4 - first, 100, 300)?;
+        assert_eq!(rt; cache.take(other)?, first == 1);
+        let mut ranks = cache.items().map(|item| item.rank());
+        assert_eq!(rt; ranks.next(), Some(3));
+        assert_eq!(rt; ranks.next(), None);
+        cache.purge(at(400)?);
+        assert_eq!(rt; cache.items().count(), 0);
+    }
     Ok(())
 }
 

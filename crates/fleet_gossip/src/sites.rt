@@ -71,14 +71,17 @@ fn a_purged_site_takes_nothing_that_ended(rt: HostRuntime) -> Result<(), Fail> {
 }
 
 #[test]
-fn two_observations_of_a_key_are_both_held(rt: HostRuntime) -> Result<(), Fail> {
+fn the_preferred_of_two_observations_of_a_key_is_held(rt: HostRuntime) -> Result<(), Fail> {
     let alloc = rt.alloc();
     let mut cache = Cache::new(alloc);
     let trusted = frame_of(3, 100, b"\x01\x2c", 1);
     let other = frame_of(1, 100, b"\x01\x2c", 2);
     assert_eq!(rt; take(alloc, &mut cache, &trusted)?, 1);
     assert_eq!(rt; take(alloc, &mut cache, &other)?, 1);
-    assert_eq!(rt; cache.items().count(), 2);
+    assert_eq!(rt; cache.items().count(), 1);
+    for item in cache.items() {
+        assert_eq!(rt; item.rank(), 3);
+    }
     Ok(())
 }
 

@@ -2,10 +2,11 @@
 
 ghost use Rattle.std.specs.Prelude.{◌≡◌, ℕ, ◌++◌};
 ghost use Rattle.fleet_observe.specs.Body.{positive_body, sized};
+ghost use Rattle.std.specs.Ordering.{ordering_then};
 ghost use Rattle.std.specs.Cmp.{IsTotalOrder};
 ghost use Rattle.std.specs.declared.cmp.Ordering.TheVariants.{Equal};
 ghost use Rattle.fleet_observe.specs.Fact.{Fact};
-ghost use Rattle.fleet_observe.specs.Preference.{octets_cmp, preference};
+ghost use Rattle.fleet_observe.specs.Preference.{octets_cmp, name_cmp, preference};
 
 use crate::observation::Observation;
 use fleet_name::Octets;
@@ -45,6 +46,18 @@ fn body_order<A: Allocator>(observation: &Observation<A>, other: &Observation<A>
         return rdatas_order(observation.rdatas(), other.rdatas());
     };
     soa.0.cmp(other_soa.0).then(sized_order(soa.1, other_soa.1))
+}
+
+// How the names of two observations of one kind compare, and then the bodies.
+fn octets_order<A: Allocator>(observation: &Observation<A>, other: &Observation<A>) -> Ordering
+    requires { observation.now.kind ≡ other.now.kind }
+    ensures { result ≡ ordering_then (name_cmp observation.now.name other.now.name) (octets_cmp observation.now.body other.now.body) }
+{
+    let names = observation.name().cmp(other.name());
+    if names.is_ne() {
+        return names;
+    }
+    body_order(observation, other)
 }
 
 impl<A: Allocator> PartialEq for Observation<A> {
@@ -88,12 +101,11 @@ impl<A: Allocator> Ord for Observation<A> {
             .then(self.stamp().cmp(&other.stamp()))
             .then(self.expires().cmp(&other.expires()))
             .then(self.kind().number().cmp(&other.kind().number()))
-            .then(self.rtype().cmp(&other.rtype()))
-            .then(self.name().cmp(other.name()));
+            .then(self.rtype().cmp(&other.rtype()));
         if order.is_ne() {
             return order;
         }
-        body_order(self, other)
+        octets_order(self, other)
     }
 }
 

@@ -188,7 +188,7 @@ refused frame TooLong
 ",
     },
     Example {
-        shows: "an observation stays where a better one is held",
+        shows: "an observation that a held one dominates is given, and not held",
         transcript: "> frame 0 100 4447010001030300000000000000640000012c076578616d706c6503636f6d00000100010004c0000201
 taken 1
 > frame 0 100 4447010001030100000000000000640000012c076578616d706c6503636f6d00000100010004c0000202
@@ -196,8 +196,7 @@ taken 1
 > show 0
 floor 0
 positive 3 100 300 example.com. 1 00010004c0000201
-positive 1 100 300 example.com. 1 00010004c0000202
-items 2
+items 1
 ",
     },
     Example {

@@ -1,7 +1,12 @@
-use Rattle.std.proofs.Common.{◌≡◌, max, IfOk, sym, ap, ◌∙◌, subst, arith}
+use Rattle.std.proofs.Common.{◌≡◌, ◌≤◌, max, IfOk, sym, ap, ◌∙◌, subst, arith}
+use Rattle.fleet_cache.specs.Front.{shown}
+use Rattle.fleet_cache.specs.Live.{hidden}
+use Rattle.fleet_cache.specs.Slots.{items_of}
 use Rattle.fleet_cache.specs.Cached.{Held, IsCached}
 use Rattle.fleet_cache.specs.Answer.{answer_of}
 use Rattle.fleet_cache.specs.Told.{told}
+use Rattle.fleet_cache.proofs.Caches.{kept_whole, kept_cached}
+use Rattle.fleet_cache.proofs.OneAnswer.{sets_answer_alike}
 use Rattle.fleet_cache.proofs.KindsOfParts.{kinds_told}
 use Rattle.fleet_cache.proofs.cache.Cache.answer.Goals as goal
 
@@ -9,16 +14,23 @@ pub returns-clause-kinds : goal.returns-clause-kinds
 returns-clause-kinds g c =
     let i = c.self.inside in
     let q = c.args.question.now in
-    let own : IsCached i.items.items i.floor c.deref.result.now = subst (IsCached i.items.items i.floor) (sym c.deref.ensures.value) c.self.invariant.own in
-    kinds_told c.follow.result i.items.items c.value.result q.rtype q.name own.lawful
-    (c.follow.ensures.told q.name c.octets.ensures.octets i.items.items i.floor (omega (arith, c.later-at.ensures, c.value.ensures.value)) own)
+    let items = items_of i.fronts.entries in
+    let own : IsCached items 0 items = kept_whole items c.self.invariant.0 in
+    kinds_told c.follow.result items c.later-at.result q.rtype q.name own.lawful
+    (c.follow.ensures.told q.name c.octets.ensures.octets items 0 (omega arith) own)
 
+-- the fronts answer as the set does, at the floor and later
 pub returns-clause-told : goal.returns-clause-told
 returns-clause-told g c s cached =
     let i = c.self.inside in
     let q = c.args.question.now in
-    let held : IsCached s i.floor c.deref.result.now = subst (IsCached s i.floor) (sym c.deref.ensures.value) (subst (λ v. IsCached s v.floor v.items) (sym c.self.view_is) cached) in
+    let items = items_of i.fronts.entries in
+    let at = c.later-at.result in
+    let held : IsCached s i.floor (shown hidden i.floor items) = subst (λ v. IsCached s v.floor v.items) (sym c.self.view_is) cached in
     let same : i.floor ≡ c.args.self.now.floor = ap (λ (v : Held). v.floor) c.self.view_is in
-    let moment : c.value.result ≡ max c.args.self.now.floor c.args.moment = c.value.ensures.value ∙ (c.later-at.ensures ∙ ap (λ v. max v c.args.moment) same) in
+    let moment : at ≡ max c.args.self.now.floor c.args.moment = c.later-at.ensures ∙ ap (λ v. max v c.args.moment) same in
+    let le : i.floor ≤ at = omega (arith, c.later-at.ensures) in
+    let alike : answer_of items at q.name q.rtype ≡ answer_of s at q.name q.rtype = sets_answer_alike items s (shown hidden i.floor items) i.floor at q.name q.rtype le (kept_cached items i.floor c.self.invariant.0) held in
     subst (λ v. IfOk c.follow.result (λ a. told a ≡ answer_of s v q.name q.rtype)) moment
-    (c.follow.ensures.told q.name c.octets.ensures.octets s i.floor (omega (arith, c.later-at.ensures, c.value.ensures.value)) held)
+    (subst (λ v. IfOk c.follow.result (λ a. told a ≡ v)) alike
+    (c.follow.ensures.told q.name c.octets.ensures.octets items 0 (omega arith) (kept_whole items c.self.invariant.0)))

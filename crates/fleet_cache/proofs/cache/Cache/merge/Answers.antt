@@ -1,57 +1,62 @@
-use Rattle.std.proofs.Common.{ℕ, List, ◌+◌, ◌≡◌, ◌≤◌, ◌++◌, ◌∷◌, [], max, length, take, slice_get, Some, refl, sym, ap, ◌∙◌, subst, arith}
-use Rattle.std.proofs.lemmas.List.{take_more, take_all}
-use Rattle.std.proofs.lemmas.Option.{slice_get_read}
-use Rattle.fleet_observe.specs.Fact.{Fact}
+use Rattle.std.proofs.Common.{◌≡◌, ◌++◌, ◌∷◌, [], max, sym, ap, refl, ◌∙◌, subst, arith, append_assoc, append-nil, length-append}
 use Rattle.fleet_cache.specs.Cached.{Held, IsCached, IsNeedless}
-use Rattle.fleet_cache.proofs.Caches.{HasTaken, taken_none, taken_more, at_ok, at_err, cached_both}
+use Rattle.fleet_cache.proofs.Caches.{taken_none, taken_more, taken_is, taken_within, seam_at, at_ok, at_err, cached_both}
 use Rattle.fleet_cache.proofs.cache.Cache.merge.Goals as goal
 
-pub loop-taken-init : goal.loop-taken-init
-loop-taken-init g c = taken_none c.args.self.now
+pub loop-item-init : goal.loop-item-init
+loop-item-init g c = ([], sym c.items-items.ensures.items, refl, taken_none c.args.self.now)
 
 pub returns-then-is_err-clause-stopped : goal.returns-then-is_err-clause-stopped
 returns-then-is_err-clause-stopped g c s cached =
-    let items : c.deref-item-items.result.now ≡ c.args.other.now.items = c.deref-item-items.ensures.value ∙ ap (λ (v : Held). v.items) c.other.view_is in
-    let same : c.take_copy.new.self ≡ c.loop-taken.self = at_err c.take_copy.result c.if-is_err.ensures.value c.take_copy.ensures.err in
-    subst (λ v. IsCached (take c.loop-taken.taken v ++ s) c.take_copy.new.self.floor c.take_copy.new.self.items) items
-    (subst (λ v. IsCached (take c.loop-taken.taken c.deref-item-items.result.now ++ s) v.floor v.items) (sym same) (c.loop-taken.invariant.cached s cached))
+    let i = c.loop-item.invariant in
+    let same : c.take_copy.new.self ≡ c.loop-item.self = at_err c.take_copy.result c.if-is_err.ensures.value c.take_copy.ensures.err in
+    subst (λ v. IsCached (v ++ s) c.take_copy.new.self.floor c.take_copy.new.self.items) (sym (taken_is i.0 _ c.args.other.now.items c.loop-item.taken i.1 i.2))
+    (subst (λ v. IsCached (i.0 ++ s) v.floor v.items) (sym same) (i.3.cached s cached))
+
+pub returns-then-is_err-clause-within : goal.returns-then-is_err-clause-within
+returns-then-is_err-clause-within g c =
+    let i = c.loop-item.invariant in
+    taken_within i.0 _ c.args.other.now.items c.in-Some.item.now c.loop-item.taken (i.1 ∙ ap (λ v. i.0 ++ v) c.in-Some.ensures.steps) i.2
 
 pub returns-then-is_err-clause-memory : goal.returns-then-is_err-clause-memory
 returns-then-is_err-clause-memory g c =
-    let items : c.deref-item-items.result.now ≡ c.args.other.now.items = c.deref-item-items.ensures.value ∙ ap (λ (v : Held). v.items) c.other.view_is in
-    let o = c.item-item.result in
-    let same : c.take_copy.new.self ≡ c.loop-taken.self = at_err c.take_copy.result c.if-is_err.ensures.value c.take_copy.ensures.err in (
+    let i = c.loop-item.invariant in
+    let o = c.in-Some.item.now in
+    let same : c.take_copy.new.self ≡ c.loop-item.self = at_err c.take_copy.result c.if-is_err.ensures.value c.take_copy.ensures.err in (
       o,
-      subst (λ v. slice_get v c.loop-taken.taken ≡ Some o) items (slice_get_read c.deref-item-items.result.now (length c.deref-item-items.result.now) c.loop-taken.taken o refl c.loop-taken-test.true c.item-item.is),
+      seam_at i.0 _ c.args.other.now.items o c.loop-item.taken (i.1 ∙ ap (λ v. i.0 ++ v) c.in-Some.ensures.steps) i.2,
       subst (λ (v : Held). ¬ IsNeedless v.floor v.items o) (sym same) (at_err c.take_copy.result c.if-is_err.ensures.value c.take_copy.ensures.memory),
     )
 
 pub returns-then-is_err-clause-floor_stopped : goal.returns-then-is_err-clause-floor_stopped
-returns-then-is_err-clause-floor_stopped g c = c.take_copy.ensures.floor ∙ c.loop-taken.invariant.floor
+returns-then-is_err-clause-floor_stopped g c = c.take_copy.ensures.floor ∙ c.loop-item.invariant.3.floor
 
-pub loop-taken-preserved : goal.loop-taken-preserved
-loop-taken-preserved g c =
-    let items = c.deref-item-items.result.now in
-    let o = c.item-item.result in
-    let more : take (c.loop-taken.taken + 1) items ≡ take c.loop-taken.taken items ++ o ∷ [] = take_more items c.loop-taken.taken o c.loop-taken-test.true ∙ ap (λ v. take c.loop-taken.taken items ++ v ∷ []) (sym c.item-item.is) in
-    subst (HasTaken c.args.self.now c.take_copy.new.self) (sym more)
-    (taken_more c.args.self.now c.loop-taken.self c.take_copy.new.self (take c.loop-taken.taken items) o c.loop-taken.invariant (λ s cached. at_ok c.take_copy.result c.if-is_err.ensures.negation (c.take_copy.ensures.taken s cached)) c.take_copy.ensures.floor)
+pub overflow_add-taken : goal.overflow_add-taken
+overflow_add-taken g c =
+    let i = c.loop-item.invariant in
+    let less = taken_within i.0 _ c.args.other.now.items c.in-Some.item.now c.loop-item.taken (i.1 ∙ ap (λ v. i.0 ++ v) c.in-Some.ensures.steps) i.2 in
+    omega (arith, less, c.items-items.ensures.countable)
 
--- the items of the other cache, taken whole
-all_taken : (before after other : Held) (items : List Fact) (n : ℕ) → length items ≤ n → items ≡ other.items → HasTaken before after (take n items) → HasTaken before after other.items
-all_taken before after other items n le same taken = subst (HasTaken before after) (take_all n items le ∙ same) taken
+pub loop-item-preserved : goal.loop-item-preserved
+loop-item-preserved g c =
+    let i = c.loop-item.invariant in
+    let o = c.in-Some.item.now in (
+      i.0 ++ o ∷ [],
+      i.1 ∙ (ap (λ v. i.0 ++ v) c.in-Some.ensures.steps ∙ sym (append_assoc i.0 (o ∷ []) _)),
+      omega (arith, i.2, length-append i.0 (o ∷ [])),
+      taken_more c.args.self.now c.loop-item.self c.take_copy.new.self i.0 o i.3 (λ s cached. at_ok c.take_copy.result c.if-is_err.ensures.negation (c.take_copy.ensures.taken s cached)) c.take_copy.ensures.floor,
+    )
 
 pub returns-clause-both : goal.returns-clause-both
 returns-clause-both g c s u cached from =
+    let i = c.loop-item.invariant in
     let other = c.args.other.now in
-    let items : c.deref-item-items.result.now ≡ other.items = c.deref-item-items.ensures.value ∙ ap (λ (v : Held). v.items) c.other.view_is in
-    let taken = all_taken c.args.self.now c.loop-taken.self other c.deref-item-items.result.now c.loop-taken.taken c.loop-taken-test.false items c.loop-taken.invariant in
+    let all : other.items ≡ i.0 = i.1 ∙ (ap (λ v. i.0 ++ v) c.in_default.ensures.steps.0 ∙ append-nil i.0) in
     let floor = c.purge.ensures.floor in
     let same : c.other.inside.floor ≡ other.floor = ap (λ (v : Held). v.floor) c.other.view_is in
-    cached_both s u other.items c.purge.new.self.items c.purge.new.self.floor other.floor (omega (arith, floor, same)) from (c.purge.ensures.purged (other.items ++ s) (taken.cached s cached))
+    cached_both s u other.items c.purge.new.self.items c.purge.new.self.floor other.floor (omega (arith, floor, same)) from (subst (λ v. IsCached (v ++ s) c.purge.new.self.floor c.purge.new.self.items) (sym all) (c.purge.ensures.purged (i.0 ++ s) (i.3.cached s cached)))
 
 pub returns-clause-floor : goal.returns-clause-floor
 returns-clause-floor g c =
     let same : c.other.inside.floor ≡ c.args.other.now.floor = ap (λ (v : Held). v.floor) c.other.view_is in
-    let mine = c.loop-taken.invariant.floor in
-    c.purge.ensures.floor ∙ (ap (λ v. max v c.other.inside.floor) mine ∙ ap (max c.args.self.now.floor) same)
+    c.purge.ensures.floor ∙ (ap (λ v. max v c.other.inside.floor) c.loop-item.invariant.3.floor ∙ ap (max c.args.self.now.floor) same)

@@ -1,10 +1,11 @@
-use Rattle.std.proofs.Common.{◌≡◌, ◌∷◌, subst}
-use Rattle.std.proofs.lemmas.Result.{IfOk-at_ok}
-use Rattle.fleet_cache.specs.Cached.{IsCached}
+use Rattle.std.proofs.Common.{OnErr, subst}
+use Rattle.fleet_cache.specs.Cached.{IsNeedless}
+use Rattle.fleet_cache.proofs.Caches.{cached_needless}
 use Rattle.fleet_cache.proofs.cache.Cache.take_copy.Goals as goal
 
-pub returns-clause-taken : goal.returns-clause-taken
-returns-clause-taken g c s cached =
-    let o = c.args.observation.now in
-    let same : c.in_ok-try_clone.field-0 ≡ o = IfOk-at_ok (λ v. v ≡ o) c.in_ok-try_clone.was c.try_clone.ensures in
-    subst (λ v. IsCached (v ∷ s) c.put.new.self.floor c.put.new.self.items) same (c.in_ok-put.ensures.taken s cached)
+pub returns-then-not-needs-clause-taken : goal.returns-then-not-needs-clause-taken
+returns-then-not-needs-clause-taken g c s cached =
+    cached_needless s c.args.self.now.items c.args.self.now.floor c.args.observation.now c.needs.ensures.lawful cached (c.needs.ensures.needless.0 c.if-not-needs.true)
+
+pub returns-clause-memory : goal.returns-clause-memory
+returns-clause-memory g c = subst (λ v. OnErr c.take.result (¬ IsNeedless c.args.self.now.floor c.args.self.now.items v)) c.in_ok-try_clone.ensures c.take.ensures.memory

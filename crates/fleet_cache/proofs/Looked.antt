@@ -1,0 +1,100 @@
+-- What is found by a key is the most preferred of its items.
+use Rattle.std.proofs.Common.{ℕ, ◌≡◌, ◌||◌, true, refl, not, List, [], ◌∷◌, inl, inr, Option, Some, None, MatchOption, ◌↔◌, sym, ap, ◌∙◌, subst}
+use mathlib.Core.Bool.{false≢true}
+use Rattle.std.specs.Map.{lookup}
+use Rattle.std.specs.Ordering.{is_eq}
+use Rattle.std.proofs.lemmas.Cmp.{tied_itself, nat_list_cmp_total}
+use denote.Ref.{Bor}
+use Rattle.fleet_front.specs.Front.{IsFront as IsFrontOf, IsGreatest}
+use Rattle.fleet_observe.specs.Members.{Has}
+use Rattle.fleet_observe.specs.Fact.{Fact, key_at, key_of}
+use Rattle.fleet_observe.specs.Preference.{preference, preference_total}
+use Rattle.fleet_cache.specs.Front.{shown}
+use Rattle.fleet_cache.specs.Live.{hidden}
+use Rattle.fleet_cache.specs.Dominates.{dominates}
+use Rattle.fleet_cache.specs.Cached.{key_cmp, is_covered, IsCovered}
+use Rattle.fleet_cache.specs.Slots.{items_of, IsSlot, IsLaid}
+use Rattle.fleet_cache.specs.Best.{IsBest, seen, IsAt, IsOn}
+use Rattle.fleet_cache.proofs.Fronts.{bool_cases, not_true, Has-filter, Has-in_filter}
+use Rattle.fleet_cache.specs.Orders.{key_exact, exact_preference, equal_from, over_from, same_key}
+use Rattle.fleet_cache.proofs.Best.{best_same}
+use Rattle.fleet_cache.proofs.Answers.{or_left, or_right}
+use Rattle.fleet_cache.proofs.Keyed.{has_from, has_to, front_to}
+use Rattle.fleet_cache.proofs.Slots.{Around, in_slot, present, covered, in_front, in_items}
+
+-- the test for what is covered
+pub covered_from : (items : List Fact) (x : Fact) → is_covered items x ≡ true → IsCovered items x
+covered_from [] x e = absurd (false≢true e)
+covered_from (y ∷ items) x e = elim (bool_cases (is_eq (preference y x))) [
+  | inl same ↦ (y, inl refl, inl (exact_preference y x (equal_from _ same)))
+  | inr apart ↦ elim (bool_cases (dominates y x)) [
+    | inl over ↦ (y, inl refl, inr over)
+    | inr nay ↦ let r = covered_from items x (rw (apart, nay) at e) in (r.0, inr r.1, r.2)
+  ]
+]
+
+pub covered_to : (items : List Fact) (x : Fact) → IsCovered items x → is_covered items x ≡ true
+covered_to [] x c = absurd c.1
+covered_to (y ∷ items) x c = elim c.1 [
+  | inl here ↦ or_left (is_eq (preference y x) || dominates y x) (is_covered items x) (elim c.2 [
+    | inl same ↦ or_left (is_eq (preference y x)) (dominates y x) (ap is_eq (ap (λ v. preference v x) (here ∙ same) ∙ tied_itself preference_total x))
+    | inr over ↦ or_right (is_eq (preference y x)) (dominates y x) (ap (λ v. dominates v x) here ∙ over)
+  ])
+  | inr far ↦ or_right (is_eq (preference y x) || dominates y x) (is_covered items x) (covered_to items x (c.0, far, c.2))
+]
+
+module _ {K : Type 0} (octets : K → List ℕ) (q : List ℕ) where
+  pub looked_none : (es : List (K × List Fact)) → lookup (λ k. is_eq (key_cmp q (octets k))) es ≡ None → (e : K × List Fact) → Has es e → octets e.0 ≡ q → ⊥
+  looked_none [] none e h same = h
+  looked_none (d ∷ es) none e h same = elim (bool_cases (is_eq (key_cmp q (octets d.0)))) [
+    | inl yea ↦ let v : Some d.1 ≡ None = rw yea at none in absurd (cc)
+    | inr nay ↦ elim h [
+      | inl here ↦ absurd (false≢true (sym nay ∙ ap is_eq (ap (λ v. key_cmp q (octets v.0)) here ∙ (ap (key_cmp q) same ∙ tied_itself nat_list_cmp_total q))))
+      | inr r ↦ looked_none es (rw nay at none) e r same
+    ]
+  ]
+
+  -- none of the items makes x needless, of that key
+  pub none_covers : (es : List (K × List Fact)) (x : Fact) → q ≡ key_of x → IsLaid octets es → lookup (λ k. is_eq (key_cmp q (octets k))) es ≡ None → ¬ IsCovered (items_of es) x
+  none_covers es x is laid none c =
+      let e = in_slot es c.0 c.1 in
+      let same : key_of c.0 ≡ key_of x = elim c.2 [ inl here ↦ ap key_of here | inr over ↦ same_key c.0 x (over_from c.0 x over) ] in
+      looked_none es none e.0 e.1 (sym ((laid.slots e.0 e.1).one_key c.0 e.2) ∙ (same ∙ sym is))
+
+module _ {K : Type 0} (octets : K → List ℕ) (t : ℕ) (q : List ℕ) where
+  -- the key is not there
+  pub look_none : (es : List (K × List Fact)) → IsLaid octets es → lookup (λ k. is_eq (key_cmp q (octets k))) es ≡ None → IsBest (IsAt t q) (items_of es) None
+  look_none es laid none = λ y h k. let e = in_slot es y h in looked_none octets q es none e.0 e.1 (sym ((laid.slots e.0 e.1).one_key y e.2) ∙ k.keyed)
+
+  -- the key's front is there
+  module _ (es : List (K × List Fact)) (f : List Fact) (laid : IsLaid octets es) (found : lookup (λ k. is_eq (key_cmp q (octets k))) es ≡ Some f) where
+    slot : IsSlot q f
+    slot = (present octets es q f laid found).slot
+
+    pub slot_front : IsFrontOf preference dominates f f
+    slot_front = front_to preference dominates f f slot.own_front
+
+    here : (y : Fact) → Has (items_of es) y → key_of y ≡ q → Has f y
+    here y h same = in_front octets es q f (present octets es q f laid found).around y h same
+
+    live_here : (y : Fact) → Has (items_of es) y → IsAt t q y → Has (shown hidden t f) y
+    live_here y h k = Has-in_filter (λ o. not (hidden t o)) f y (here y h k.keyed) (ap not k.live)
+
+    pub covered_there : (x : Fact) → q ≡ key_of x → IsCovered f x ↔ IsCovered (items_of es) x
+    covered_there x is = covered octets es x f (subst (λ v. Around octets es v f) is (present octets es q f laid found).around)
+
+    pub look_some : (r : Option (Bor Fact)) → MatchOption r (shown hidden t f ≡ []) (λ x. IsGreatest preference (shown hidden t f) x.now) → IsBest (IsAt t q) (items_of es) (seen r)
+    look_some None e = λ y h k. let m = live_here y h k in subst (λ v. Has v y) e m
+    look_some (Some x) e =
+        let m = Has-filter (λ o. not (hidden t o)) f x.now (has_from (shown hidden t f) x.now e.member) in
+        (in_items octets es q f (present octets es q f laid found).around x.now m.0, record { live = not_true _ m.1; keyed = slot.one_key x.now m.0 }, λ y h k. e.greatest y (has_to (shown hidden t f) y (live_here y h k)))
+
+-- a key stands for a name, a kind and a type
+pub best_on : (t : ℕ) (key : List ℕ) (n : List (List ℕ)) (kind rtype : ℕ) (s : List Fact) (a : Option Fact) → key ≡ key_at n kind rtype → IsBest (IsAt t key) s a → IsBest (IsOn t n kind rtype) s a
+best_on t key n kind rtype s a e best = best_same (IsAt t key) (IsOn t n kind rtype) s a
+    (λ o h k. let x = key_exact o.name n o.kind kind o.rtype rtype (k.keyed ∙ e) in record { live = k.live; named = x.0; of_kind = x.1; of_type = x.2 })
+    (λ o h k. record { live = k.live; keyed = one_key o k })
+    best
+  where
+    one_key : (o : Fact) → IsOn t n kind rtype o → key_of o ≡ key
+    one_key o k = let i = k.named in let j = k.of_kind in let l = k.of_type in let m : key_of o ≡ key_at n kind rtype = cc in m ∙ sym e

@@ -1,0 +1,364 @@
+-- What an edit of one slot does to the items.
+use Rattle.std.proofs.Common.{ℕ, ◌+◌, ◌≤◌, length, length-append, arith, ◌≡◌, Bool, true, false, not, cond, List, [], ◌∷◌, ◌++◌, ◌⊎◌, ◌↔◌, inl, inr, Some, None, sym, ap, refl, ◌∙◌, subst, append_assoc}
+use mathlib.Core.Bool.{false≢true}
+use Rattle.std.specs.List.{filter}
+use Rattle.std.specs.Map.{lookup, set_value, values_of}
+use Rattle.std.specs.Map.Calls.{RetainsPairs}
+use Rattle.std.proofs.lemmas.List.Elements.{filter-append}
+use Rattle.std.specs.BTreeMap.{insert_entry}
+use Rattle.std.specs.declared.cmp.Ordering.{Ordering}
+use Rattle.std.specs.declared.cmp.Ordering.TheVariants.{Less, Equal, Greater}
+use Rattle.std.specs.Ordering.{is_eq, ordering_reverse, ordering_then}
+use Rattle.std.proofs.lemmas.Cmp.{tied_itself, nat_list_cmp_total}
+use Rattle.std.proofs.lemmas.Map.Lookups.{exact_bytes}
+use Rattle.fleet_observe.specs.Members.{Has}
+use Rattle.fleet_observe.specs.Fact.{Fact, key_of}
+use Rattle.fleet_observe.specs.Preference.{preference}
+use Rattle.fleet_cache.specs.Front.{IsDescending, IsFront, shown}
+use Rattle.fleet_cache.specs.Live.{hidden}
+use Rattle.fleet_cache.specs.Dominates.{dominates}
+use Rattle.fleet_cache.specs.Cached.{key_cmp, place, IsCovered}
+use Rattle.fleet_cache.specs.Slots.{items_of, joined, is_nil, IsSlot, IsLaid, Put}
+use Rattle.fleet_cache.proofs.Fronts.{bool_cases, ordering_cases, not_true, climb, front_itself, front_shown, Has-append, Has-left, Has-right, Has-filter, IsDescending-append}
+use Rattle.fleet_cache.specs.Orders.{ranked, place_laws, over_from, same_key, equal_from}
+
+-- the items are the values joined
+pub joined_values : {K : Type 0} (es : List (K × List Fact)) → joined (values_of es) ≡ items_of es
+joined_values [] = refl
+joined_values (e ∷ es) = ap (λ t. e.1 ++ t) (joined_values es)
+
+-- within a key, the greater comes first
+within : (xs : List Fact) (k : List ℕ) → ((x : Fact) → Has xs x → (key_of x) ≡ k) → IsDescending preference xs → IsDescending place xs
+within [] k same d = tt
+within (x ∷ xs) k same d = (
+  (λ y h.
+      let e : key_cmp (key_of y) (key_of x) ≡ Equal = ap (key_cmp (key_of y)) (same x (inl refl) ∙ sym (same y (inr h))) ∙ tied_itself nat_list_cmp_total (key_of y) in
+      ap (λ o. ordering_then o (preference x y)) e ∙ d.0 y h),
+  within xs k (λ y h. same y (inr h)) d.1,
+)
+
+-- nothing is the front of nothing
+pub nil_front : {X : Type 0} (R : X → X → Ordering) (D : X → X → Bool) → IsFront R D [] []
+nil_front R D = record { descending = tt; of_set = λ y h. h; undominated = λ y h w m. absurd h; whole = λ y h free. h }
+
+-- a set with a member has some front
+pub some_of : (s items : List Fact) (x : Fact) → Has s x → IsFront preference dominates s items → is_nil items ≡ false
+some_of s [] x h front = elim (climb ranked s x).1 [
+  | inl same ↦ absurd (front.whole (climb ranked s x).0 (subst (Has s) (sym same) h) (climb ranked s x).2)
+  | inr far ↦ absurd (front.whole (climb ranked s x).0 far.0 (climb ranked s x).2)
+]
+some_of s (y ∷ items) x h front = refl
+
+-- an item stands in a slot
+pub in_slot : {K : Type 0} (es : List (K × List Fact)) (x : Fact) → Has (items_of es) x → (e : K × List Fact) × Has es e × Has e.1 x
+in_slot [] x h = absurd h
+in_slot (e ∷ es) x h = elim (Has-append e.1 (items_of es) x h) [
+  | inl l ↦ (e, inl refl, l)
+  | inr r ↦ let s = in_slot es x r in (s.0, inr s.1, s.2)
+]
+
+pub items_of-append : {K : Type 0} (xs ys : List (K × List Fact)) → items_of (xs ++ ys) ≡ items_of xs ++ items_of ys
+items_of-append [] ys = refl
+items_of-append (e ∷ xs) ys = ap (λ t. e.1 ++ t) (items_of-append xs ys) ∙ sym (append_assoc e.1 (items_of xs) (items_of ys))
+
+module _ {K : Type 0} (octets : K → List ℕ) where
+  abbrev Slot : Type 0
+  Slot = K × List Fact
+
+  abbrev by_key : Slot → Slot → Ordering
+  by_key a b = key_cmp (octets b.0) (octets a.0)
+
+  -- the items descend by place
+  pub items_descend : (es : List Slot) → IsLaid octets es → IsDescending place (items_of es)
+  items_descend [] laid = tt
+  items_descend (e ∷ es) laid = IsDescending-append place e.1 (items_of es)
+      (within e.1 (octets e.0) (laid.slots e (inl refl)).one_key (laid.slots e (inl refl)).own_front.descending)
+      (items_descend es (record { slots = λ f h. laid.slots f (inr h); ascending = laid.ascending.1 }))
+      (λ x y h k. let s = in_slot es y k in
+      let kx : (key_of x) ≡ octets e.0 = (laid.slots e (inl refl)).one_key x h in
+      let ky : (key_of y) ≡ octets s.0.0 = (laid.slots s.0 (inr s.1)).one_key y s.2 in
+      let up : key_cmp (key_of y) (key_of x) ≡ Greater = ap (λ v. key_cmp v (key_of x)) ky ∙ ap (key_cmp (octets s.0.0)) kx ∙ laid.ascending.0 s.0 s.1 in
+      ap (λ o. ordering_then o (preference x y)) up)
+
+  -- one slot replaced, or put in: what the items become. The items besides it are of other keys
+  pub one_front : (s a f g b : List Fact) (x : Fact)
+      → ((y : Fact) → Has a y → (key_of y) ≡ (key_of x) → ⊥)
+      → ((y : Fact) → Has b y → (key_of y) ≡ (key_of x) → ⊥)
+      → ((y : Fact) → Has f y → (key_of y) ≡ (key_of x))
+      → IsFront preference dominates (x ∷ f) g
+      → IsDescending place (a ++ (g ++ b))
+      → IsFront place dominates s (a ++ (f ++ b))
+      → IsFront place dominates (x ∷ s) (a ++ (g ++ b))
+  one_front s a f g b x in_a in_b in_f new d front = record {
+    descending = d;
+    of_set = λ y h. elim (three a g b y h) [
+      | inl l ↦ inr (front.of_set y (Has-left a _ y l))
+      | inr m ↦ elim m [
+        | inl c ↦ elim (new.of_set y c) [ inl e ↦ inl e | inr old ↦ inr (front.of_set y (Has-right a _ y (Has-left f b y old))) ]
+        | inr r ↦ inr (front.of_set y (Has-right a _ y (Has-right f b y r)))
+      ]
+    ];
+    undominated = λ y h w m. elim (bool_cases (dominates w y)) [
+      | inr nay ↦ nay
+      | inl over ↦ elim (three a g b y h) [
+        | inl l ↦ elim m [
+          | inl e ↦ absurd (in_a y l (sym (ap (λ v. (key_of v)) e ∙ same_key w y (over_from w y over))))
+          | inr old ↦ front.undominated y (Has-left a _ y l) w old
+        ]
+        | inr n ↦ elim n [
+          | inr r ↦ elim m [
+            | inl e ↦ absurd (in_b y r (sym (ap (λ v. (key_of v)) e ∙ same_key w y (over_from w y over))))
+            | inr old ↦ front.undominated y (Has-right a _ y (Has-right f b y r)) w old
+          ]
+          | inl c ↦ elim m [
+            | inl e ↦ new.undominated y c w (inl e)
+            | inr old ↦ absurd (false≢true (sym (above y c w old over) ∙ over))
+          ]
+        ]
+      ]
+    ];
+    whole = λ y m free. elim m [
+      | inl e ↦ Has-right a _ y (Has-left g b y (new.whole y (inl e) (λ w h. elim h [ inl i ↦ free w (inl i) | inr k ↦ free w (inr (front.of_set w (Has-right a _ w (Has-left f b w k)))) ])))
+      | inr old ↦ elim (three a f b y (front.whole y old (λ w h. free w (inr h)))) [
+        | inl l ↦ Has-left a _ y l
+        | inr n ↦ elim n [
+          | inl c ↦ Has-right a _ y (Has-left g b y (new.whole y (inr c) (λ w h. elim h [ inl i ↦ free w (inl i) | inr k ↦ free w (inr (front.of_set w (Has-right a _ w (Has-left f b w k)))) ])))
+          | inr r ↦ Has-right a _ y (Has-right g b y r)
+        ]
+      ]
+    ];
+  }
+    where
+      three : (p q r : List Fact) (y : Fact) → Has (p ++ (q ++ r)) y → Has p y ⊎ (Has q y ⊎ Has r y)
+      three p q r y h = elim (Has-append p (q ++ r) y h) [ inl l ↦ inl l | inr m ↦ inr (Has-append q r y m) ]
+
+      key_of_new : (y : Fact) → Has g y → (key_of y) ≡ (key_of x)
+      key_of_new y c = elim (new.of_set y c) [ inl e ↦ ap (λ v. (key_of v)) (sym e) | inr k ↦ in_f y k ]
+
+      -- w of s dominates y of g: the undominated one above w stands in f
+      above : (y : Fact) → Has g y → (w : Fact) → Has s w → dominates w y ≡ true → dominates w y ≡ false
+      above y c w old over =
+          let p = climb place_laws s w in
+          let top : dominates p.0 y ≡ true = elim p.1 [ inl e ↦ ap (λ v. dominates v y) e ∙ over | inr far ↦ place_laws.chained p.0 w y far.1 over ] in
+          let member : Has s p.0 = elim p.1 [ inl e ↦ subst (Has s) (sym e) old | inr far ↦ far.0 ] in
+          let key : (key_of p.0) ≡ (key_of x) = same_key p.0 y (over_from p.0 y top) ∙ key_of_new y c in
+          elim (three a f b p.0 (front.whole p.0 member p.2)) [
+            | inl l ↦ absurd (in_a p.0 l key)
+            | inr n ↦ elim n [
+              | inr r ↦ absurd (in_b p.0 r key)
+              | inl k ↦ absurd (false≢true (sym (new.undominated y c p.0 (inr k)) ∙ top))
+            ]
+          ]
+
+  -- what stands before a key and after it
+  pub record Around (es : List Slot) (q : List ℕ) (f : List Fact) : Type 0 where
+    pub pre : List Slot
+    pub post : List Slot
+    pub lies : items_of es ≡ items_of pre ++ (f ++ items_of post)
+    pub laid_pre : IsLaid octets pre
+    pub laid_post : IsLaid octets post
+    pub below : (e : Slot) → Has pre e → key_cmp (octets e.0) q ≡ Less
+    pub over : (e : Slot) → Has post e → key_cmp q (octets e.0) ≡ Less
+    pub among : (e : Slot) → Has pre e → Has es e
+
+  turned : (a b : List ℕ) → key_cmp a b ≡ Greater → key_cmp b a ≡ Less
+  turned a b e = nat_list_cmp_total.antisymm b a ∙ ap ordering_reverse e
+
+  turned_up : (a b : List ℕ) → key_cmp a b ≡ Less → key_cmp b a ≡ Greater
+  turned_up a b e = nat_list_cmp_total.antisymm b a ∙ ap ordering_reverse e
+
+  rest_laid : (e : Slot) (es : List Slot) → IsLaid octets (e ∷ es) → IsLaid octets es
+  rest_laid e es laid = record { slots = λ f h. laid.slots f (inr h); ascending = laid.ascending.1 }
+
+  cons_laid : (e : Slot) (es : List Slot) → IsSlot (octets e.0) e.1 → ((f : Slot) → Has es f → key_cmp (octets f.0) (octets e.0) ≡ Greater) → IsLaid octets es → IsLaid octets (e ∷ es)
+  cons_laid e es slot first laid = record { slots = λ f h. elim h [ inl same ↦ subst (λ v. IsSlot (octets v.0) v.1) same slot | inr r ↦ laid.slots f r ]; ascending = (first, laid.ascending) }
+
+  nil_laid : IsLaid octets []
+  nil_laid = record { slots = λ f h. absurd h; ascending = tt }
+
+  -- one more slot before
+  more_around : (e : Slot) (es : List Slot) (q : List ℕ) (f : List Fact) → IsLaid octets (e ∷ es) → key_cmp (octets e.0) q ≡ Less → Around es q f → Around (e ∷ es) q f
+  more_around e es q f laid less a = record {
+    pre = e ∷ a.pre;
+    post = a.post;
+    lies = ap (λ t. e.1 ++ t) a.lies ∙ sym (append_assoc e.1 (items_of a.pre) (f ++ items_of a.post));
+    laid_pre = cons_laid e a.pre (laid.slots e (inl refl)) (λ d h. laid.ascending.0 d (a.among d h)) a.laid_pre;
+    laid_post = a.laid_post;
+    below = λ d h. elim h [ inl same ↦ subst (λ v. key_cmp (octets v.0) q ≡ Less) same less | inr r ↦ a.below d r ];
+    over = a.over;
+    among = λ d h. elim h [ inl same ↦ inl same | inr r ↦ inr (a.among d r) ];
+  }
+
+  -- the key is there
+  pub record Present (es : List Slot) (q : List ℕ) (f : List Fact) : Type 0 where
+    pub around : Around es q f
+    pub slot : IsSlot q f
+    pub at : Slot
+    pub member : Has es at
+    pub is_key : octets at.0 ≡ q
+    pub written : (g : List Fact) → set_value (λ k. is_eq (key_cmp q (octets k))) es g ≡ around.pre ++ (at.0, g) ∷ around.post
+
+  pub present : (es : List Slot) (q : List ℕ) (f : List Fact) → IsLaid octets es → lookup (λ k. is_eq (key_cmp q (octets k))) es ≡ Some f → Present es q f
+  unfolding more_around
+  present [] q f laid found = absurd (cc)
+  present (e ∷ es) q f laid found = elim (bool_cases (is_eq (key_cmp q (octets e.0)))) [
+    | inl same ↦
+        let here : q ≡ octets e.0 = exact_bytes _ _ (equal_from _ same) in
+        let value : Some e.1 ≡ Some f = rw same at found in
+        let is : e.1 ≡ f = cc in
+        record {
+          around = record {
+            pre = [];
+            post = es;
+            lies = ap (λ t. t ++ items_of es) is;
+            laid_pre = nil_laid;
+            laid_post = rest_laid e es laid;
+            below = λ d h. absurd h;
+            over = λ d h. rw here (turned (octets d.0) (octets e.0) (laid.ascending.0 d h));
+            among = λ d h. absurd h;
+          };
+          slot = subst (IsSlot q) is (subst (λ v. IsSlot v e.1) (sym here) (laid.slots e (inl refl)));
+          at = e;
+          member = inl refl;
+          is_key = sym here;
+          written = λ g. rw same refl;
+        }
+    | inr apart ↦
+        let rest = present es q f (rest_laid e es laid) (rw apart at found) in
+        let first : key_cmp (octets e.0) q ≡ Less = subst (λ v. key_cmp (octets e.0) v ≡ Less) rest.is_key (turned (octets rest.at.0) (octets e.0) (laid.ascending.0 rest.at rest.member)) in
+        record {
+          around = more_around e es q f laid first rest.around;
+          slot = rest.slot;
+          at = rest.at;
+          member = inr rest.member;
+          is_key = rest.is_key;
+          written = λ g. rw apart (ap (λ t. e ∷ t) (rest.written g));
+        }
+  ]
+
+  -- the key is not there
+  pub record Absent (es : List Slot) (k : K) : Type 0 where
+    pub around : Around es (octets k) []
+    pub inserted : (g : List Fact) → insert_entry (λ x y. key_cmp (octets x) (octets y)) es k g ≡ around.pre ++ (k, g) ∷ around.post
+
+  pub absent : (es : List Slot) (k : K) → IsLaid octets es → lookup (λ j. is_eq (key_cmp (octets k) (octets j))) es ≡ None → Absent es k
+  unfolding more_around
+  absent [] k laid found = record {
+    around = record { pre = []; post = []; lies = refl; laid_pre = nil_laid; laid_post = nil_laid; below = λ d h. absurd h; over = λ d h. absurd h; among = λ d h. h };
+    inserted = λ g. refl;
+  }
+  absent (e ∷ es) k laid found = elim (ordering_cases (key_cmp (octets k) (octets e.0))) [
+    | inl less ↦ record {
+      around = record {
+        pre = [];
+        post = e ∷ es;
+        lies = refl;
+        laid_pre = nil_laid;
+        laid_post = laid;
+        below = λ d h. absurd h;
+        over = λ d h. elim h [
+          | inl same ↦ subst (λ v. key_cmp (octets k) (octets v.0) ≡ Less) same less
+          | inr r ↦ nat_list_cmp_total.trans (octets k) (octets e.0) (octets d.0) less (turned (octets d.0) (octets e.0) (laid.ascending.0 d r))
+        ];
+        among = λ d h. absurd h;
+      };
+      inserted = λ g. rw less refl;
+    }
+    | inr more ↦ elim more [
+      | inl same ↦ let gone : Some e.1 ≡ None = rw same at found in absurd (cc)
+      | inr greater ↦
+          let left : lookup (λ j. is_eq (key_cmp (octets k) (octets j))) es ≡ None = rw greater at found in
+          let rest = absent es k (rest_laid e es laid) left in
+          record {
+            around = more_around e es (octets k) [] laid (turned (octets k) (octets e.0) greater) rest.around;
+            inserted = λ g. rw greater (ap (λ t. e ∷ t) (rest.inserted g));
+          }
+    ]
+  ]
+
+  -- what lies round a key is of other keys
+  not_before : (es : List Slot) (q : List ℕ) (f : List Fact) (a : Around es q f) (y : Fact) → Has (items_of a.pre) y → key_of y ≡ q → ⊥
+  not_before es q f a y h same =
+      let e = in_slot a.pre y h in
+      let at : key_cmp (octets e.0.0) q ≡ Equal = ap (λ v. key_cmp v q) (sym ((a.laid_pre.slots e.0 e.1).one_key y e.2) ∙ same) ∙ tied_itself nat_list_cmp_total q in
+      let lt : key_cmp (octets e.0.0) q ≡ Less = a.below e.0 e.1 in cc
+
+  not_behind : (es : List Slot) (q : List ℕ) (f : List Fact) (a : Around es q f) (y : Fact) → Has (items_of a.post) y → key_of y ≡ q → ⊥
+  not_behind es q f a y h same =
+      let e = in_slot a.post y h in
+      let at : key_cmp q (octets e.0.0) ≡ Equal = ap (key_cmp q) (sym ((a.laid_post.slots e.0 e.1).one_key y e.2) ∙ same) ∙ tied_itself nat_list_cmp_total q in
+      let lt : key_cmp q (octets e.0.0) ≡ Less = a.over e.0 e.1 in cc
+
+  -- the items of a key are those of its front
+  pub in_front : (es : List Slot) (q : List ℕ) (f : List Fact) (a : Around es q f) (y : Fact) → Has (items_of es) y → key_of y ≡ q → Has f y
+  in_front es q f a y h same = elim (Has-append (items_of a.pre) (f ++ items_of a.post) y (subst (λ v. Has v y) a.lies h)) [
+    | inl l ↦ absurd (not_before es q f a y l same)
+    | inr m ↦ elim (Has-append f (items_of a.post) y m) [ inl here ↦ here | inr r ↦ absurd (not_behind es q f a y r same) ]
+  ]
+
+  pub in_items : (es : List Slot) (q : List ℕ) (f : List Fact) (a : Around es q f) (y : Fact) → Has f y → Has (items_of es) y
+  in_items es q f a y h = subst (λ v. Has v y) (sym a.lies) (Has-right (items_of a.pre) (f ++ items_of a.post) y (Has-left f (items_of a.post) y h))
+
+  -- what makes x needless stands in the front of its key
+  pub covered : (es : List Slot) (x : Fact) (f : List Fact) (a : Around es (key_of x) f) → IsCovered f x ↔ IsCovered (items_of es) x
+  covered es x f a = (
+    (λ c. (c.0, in_items es (key_of x) f a c.0 c.1, c.2)),
+    λ c. (c.0, in_front es (key_of x) f a c.0 c.1 (elim c.2 [ inl same ↦ ap key_of same | inr over ↦ same_key c.0 x (over_from c.0 x over) ]), c.2),
+  )
+
+  pub put_at : (es : List Slot) (f g : List Fact) (x : Fact) (kept : Bool) (k : K) → octets k ≡ (key_of x) → (a : Around es (key_of x) f) → ((y : Fact) → Has f y → (key_of y) ≡ (key_of x)) → IsFront preference dominates (x ∷ f) g → length g ≤ length f + 1 → (kept ≡ false) ↔ IsCovered f x → Put octets es (a.pre ++ (k, g) ∷ a.post) x kept
+  put_at es f g x kept k is_key a in_f new size needless =
+      let laid_new : IsLaid octets (a.pre ++ (k, g) ∷ a.post) = record {
+        slots = λ e h. elim (Has-append a.pre ((k, g) ∷ a.post) e h) [
+          | inl l ↦ a.laid_pre.slots e l
+          | inr m ↦ elim m [
+            | inl same ↦ subst (λ v. IsSlot (octets v.0) v.1) same (record {
+              some = some_of (x ∷ f) g x (inl refl) new;
+              one_key = λ y c. elim (new.of_set y c) [ inl e ↦ ap (λ v. (key_of v)) (sym e) ∙ sym is_key | inr old ↦ in_f y old ∙ sym is_key ];
+              own_front = front_itself ranked (x ∷ f) g new;
+            })
+            | inr r ↦ a.laid_post.slots e r
+          ]
+        ];
+        ascending = IsDescending-append by_key a.pre ((k, g) ∷ a.post) a.laid_pre.ascending
+            ((λ d h. rw is_key (turned_up (key_of x) (octets d.0) (a.over d h))), a.laid_post.ascending)
+            (λ d e h m. elim m [
+              | inl same ↦ subst (λ v. by_key d v ≡ Greater) same (rw is_key (turned_up (octets d.0) (key_of x) (a.below d h)))
+              | inr r ↦ turned_up (octets d.0) (octets e.0) (nat_list_cmp_total.trans (octets d.0) (key_of x) (octets e.0) (a.below d h) (a.over e r))
+            ]);
+      } in
+      let lies : items_of (a.pre ++ (k, g) ∷ a.post) ≡ items_of a.pre ++ (g ++ items_of a.post) = items_of-append a.pre ((k, g) ∷ a.post) in
+      record {
+        laid = laid_new;
+        taken = λ s front. subst (IsFront place dominates (x ∷ s)) (sym lies) (one_front s (items_of a.pre) f g (items_of a.post) x
+            (not_before es (key_of x) f a)
+            (not_behind es (key_of x) f a)
+            in_f
+            new
+            (subst (IsDescending place) lies (items_descend _ laid_new))
+            (subst (IsFront place dominates s) a.lies front));
+        size =
+            let p = items_of a.pre in
+            let q = items_of a.post in
+            let n = ap length lies in
+            let o = ap length a.lies in
+            let i = length-append p (g ++ q) in
+            let j = length-append g q in
+            let k = length-append p (f ++ q) in
+            let l = length-append f q in
+            omega (arith, n, o, i, j, k, l, size);
+        needless = ((λ e. (covered es x f a).0 (needless.0 e)), λ c. needless.1 ((covered es x f a).1 c));
+      }
+
+  -- the front of a key that is there was changed in place
+  pub edited : (es new : List Slot) (f g : List Fact) (x : Fact) (kept : Bool) → IsLaid octets es → lookup (λ k. is_eq (key_cmp (key_of x) (octets k))) es ≡ Some f → new ≡ set_value (λ k. is_eq (key_cmp (key_of x) (octets k))) es g → IsFront preference dominates (x ∷ f) g → length g ≤ length f + 1 → (kept ≡ false) ↔ IsCovered f x → Put octets es new x kept
+  edited es new f g x kept laid found is front size needless =
+      let p = present es (key_of x) f laid found in
+      subst (λ v. Put octets es v x kept) (sym (is ∙ p.written g)) (put_at es f g x kept p.at.0 p.is_key p.around p.slot.one_key front size needless)
+
+  -- the front of a new key was put in
+  pub entered : (es new : List Slot) (g : List Fact) (x : Fact) (k : K) → octets k ≡ (key_of x) → IsLaid octets es → lookup (λ j. is_eq (key_cmp (key_of x) (octets j))) es ≡ None → new ≡ insert_entry (λ i j. key_cmp (octets i) (octets j)) es k g → IsFront preference dominates (x ∷ []) g → length g ≤ 1 → Put octets es new x true
+  entered es new g x k same laid found is front size =
+      let p = absent es k laid (rw same found) in
+      let here = subst (λ q. (a : Around es q []) × ((v : List Fact) → insert_entry (λ i j. key_cmp (octets i) (octets j)) es k v ≡ a.pre ++ (k, v) ∷ a.post)) same (p.around, p.inserted) in
+      subst (λ v. Put octets es v x true) (sym (is ∙ here.1 g)) (put_at es [] g x true k same here.0 (λ y h. absurd h) front size ((λ e. absurd (false≢true (sym e))), λ c. absurd c.1))

@@ -1,0 +1,104 @@
+//! Observations as values with a preference, of which some make others needless.
+
+ghost use Rattle.std.specs.Prelude.{◌≡◌, ◌||◌};
+ghost use Rattle.std.specs.Ordering.{is_eq};
+ghost use Rattle.fleet_observe.specs.Preference.{preference};
+ghost use Rattle.fleet_cache.specs.Dominates.{dominates as over, is_same_key};
+
+use fleet_front::Ranked;
+use fleet_observe::{Moment, Observation};
+use std::alloc::{Allocator, Global};
+use std::cmp::Ordering;
+use std::marker::Model;
+
+/// One observation of a cache.
+#[derive(Drop)]
+pub(crate) struct Item<A: Allocator = Global> {
+    observation: Observation<A>,
+}
+
+impl<A: Allocator> Model for Item<A> {
+    ghost use Rattle.fleet_observe.specs.Fact.{Fact};
+
+    ghost Value = { Fact };
+
+    ghost view = { λ i. i.observation };
+}
+
+impl<A: Allocator> Item<A> {
+    /// This observation.
+    pub(crate) fn new(observation: Observation<A>) -> Item<A>
+        ensures { result ≡ observation }
+    {
+        Item { observation }
+    }
+
+    /// The observation.
+    pub(crate) fn observation(&self) -> &Observation<A>
+        ensures { result.now ≡ self.now }
+    {
+        &self.observation
+    }
+
+    /// Whether it is this observation, or dominates it.
+    pub(crate) fn covers(&self, other: &Observation<A>) -> bool
+        ensures { result ≡ (is_eq (preference self.now other.now) || over self.now other.now) }
+    {
+        self.observation.cmp(other).is_eq() || is_over(&self.observation, other)
+    }
+}
+
+// Whether an observation dominates another one; what is cheap to ask comes first.
+fn is_over<A: Allocator>(one: &Observation<A>, other: &Observation<A>) -> bool
+    ensures { result ≡ over one.now other.now }
+{
+    if one.expires() < other.expires() {
+        return false;
+    }
+    if !one.cmp(other).is_gt() {
+        return false;
+    }
+    has_key_of(one, other)
+}
+
+// Whether an observation has the name, the kind and the type of another one.
+fn has_key_of<A: Allocator>(one: &Observation<A>, other: &Observation<A>) -> bool
+    ensures { result ≡ is_same_key one.now other.now }
+{
+    if one.kind().number() != other.kind().number() {
+        return false;
+    }
+    if one.rtype() != other.rtype() {
+        return false;
+    }
+    one.name().cmp(other.name()).is_eq()
+}
+
+impl<A: Allocator> Ranked for Item<A> {
+    type Cut = Moment;
+
+    ghost use Rattle.fleet_observe.specs.Preference.{preference};
+    ghost use Rattle.fleet_cache.specs.Dominates.{dominates as is_over};
+    ghost use Rattle.fleet_cache.specs.Live.{hidden as has_ended};
+    ghost use Rattle.fleet_cache.specs.Orders.{ranked};
+
+    ghost order = { preference };
+
+    ghost dominates = { is_over };
+
+    ghost hidden = { has_ended };
+
+    fn order(&self, other: &Self) -> Ordering {
+        self.observation.cmp(&other.observation)
+    }
+
+    fn dominates(&self, other: &Self) -> bool {
+        is_over(&self.observation, &other.observation)
+    }
+
+    fn hidden(&self, cut: &Moment) -> bool {
+        self.observation.expires() <= cut.value()
+    }
+
+    ghost laws = { ranked };
+}

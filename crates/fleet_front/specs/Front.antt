@@ -1,0 +1,58 @@
+-- What a front of a set is, for any order, dominance and cut that keep the laws.
+use Rattle.std.specs.Prelude.{ℕ, suc, ◌≡◌, Bool, true, false, ◌⊎◌, ◌||◌, not, cond, List, [], ◌∷◌}
+use Rattle.std.specs.List.{filter, list_any}
+use Rattle.std.specs.declared.cmp.Ordering.{Ordering}
+use Rattle.std.specs.declared.cmp.Ordering.TheVariants.{Equal, Greater}
+use Rattle.std.specs.Ordering.{is_eq, is_gt}
+use Rattle.std.specs.Cmp.{IsTotalOrder}
+
+-- the laws of a ranked type
+pub record RankedLaws {T C : Type 0} (order : T → T → Ordering) (dominates : T → T → Bool) (hidden : C → T → Bool) : Type 0 where
+  pub total : IsTotalOrder order
+  pub exact : (x y : T) → order x y ≡ Equal → x ≡ y
+  pub chained : (x y z : T) → dominates x y ≡ true → dominates y z ≡ true → dominates x z ≡ true
+  pub greater : (x y : T) → dominates x y ≡ true → order x y ≡ Greater
+  pub hides_below : (c : C) (x y : T) → hidden c x ≡ true → dominates x y ≡ true → hidden c y ≡ true
+
+-- x is one of the values
+abbrev pub Has : {X : Type 0} → List X → X → Type 0
+Has [] x = ⊥
+Has (y ∷ ys) x = (y ≡ x) ⊎ Has ys x
+
+-- each value stands after all greater ones
+abbrev pub IsDescending : {X : Type 0} → (X → X → Ordering) → List X → Type 0
+IsDescending order [] = Unit {0}
+IsDescending {X} order (x ∷ xs) = ((y : X) → Has xs y → order x y ≡ Greater) × IsDescending order xs
+
+-- no value of s dominates x
+abbrev pub IsUndominated : {X : Type 0} → (X → X → Bool) → List X → X → Type 0
+IsUndominated {X} dominates s x = (y : X) → Has s y → dominates y x ≡ false
+
+-- the items are the undominated values of s, greatest first
+pub record IsFront {X : Type 0} (order : X → X → Ordering) (dominates : X → X → Bool) (s items : List X) : Type 0 where
+  pub descending : IsDescending order items
+  pub of_set : (x : X) → Has items x → Has s x
+  pub undominated : (x : X) → Has items x → IsUndominated dominates s x
+  pub whole : (x : X) → Has s x → IsUndominated dominates s x → Has items x
+
+-- the values that a cut shows
+abbrev pub shown : {C X : Type 0} → (C → X → Bool) → C → List X → List X
+shown hidden c s = filter (λ x. not (hidden c x)) s
+
+-- x is the greatest of the values
+pub record IsGreatest {X : Type 0} (order : X → X → Ordering) (s : List X) (x : X) : Type 0 where
+  pub member : Has s x
+  pub greatest : (y : X) → Has s y → (order x y ≡ Greater) ⊎ (x ≡ y)
+
+-- x is one of the items, or one of them dominates it
+abbrev pub IsCovered : {X : Type 0} → (X → X → Bool) → List X → X → Type 0
+IsCovered {X} dominates items x = (y : X) × Has items y × ((y ≡ x) ⊎ (dominates y x ≡ true))
+
+-- the same as a test, by an order that is equal only on equal values
+abbrev pub is_covered : {X : Type 0} → (X → X → Ordering) → (X → X → Bool) → X → List X → Bool
+is_covered order dominates x items = list_any (λ y. is_eq (order y x) || dominates y x) items
+
+-- how many items at the front are greater than x
+abbrev pub count_above : {X : Type 0} → (X → X → Ordering) → X → List X → ℕ
+count_above order x [] = 0
+count_above order x (y ∷ ys) = cond (is_gt (order y x)) (suc (count_above order x ys)) 0
