@@ -5,7 +5,6 @@ use Rattle.toml.specs.Data.{Data, Items, no_items, item, Members, no_members, me
 use Rattle.toml.specs.Parse.{parse_document}
 use Rattle.fleet_pending.specs.declared.waiter.Addr.{Addr}
 use Rattle.fleet_site.specs.Config.{SettingFails}
-use Rattle.fleet_site.specs.Setting.{Setting}
 use Rattle.fleet_site.specs.declared.config.ConfigFault.{ConfigFault}
 use Rattle.fleet_site.specs.declared.config.ConfigFault.TheVariants as pair
 use Rattle.dnsfleet.specs.Words.{SpellsAddress}

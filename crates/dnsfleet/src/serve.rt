@@ -15,21 +15,21 @@ use rand_chacha::ChaCha20Rng;
 use rand_core::SeedableRng;
 use std::alloc::{AllocError, Global};
 use std::io::{ErrorKind, Read};
-use std::net::Net;
+use std::net::{Ipv4Addr, Net};
 use std::process::ExitCode;
 use std::rt::Files;
-use std::{fmt, fs, io, time};
+use std::{fs, io, time};
 use thiserror::Error;
 
 /// The words of `serve`, as they were given.
 #[derive(Clone, Copy)]
 pub struct Words<'a> {
     /// The path of the configuration.
-    config: &'a str,
+    pub config: &'a str,
     /// The key, in hexadecimal digits.
-    key: &'a str,
+    pub key: &'a str,
     /// How many turns to serve.
-    turns: u32,
+    pub turns: u32,
 }
 
 impl<'a> Words<'a> {
@@ -113,17 +113,6 @@ pub fn settings_at<R: Files>(
     }
 }
 
-/// An address, as it is printed.
-#[derive(Clone, Copy, Drop)]
-struct Shown(Addr);
-
-impl fmt::Display for Shown {
-    fn fmt<W: fmt::Write>(&self, f: &mut fmt::Formatter<W>) -> fmt::Result {
-        let [a, b, c, d] = self.0.host.to_be_bytes();
-        write!(f, "{a}.{b}.{c}.{d}:{}", self.0.port)
-    }
-}
-
 /// Prints what a server counted.
 fn print_report<O: Print>(out: &O, report: &Report) -> io::Result<()> {
     let Report {
@@ -165,7 +154,9 @@ fn serve_port<R: time::Clock + AllocGlobal, O: Print>(
     key: [u8; 32],
     turns: u32,
 ) -> io::Result<()> {
-    println!(out; "listening {}", Shown(port.address()))?;
+    let Addr { host, port: number } = port.address();
+    let host = Ipv4Addr::from_bits(host);
+    println!(out; "listening {host}:{number}")?;
     let mut clock = SystemClock::new(rt);
     let report = serve_new(rt.alloc(), port, &mut clock, settings, key, turns);
     print_report(out, &report)

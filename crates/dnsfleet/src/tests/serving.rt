@@ -2,8 +2,8 @@
 
 use super::settings::loopback;
 use super::told::Told;
-use crate::serve::{ConfigurationFault, serve_settings, settings_at};
-use crate::{Settings, SettingsFault, UdpPort, read_settings, run};
+use crate::serve::{ConfigurationFault, Words, serve_settings, settings_at};
+use crate::{Settings, SettingsFault, UdpPort, program, read_settings, run};
 use std::alloc::Global;
 use std::process::{Abort, ExitCode};
 use std::test::Fail;
@@ -43,6 +43,41 @@ fn looks_at_its_words_before_its_key(rt: HostRuntime) -> Result<(), Fail> {
         assert!(rt; code == ExitCode::from(2), "{words}");
         assert_eq!(rt; output.as_str(), "", "{words}");
         assert!(rt; errors.starts_with("error: "), "{words}");
+    }
+    Ok(())
+}
+
+#[test]
+fn takes_its_words(rt: HostRuntime) -> Result<(), Fail> {
+    for (words, wanted) in [
+        (
+            [
+                "dnsfleet", "serve", "--config", "c", "--key", "k", "--turns", "1",
+            ],
+            ("c", "k", 1u32),
+        ),
+        (
+            [
+                "dnsfleet",
+                "serve",
+                "--turns",
+                "4294967295",
+                "--key",
+                "",
+                "--config",
+                "",
+            ],
+            ("", "", u32::MAX),
+        ),
+    ] {
+        let matches = program(rt.alloc())?.try_get_matches_from(words.as_slice())?;
+        match matches.subcommand() {
+            Some(("serve", matches)) => {
+                let words = Words::of(matches);
+                assert_eq!(rt; (words.config, words.key, words.turns), wanted);
+            }
+            _ => assert!(rt; false),
+        }
     }
     Ok(())
 }

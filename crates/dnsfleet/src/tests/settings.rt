@@ -76,7 +76,7 @@ const ADDED: [(&str, SettingsFault); 16] = [
 ];
 
 /// Whole texts, of which the first fault is told.
-const WHOLE: [(&str, SettingsFault); 26] = [
+const WHOLE: [(&str, SettingsFault); 27] = [
     ("", SettingsFault::MissingKey),
     (
         "upstreams = [\"127.0.0.1:5301\"]",
@@ -116,6 +116,10 @@ const WHOLE: [(&str, SettingsFault); 26] = [
     (
         "listen = \"127.0.0.1:1\"\nupstreams = [\"\", 1]",
         SettingsFault::WrongKind,
+    ),
+    (
+        "listen = \"127.0.0.1:5400\"\nupstreams = [\"localhost:5301\"]",
+        SettingsFault::BadAddress,
     ),
     (
         "listen = \"127.0.0.1:1\"\nupstreams = [\"\"]\npeers = 1",

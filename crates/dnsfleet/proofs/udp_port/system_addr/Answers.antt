@@ -1,4 +1,4 @@
-use Rattle.std.proofs.Common.{arith, rules}
+use Rattle.std.proofs.Common.{rules}
 use Rattle.dnsfleet.proofs.Sockets.{address_back}
 use Rattle.dnsfleet.proofs.udp_port.system_addr.Goals as goal
 
