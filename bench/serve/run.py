@@ -220,12 +220,31 @@ def measure(server, pid, data, seconds, cpus):
     return seen
 
 
-def rounds(servers, names, data, options):
+def press(server, pid, data, seconds, cpus, folder):
+    """The same with a client that keeps 200 questions open and is faster than any server."""
+    words = [os.path.join(folder, "load"), str(PORTS[server]), data, str(seconds), "200"]
+    if cpus is not None:
+        words = ["taskset", "-c", cpus] + words
+    before = cpu_seconds(pid)
+    text = subprocess.run(words, stdout=subprocess.PIPE, text=True, timeout=seconds + 30, check=True).stdout
+    spent = cpu_seconds(pid) - before
+    replies, good, lost, took = re.match(r"replies (\d+) good (\d+) lost (\d+) seconds ([\d.]+)", text).groups()
+    if replies != good:
+        sys.exit(f"{server} answers otherwise: {text}")
+    return {
+        "rate": int(replies) / float(took) / 1000,
+        "lost": int(lost),
+        "cpu": spent * 1e6 / max(1, int(replies)),
+    }
+
+
+def rounds(servers, names, data, options, one):
     seen = {name: [] for name in names}
     for _ in range(options.rounds):
         for name in names:
             servers.check(name)
-            seen[name].append(measure(name, servers.running[name].pid, data, options.seconds, options.client_cpus))
+            pid = servers.running[name].pid
+            seen[name].append(one(name, pid, data, options.seconds, options.client_cpus))
     return seen
 
 
@@ -277,7 +296,8 @@ def wanted(name, words):
 
 def start_all(servers, options):
     folder = servers.folder
-    subprocess.run(["cc", "-O2", "-o", os.path.join(folder, "echo"), os.path.join(HERE, "echo.c")], check=True)
+    for name in ("echo", "load"):
+        subprocess.run(["cc", "-O2", "-o", os.path.join(folder, name), os.path.join(HERE, name + ".c")], check=True)
     left_out = options.without.split(",")
     words = {
         "nsd": nsd_words(folder),
@@ -310,8 +330,10 @@ def main():
                 took = fill(name, data, count, options.client_cpus)
                 print(f"{name}: {count} names asked once, and answered, in {took:.1f} s")
             sys.stdout.flush()
-            seen = rounds(servers, names, data, options)
-            table(f"{count} names, {options.rounds} rounds of {options.seconds} s", names, seen, servers)
+            seen = rounds(servers, names, data, options, measure)
+            table(f"{count} names, dnsperf, {options.rounds} rounds of {options.seconds} s", names, seen, servers)
+            seen = rounds(servers, names, data, options, lambda *words: press(*words, folder))
+            table(f"{count} names, load, {options.rounds} rounds of {options.seconds} s", names, seen, servers)
         idle(servers, names, 5)
     finally:
         servers.stop_all()
