@@ -2,3 +2,5 @@ mod Numbers
 mod Octets
 mod Addresses
 mod Apart
+mod Configurations
+mod Sockets

@@ -3,3 +3,8 @@ pub mod Kinds
 pub mod Fault
 pub mod Settings
 pub mod Fleet
+pub mod Configuration
+pub mod Socket
+pub mod Key
+pub mod Serving
+pub mod Moments

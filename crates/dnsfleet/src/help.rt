@@ -2,9 +2,12 @@
 
 /// What `dnsfleet --help` says at its end.
 pub const PROGRAM: &str = "\
-Example: dnsfleet script < examples/fleet.script
+Examples:
+  dnsfleet script < examples/fleet.script
+  dnsfleet serve --config examples/fleet/site0.toml --turns 1000 \\
+    --key 000102030405060708090a0b0c0d0e0f101112131415161718191a1b1c1d1e1f
 
-`dnsfleet script --help` lists the events.";
+`dnsfleet script --help` lists the events, `dnsfleet serve --help` the keys of a configuration.";
 
 /// What `dnsfleet script --help` says at its end.
 pub const SCRIPT: &str = "\
@@ -28,3 +31,25 @@ A refused event prints its packets and then `refused REASON`. A line at fault en
 Example, a reply with the address of example.com., and a question for it ten seconds later:
   learn 0 100 000181800001000100000000076578616d706c6503636f6d0000010001c00c000100010000012c0004c0000201
   ask 0 110 000701000001000000000000076578616d706c6503636f6d0000010001";
+
+/// What `dnsfleet serve --help` says at its end.
+pub const SERVE: &str = "\
+A turn receives at most one datagram, and waits 200 milliseconds for it: N turns last N / 5 seconds where none comes,
+and less where some do. It prints `listening ADDR`, and after N turns
+`turns T received R sent S lost L faults F refused X short M`.
+
+Keys of the configuration, a TOML file:
+  listen     where the site listens, an address of 127.0.0.1 with a port
+  upstreams  1 to 4 addresses that are asked, in this order
+  peers      at most 16 addresses that are told what was learnt; none if absent
+  sweep      0 to 3600, the seconds between two sweeps of all that is held; 0 is never, 30 if absent
+
+Example, a site that asks the server at port 5301; with nothing to do it ends after an hour:
+  listen = \"127.0.0.1:5400\"
+  upstreams = [\"127.0.0.1:5301\"]
+
+  dnsfleet serve --config site0.toml --turns 18000 \\
+    --key 000102030405060708090a0b0c0d0e0f101112131415161718191a1b1c1d1e1f
+
+Whoever has the key can guess the identifiers of queries: draw one for each site, and keep it secret. A bad key ends
+with status 2, a bad configuration or an address that can't be bound with status 1, with a line on standard error.";

@@ -4,10 +4,14 @@ mod bodies;
 mod datagrams;
 mod examples;
 mod frames;
+mod loopback;
 mod questions;
 mod readers;
 mod refused;
 mod refusing;
+mod serving;
+mod settings;
+mod told;
 
 use crate::{ScriptFault, What, end_script, run_script};
 use datagrams::DATAGRAMS;
@@ -16,12 +20,9 @@ use frames::FRAMES;
 use questions::QUESTIONS;
 use readers::{Failing, Full, Slow};
 use std::alloc::Global;
-use std::cell::RefCell;
-use std::fmt::Display;
-use std::io;
-use std::io::ErrorKind;
 use std::process::{Abort, ExitCode};
 use std::test::Fail;
+use told::Told;
 
 /// Runs an example: its lines at once, and octet by octet with an interruption.
 fn check_example(rt: &impl Abort, alloc: Global, example: &Example) -> Result<(), Fail> {
@@ -187,85 +188,66 @@ fn asks_at_most_256_questions(rt: HostRuntime) -> Result<(), Fail> {
     check_lines(&rt, rt.alloc(), lines.as_str(), wanted.as_str());
     Ok(())
 }
-/// Lines that end a script, the line at fault, what is wrong with it, and what was printed before.
-#[derive(Clone, Copy)]
-struct Faulty {
-    lines: &'static [u8],
-    line: u64,
-    what: What,
-    printed: &'static str,
-}
 
-const fn at_fault(lines: &'static [u8], line: u64, what: What, printed: &'static str) -> Faulty {
-    Faulty {
-        lines,
-        line,
-        what,
-        printed,
-    }
-}
+/// Scripts with a line at fault: the line, what is wrong with it, and what was printed before.
+const FAULTY: [(&'static [u8], u64, What, &'static str); 42] = [
+    (b"# caf\xc3\xa9\n", 1, What::NotAscii, ""),
+    (b"\n\xff\n", 2, What::NotAscii, ""),
+    (b"\n# a comment\n\nlern 0", 4, What::UnknownEvent, ""),
+    (b" show 0\n", 1, What::UnknownEvent, ""),
+    (b"show 0\r\n", 1, What::BadNumber, ""),
+    (b"show\n", 1, What::WordCount, ""),
+    (b"show  0\n", 1, What::WordCount, ""),
+    (b"ask 0 0 - 1 2 3 4 5\n", 1, What::WordCount, ""),
+    (b"nothing 0 0 - 1 2 3 4 5\n", 1, What::UnknownEvent, ""),
+    (b"show +1\n", 1, What::BadNumber, ""),
+    (b"show \n", 1, What::BadNumber, ""),
+    (b"show 00000000000000\n", 1, What::BadNumber, ""),
+    (b"show 9999999999999\n", 1, What::NoSuchSite, ""),
+    (b"ask 0 1099511627777 -\n", 1, What::BadNumber, ""),
+    (b"ask x 0 g\n", 1, What::BadNumber, ""),
+    (b"ask 1 0 0g\n", 1, What::BadHex, ""),
+    (b"learn 0 0 \n", 1, What::BadHex, ""),
+    (b"learn 0 0 123\n", 1, What::BadHex, ""),
+    (b"learn 1 0 -\n", 1, What::NoSuchSite, ""),
+    (b"sites 0\n", 1, What::BadNumber, ""),
+    (b"sites 10\n", 1, What::BadNumber, ""),
+    (b"sites 1\nsites 10\n", 2, What::BadNumber, ""),
+    (b"# none\nsites 2\nsites 2\n", 3, What::SitesNotFirst, ""),
+    (b"tick 0 0\nsites 1\n", 2, What::SitesNotFirst, "idle\n"),
+    (b"sites 2\nshow 2\n", 2, What::NoSuchSite, ""),
+    (b"sites 2\nmerge 1 2\n", 2, What::NoSuchSite, ""),
+    (b"sites 2\nmerge 2 1\n", 2, What::NoSuchSite, ""),
+    (b"sites 9\nsame 9 0\n", 2, What::NoSuchSite, ""),
+    (b"same 0 1\n", 1, What::NoSuchSite, ""),
+    (b"tick 1 0\n", 1, What::NoSuchSite, ""),
+    (b"sweep 1\n", 1, What::NoSuchSite, ""),
+    (b"restart 1\n", 1, What::NoSuchSite, ""),
+    (b"frame 1 0 -\n", 1, What::NoSuchSite, ""),
+    (b"deliver 0 0 0\n", 1, What::NoSuchFrame, ""),
+    (b"deliver 1 0 0\n", 1, What::NoSuchSite, ""),
+    (b"deliver 0 0 9999999999999\n", 1, What::NoSuchFrame, ""),
+    (b"datagram 1 0 0.0.0.0:1 0 -\n", 1, What::NoSuchSite, ""),
+    (b"datagram 0 x 1.2.3 0 -\n", 1, What::BadNumber, ""),
+    (b"datagram 0 0 1.2.3:1 x g\n", 1, What::BadAddress, ""),
+    (b"datagram 0 0 1.2.3.4:1 65536 g\n", 1, What::BadNumber, ""),
+    (b"datagram 0 0 1.2.3.4:1 65535 g\n", 1, What::BadHex, ""),
+    (
+        b"ask 0 1099511627776 -\nlearn 0000000000000 0 -\nask 0 0 - -\n",
+        3,
+        What::WordCount,
+        "dropped\nrefused read TooShort\n",
+    ),
+];
 
 #[test]
 fn tells_each_fault(rt: HostRuntime) -> Result<(), Fail> {
-    let table = [
-        at_fault(b"# caf\xc3\xa9\n", 1, What::NotAscii, ""),
-        at_fault(b"\n\xff\n", 2, What::NotAscii, ""),
-        at_fault(b"\n# a comment\n\nlern 0", 4, What::UnknownEvent, ""),
-        at_fault(b" show 0\n", 1, What::UnknownEvent, ""),
-        at_fault(b"show 0\r\n", 1, What::BadNumber, ""),
-        at_fault(b"show\n", 1, What::WordCount, ""),
-        at_fault(b"show  0\n", 1, What::WordCount, ""),
-        at_fault(b"ask 0 0 - 1 2 3 4 5\n", 1, What::WordCount, ""),
-        at_fault(b"nothing 0 0 - 1 2 3 4 5\n", 1, What::UnknownEvent, ""),
-        at_fault(b"show +1\n", 1, What::BadNumber, ""),
-        at_fault(b"show \n", 1, What::BadNumber, ""),
-        at_fault(b"show 00000000000000\n", 1, What::BadNumber, ""),
-        at_fault(b"show 9999999999999\n", 1, What::NoSuchSite, ""),
-        at_fault(b"ask 0 1099511627777 -\n", 1, What::BadNumber, ""),
-        at_fault(b"ask x 0 g\n", 1, What::BadNumber, ""),
-        at_fault(b"ask 1 0 0g\n", 1, What::BadHex, ""),
-        at_fault(b"learn 0 0 \n", 1, What::BadHex, ""),
-        at_fault(b"learn 0 0 123\n", 1, What::BadHex, ""),
-        at_fault(b"learn 1 0 -\n", 1, What::NoSuchSite, ""),
-        at_fault(b"sites 0\n", 1, What::BadNumber, ""),
-        at_fault(b"sites 10\n", 1, What::BadNumber, ""),
-        at_fault(b"sites 1\nsites 10\n", 2, What::BadNumber, ""),
-        at_fault(b"# none\nsites 2\nsites 2\n", 3, What::SitesNotFirst, ""),
-        at_fault(b"tick 0 0\nsites 1\n", 2, What::SitesNotFirst, "idle\n"),
-        at_fault(b"sites 2\nshow 2\n", 2, What::NoSuchSite, ""),
-        at_fault(b"sites 2\nmerge 1 2\n", 2, What::NoSuchSite, ""),
-        at_fault(b"sites 2\nmerge 2 1\n", 2, What::NoSuchSite, ""),
-        at_fault(b"sites 9\nsame 9 0\n", 2, What::NoSuchSite, ""),
-        at_fault(b"same 0 1\n", 1, What::NoSuchSite, ""),
-        at_fault(b"tick 1 0\n", 1, What::NoSuchSite, ""),
-        at_fault(b"sweep 1\n", 1, What::NoSuchSite, ""),
-        at_fault(b"restart 1\n", 1, What::NoSuchSite, ""),
-        at_fault(b"frame 1 0 -\n", 1, What::NoSuchSite, ""),
-        at_fault(b"deliver 0 0 0\n", 1, What::NoSuchFrame, ""),
-        at_fault(b"deliver 1 0 0\n", 1, What::NoSuchSite, ""),
-        at_fault(b"deliver 0 0 9999999999999\n", 1, What::NoSuchFrame, ""),
-        at_fault(b"datagram 1 0 0.0.0.0:1 0 -\n", 1, What::NoSuchSite, ""),
-        at_fault(b"datagram 0 x 1.2.3 0 -\n", 1, What::BadNumber, ""),
-        at_fault(b"datagram 0 0 1.2.3:1 x g\n", 1, What::BadAddress, ""),
-        at_fault(b"datagram 0 0 1.2.3.4:1 65536 g\n", 1, What::BadNumber, ""),
-        at_fault(b"datagram 0 0 1.2.3.4:1 65535 g\n", 1, What::BadHex, ""),
-        at_fault(
-            b"ask 0 1099511627776 -\nlearn 0000000000000 0 -\nask 0 0 - -\n",
-            3,
-            What::WordCount,
-            "dropped\nrefused read TooShort\n",
-        ),
-    ];
-    for case in &table {
-        let mut reader = case.lines;
+    for (lines, line, what, told) in FAULTY {
+        let mut reader = lines;
         let mut printed = Vec::new(rt.alloc());
         let fault = run_script(rt.alloc(), &mut reader, &mut printed);
-        let wanted = ScriptFault {
-            line: case.line,
-            what: case.what,
-        };
-        assert_eq!(rt; fault, Err(wanted));
-        assert_eq!(rt; printed.as_slice(), case.printed.as_bytes());
+        assert_eq!(rt; fault, Err(ScriptFault { line, what }));
+        assert_eq!(rt; printed.as_slice(), told.as_bytes());
     }
     Ok(())
 }
@@ -349,40 +331,18 @@ fn tells_of_its_reader_and_writer(rt: HostRuntime) -> Result<(), Fail> {
     Ok(())
 }
 
-/// What is written on standard error, and nothing else.
-#[derive(Drop)]
-struct Told {
-    text: RefCell<String>,
-}
-
-impl Eprint for Told {
-    fn eprint<D: Display + Drop>(&self, value: D) -> io::Result<()> {
-        match self.text.try_borrow_mut() {
-            Ok(mut text) => write!(text, "{value}")?,
-            Err(_) => return Err(io::Error::from(ErrorKind::Other)),
-        }
-        Ok(())
-    }
-
-    fn eprintln<D: Display + Drop>(&self, value: D) -> io::Result<()> {
-        self.eprint(format_args!("{value}\n"))
-    }
-}
-
 #[test]
 fn ends_with_a_status(rt: HostRuntime) -> Result<(), Fail> {
-    let told = Told {
-        text: RefCell::new(String::new(rt.alloc())),
-    };
+    let told = Told::new(rt.alloc());
     assert!(rt; end_script(&told, Ok(()))? == ExitCode::SUCCESS);
-    assert_eq!(rt; told.text.try_borrow()?.as_str(), "");
+    assert_eq!(rt; told.errors.try_borrow()?.as_str(), "");
     let fault = ScriptFault {
         line: 7,
         what: What::BadHex,
     };
     assert!(rt; end_script(&told, Err(fault))? == ExitCode::from(1));
     assert_eq!(rt;
-        told.text.try_borrow()?.as_str(),
+        told.errors.try_borrow()?.as_str(),
         "dnsfleet: line 7: bad hex\n"
     );
     Ok(())

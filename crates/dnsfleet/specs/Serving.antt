@@ -1,0 +1,24 @@
+-- What the program serves: a new site, with the words of a key.
+use Rattle.std.specs.Prelude.{ℕ, List, Option}
+use Rattle.rand_core.specs.Steps.{stream_of, steps_u32}
+use Rattle.rand_core.specs.Stream.{Stream}
+use Rattle.rand_chacha.specs.ChaCha.{of_seed, next_word}
+use Rattle.fleet_site.specs.PortRecord.{PortState}
+use Rattle.fleet_site.specs.Served.{Served, FollowsSteps}
+use Rattle.fleet_site.specs.StandsFor.{StandsFor, opening}
+use Rattle.fleet_site.specs.State.{State}
+use Rattle.fleet_site.specs.declared.report.Report.{Report}
+use Rattle.dnsfleet.specs.declared.settings.Settings.{Settings}
+
+-- the key stream of ChaCha20
+abbrev pub words_of : List ℕ → Stream
+words_of key = stream_of (steps_u32 (next_word 10)) (of_seed key)
+
+-- so many turns were served, with the upstreams, the peers and the seconds between sweeps that the settings say, by a
+-- site that took nothing in before; over them it follows the model's steps
+pub record ServesNew (old new : PortState) (moments : Option (ℕ → ℕ)) (key : List ℕ) (turns : ℕ) (settings : Settings) (report : Report) : Type 0 where
+  pub site : State
+  pub after : State
+  pub opens : StandsFor site (opening settings.config.upstreams settings.config.peers)
+  pub run : Served old new moments (words_of key) turns settings.sweep site after report
+  pub follows : FollowsSteps site after

@@ -1,0 +1,18 @@
+-- What is made of the system's addresses and errors.
+use Rattle.std.specs.Prelude.{◌≡◌, ◌⊎◌, Option, Some, None}
+use Rattle.std.specs.declared.io.ErrorKind.{ErrorKind}
+use Rattle.std.specs.declared.io.ErrorKind.TheVariants.{WouldBlock, TimedOut, Interrupted}
+use Rattle.std.specs.declared.net.socket_addr.SocketAddr.{SocketAddr}
+use Rattle.std.specs.declared.net.socket_addr.SocketAddr.TheVariants.{V4, V6}
+use Rattle.std.specs.Net.Addr.{ipv4_bits}
+use Rattle.std.specs.Net.Socket.{v4_ip, v4_port}
+use Rattle.fleet_pending.specs.declared.waiter.Addr.{Addr}
+
+-- an address of IPv4; there is no other
+abbrev pub address_in : SocketAddr → Option Addr
+address_in (V4 a) = Some (record { host = ipv4_bits (v4_ip a); port = v4_port a })
+address_in (V6 a) = None
+
+-- none came in time, or a signal interrupted the receive: neither is a fault
+abbrev pub IsQuiet : ErrorKind → Type 0
+IsQuiet kind = (kind ≡ WouldBlock) ⊎ ((kind ≡ TimedOut) ⊎ (kind ≡ Interrupted))

@@ -1,0 +1,219 @@
+//! The command `serve`: a site on loopback.
+
+ghost use Rattle.std.specs.Prelude.{◌≡◌, ◌⊎◌, List, ℕ, IfOk, IsErr, IsOk, MatchOption};
+ghost use Rattle.std.specs.Process.{exit_status};
+ghost use Rattle.dnsfleet.specs.Key.{SpellsKey};
+ghost use Rattle.dnsfleet.specs.Serving.{ServesNew};
+
+use crate::settings::{LONGEST_CONFIGURATION, Settings, SettingsFault, read_settings};
+use crate::system_clock::SystemClock;
+use crate::udp_port::UdpPort;
+use clap::{Arg, ArgAction, ArgMatches, Command, value_parser};
+use fleet_pending::Addr;
+use fleet_site::{Clock, Port, Report, Site, serve};
+use rand_chacha::ChaCha20Rng;
+use rand_core::SeedableRng;
+use std::alloc::{AllocError, Global};
+use std::io::{ErrorKind, Read};
+use std::net::Net;
+use std::process::ExitCode;
+use std::rt::Files;
+use std::{fmt, fs, io, time};
+use thiserror::Error;
+
+/// The words of `serve`, as they were given.
+#[derive(Clone, Copy)]
+pub struct Words<'a> {
+    /// The path of the configuration.
+    config: &'a str,
+    /// The key, in hexadecimal digits.
+    key: &'a str,
+    /// How many turns to serve.
+    turns: u32,
+}
+
+impl<'a> Words<'a> {
+    /// The words that `clap` found; it lets none be absent.
+    pub fn of(matches: &ArgMatches<'a>) -> Words<'a> {
+        Words {
+            config: matches.get_str("config").unwrap_or(""),
+            key: matches.get_str("key").unwrap_or(""),
+            turns: matches.get_one::<u32>("turns").unwrap_or(1),
+        }
+    }
+}
+
+/// The options of `serve`. All are required.
+pub fn options<'a>(alloc: Global, command: Command<'a>) -> Result<Command<'a>, AllocError> {
+    let config = Arg::new(alloc, "config")
+        .long("config")
+        .value_name("FILE")
+        .help("The configuration, a TOML file")
+        .required(true)
+        .action(ArgAction::Set);
+    let key = Arg::new(alloc, "key")
+        .long("key")
+        .value_name("HEX")
+        .help("64 hexadecimal digits, from which the identifiers of queries are drawn")
+        .required(true)
+        .action(ArgAction::Set);
+    let turns = Arg::new(alloc, "turns")
+        .long("turns")
+        .value_name("N")
+        .help("How many turns to serve, 1 to 4294967295")
+        .required(true)
+        .action(ArgAction::Set)
+        .value_parser(value_parser!(u32).range(1..));
+    command.arg(config)?.arg(key)?.arg(turns)
+}
+
+/// Why a configuration gave no settings.
+#[derive(Clone, Copy, Debug, PartialEq, Eq, Error)]
+pub enum ConfigurationFault {
+    /// The file can't be read.
+    #[error("not readable")]
+    NotReadable,
+    /// What it says is no configuration.
+    #[error("{0}")]
+    Settings(SettingsFault),
+}
+
+/// The key that 64 hexadecimal digits spell.
+fn key_of(text: &str) -> Option<[u8; 32]>
+    ensures { MatchOption result ((key : List ℕ) → SpellsKey text.now key → ⊥) (λ key. SpellsKey text.now key) }
+{
+    let mut key = [0u8; 32];
+    match hex::decode_to_slice(text, &mut key) {
+        Ok(()) => Some(key),
+        Err(_) => None,
+    }
+}
+
+/// The first octets of a file, at most one more than a configuration has.
+fn read_start<R: Files>(rt: &R, alloc: Global, path: &str) -> io::Result<Vec<u8>> {
+    let mut octets = Vec::new(alloc);
+    fs::open(rt, path)?
+        .take(LONGEST_CONFIGURATION as u64 + 1)
+        .read_to_end(&mut octets)?;
+    Ok(octets)
+}
+
+/// What the configuration at a path says.
+pub fn settings_at<R: Files>(
+    rt: &R,
+    alloc: Global,
+    path: &str,
+) -> Result<Settings, ConfigurationFault> {
+    match read_start(rt, alloc, path) {
+        Ok(octets) => read_settings(alloc, &octets).map_err(ConfigurationFault::Settings),
+        Err(error) if error.kind() == ErrorKind::OutOfMemory => Err(ConfigurationFault::Settings(
+            SettingsFault::OutOfMemory,
+        )),
+        Err(_) => Err(ConfigurationFault::NotReadable),
+    }
+}
+
+/// An address, as it is printed.
+#[derive(Clone, Copy, Drop)]
+struct Shown(Addr);
+
+impl fmt::Display for Shown {
+    fn fmt<W: fmt::Write>(&self, f: &mut fmt::Formatter<W>) -> fmt::Result {
+        let [a, b, c, d] = self.0.host.to_be_bytes();
+        write!(f, "{a}.{b}.{c}.{d}:{}", self.0.port)
+    }
+}
+
+/// Prints what a server counted.
+fn print_report<O: Print>(out: &O, report: &Report) -> io::Result<()> {
+    let Report {
+        turns,
+        received,
+        sent,
+        lost,
+        faults,
+        refused,
+        short,
+    } = *report;
+    println!(out;
+        "turns {turns} received {received} sent {sent} lost {lost} faults {faults} refused {refused} short {short}"
+    )
+}
+
+/// Serves so many turns with these settings, over any port and clock, with the words of a key.
+fn serve_new<P: Port, C: Clock>(
+    alloc: Global,
+    port: &mut P,
+    clock: &mut C,
+    settings: Settings,
+    key: [u8; 32],
+    turns: u32,
+) -> Report
+    ensures { ServesNew (P.tells port.old) (P.tells port.new) (C.moments clock.old) key turns settings result }
+{
+    let mut rng = ChaCha20Rng::from_seed(key);
+    let mut site = Site::new(alloc, settings.config);
+    serve(port, clock, &mut rng, &mut site, turns, settings.sweep)
+}
+
+/// Serves so many turns over a socket, and prints where it listens and what it counted.
+fn serve_port<R: time::Clock + AllocGlobal, O: Print>(
+    rt: &R,
+    out: &O,
+    port: &mut UdpPort,
+    settings: Settings,
+    key: [u8; 32],
+    turns: u32,
+) -> io::Result<()> {
+    println!(out; "listening {}", Shown(port.address()))?;
+    let mut clock = SystemClock::new(rt);
+    let report = serve_new(rt.alloc(), port, &mut clock, settings, key, turns);
+    print_report(out, &report)
+}
+
+/// Serves with these settings, if there are any. A fault is told on standard error, and ends with status 1.
+pub fn serve_settings<R: time::Clock + Net + AllocGlobal, O: Print + Eprint>(
+    rt: &R,
+    out: &O,
+    settings: Result<Settings, ConfigurationFault>,
+    key: [u8; 32],
+    turns: u32,
+) -> io::Result<ExitCode>
+    ensures served { IsOk settings → IfOk result (λ code. (exit_status code ≡ 0) ⊎ (exit_status code ≡ 1)) }
+    ensures fault { IsErr settings → IfOk result (λ code. exit_status code ≡ 1) }
+{
+    let settings = match settings {
+        Ok(settings) => settings,
+        Err(fault) => {
+            eprintln!(out; "dnsfleet: config: {fault}")?;
+            return Ok(ExitCode::FAILURE);
+        }
+    };
+    let Ok(mut port) = UdpPort::bind(rt, settings.listen) else {
+        eprintln!(out; "dnsfleet: socket")?;
+        return Ok(ExitCode::FAILURE);
+    };
+    serve_port(rt, out, &mut port, settings, key, turns)?;
+    Ok(ExitCode::SUCCESS)
+}
+
+/// Serves one site as the words say. The key is looked at before the configuration; where it is none, the status is 2.
+pub fn run_server<R: Files + time::Clock + Net + AllocGlobal, O: Print + Eprint>(
+    rt: &R,
+    out: &O,
+    words: Words<'_>,
+) -> io::Result<ExitCode>
+    ensures bad_key { ((key : List ℕ) → SpellsKey words.entry.key.now key → ⊥) → IfOk result (λ code. exit_status code ≡ 2) }
+    ensures with_key { (key : List ℕ) → SpellsKey words.entry.key.now key → IfOk result (λ code. (exit_status code ≡ 0) ⊎ (exit_status code ≡ 1)) }
+{
+    match key_of(words.key) {
+        Some(key) => {
+            let settings = settings_at(rt, rt.alloc(), words.config);
+            serve_settings(rt, out, settings, key, words.turns)
+        }
+        None => {
+            eprintln!(out; "dnsfleet: key: 64 hexadecimal digits wanted")?;
+            Ok(ExitCode::from(2))
+        }
+    }
+}

@@ -1,0 +1,217 @@
+//! Sites over sockets of this machine, and the system's clock.
+
+use super::settings::loopback;
+use crate::{SystemClock, UdpPort};
+use fleet_observe::Moment;
+use fleet_pending::Addr;
+use fleet_site::{Clock, Config, Port, Report, Site, serve};
+use rand_chacha::ChaCha20Rng;
+use rand_core::SeedableRng;
+use std::alloc::Global;
+use std::cell::Cell;
+use std::io::ErrorKind;
+use std::net::{Ipv4Addr, SocketAddrV4, UdpSocket};
+use std::process::Abort;
+use std::test::Fail;
+use std::time::Duration;
+use std::{io, time};
+
+/// A question for the address of example.com.
+const QUESTION: &[u8] =
+    b"\x00\x07\x01\x00\x00\x01\x00\x00\x00\x00\x00\x00\x07example\x03com\x00\x00\x01\x00\x01";
+
+/// The record of a reply behind that question: 192.0.2.1, for 300 seconds.
+const RECORD: &[u8] = b"\xc0\x0c\x00\x01\x00\x01\x00\x00\x01\x2c\x00\x04\xc0\x00\x02\x01";
+
+/// The answer to it, with the name in full.
+const ANSWER: &[u8] =
+    b"\x00\x07\x81\x80\x00\x01\x00\x01\x00\x00\x00\x00\x07example\x03com\x00\x00\x01\x00\x01\x07example\x03com\x00\x00\x01\x00\x01\x00\x00\x01\x2c\x00\x04\xc0\x00\x02\x01";
+
+/// A socket of a test, which waits for a second at most, and where it is.
+fn open(rt: &HostRuntime) -> Result<(UdpSocket, Addr), Fail> {
+    let socket = UdpSocket::bind(rt, SocketAddrV4::new(Ipv4Addr::LOCALHOST, 0))?;
+    socket.set_read_timeout(Some(Duration::from_secs(1)))?;
+    let port = socket.local_addr()?.port();
+    Ok((socket, loopback(port)))
+}
+
+/// Sends octets to a port of this machine.
+fn send(socket: &UdpSocket, to: Addr, bytes: &[u8]) -> Result<(), Fail> {
+    socket.send_to(bytes, SocketAddrV4::new(Ipv4Addr::LOCALHOST, to.port))?;
+    Ok(())
+}
+
+/// The next datagram of a socket.
+fn receive(alloc: Global, socket: &UdpSocket) -> Result<Vec<u8>, Fail> {
+    let mut buffer = [0u8; 600];
+    let (len, _) = socket.recv_from(&mut buffer)?;
+    Ok(Vec::from_slice(alloc, &buffer[..len])?)
+}
+
+/// A site on a socket.
+#[derive(Drop)]
+struct Served {
+    port: UdpPort,
+    site: Site,
+}
+
+impl Served {
+    /// A site with one upstream and one peer.
+    fn new(alloc: Global, port: UdpPort, upstream: Addr, peer: Addr) -> Result<Served, Fail> {
+        let upstreams = Vec::from_slice(alloc, &[upstream])?;
+        let peers = Vec::from_slice(alloc, &[peer])?;
+        let site = Site::new(alloc, Config::new(upstreams, peers)?);
+        Ok(Served { port, site })
+    }
+
+    /// Serves two turns: the datagram that is there, and none. So many packets are sent.
+    fn serve<R: Abort + time::Clock>(&mut self, rt: &R, sent: u64) {
+        let mut clock = SystemClock::new(rt);
+        let mut rng = ChaCha20Rng::from_seed([7; 32]);
+        let report = serve(&mut self.port, &mut clock, &mut rng, &mut self.site, 2, 0);
+        let wanted = Report {
+            turns: 2,
+            received: 1,
+            sent,
+            lost: 0,
+            faults: 0,
+            refused: 0,
+            short: 0,
+        };
+        assert_eq!(rt; report, wanted);
+        assert_eq!(rt; self.port.failures(), 0);
+    }
+}
+
+/// Two sites that are each other's peers.
+fn open_sites(rt: &HostRuntime, upstream: Addr) -> Result<(Served, Served), Fail> {
+    let first = UdpPort::bind(rt, loopback(0))?;
+    let second = UdpPort::bind(rt, loopback(0))?;
+    let (here, there) = (first.address(), second.address());
+    let first = Served::new(rt.alloc(), first, upstream, there)?;
+    let second = Served::new(rt.alloc(), second, upstream, here)?;
+    Ok((first, second))
+}
+
+/// The reply to a query: the same header with the bits of a reply and one record, the same question, and the record.
+fn reply_to(alloc: Global, query: &[u8]) -> Result<Vec<u8>, Fail> {
+    let (id, rest) = query.split_at_checked(2).ok_or("no id")?;
+    let (_, question) = rest.split_at_checked(10).ok_or("no header")?;
+    let mut reply = Vec::from_slice(alloc, id)?;
+    reply.extend_from_slice(b"\x81\x80\x00\x01\x00\x01\x00\x00\x00\x00")?;
+    reply.extend_from_slice(question)?;
+    reply.extend_from_slice(RECORD)?;
+    Ok(reply)
+}
+
+/// The upstream answers the one query that was sent to it.
+fn answer_query(rt: &impl Abort, alloc: Global, stub: &UdpSocket, site: Addr) -> Result<(), Fail> {
+    let query = receive(alloc, stub)?;
+    assert_eq!(rt; query.get(2..), QUESTION.get(2..));
+    let reply = reply_to(alloc, &query)?;
+    send(stub, site, &reply)
+}
+
+#[test]
+fn serves_what_a_peer_learnt(rt: HostRuntime) -> Result<(), Fail> {
+    let (client, _) = open(&rt)?;
+    let (stub, upstream) = open(&rt)?;
+    let (mut first, mut second) = open_sites(&rt, upstream)?;
+    send(&client, first.port.address(), QUESTION)?;
+    first.serve(&rt, 1);
+    answer_query(&rt, rt.alloc(), &stub, first.port.address())?;
+    first.serve(&rt, 2);
+    assert_eq!(rt; receive(rt.alloc(), &client)?.as_slice(), ANSWER);
+    second.serve(&rt, 0);
+    send(&client, second.port.address(), QUESTION)?;
+    second.serve(&rt, 1);
+    let answer = receive(rt.alloc(), &client)?;
+    assert!(rt; shows_record(&answer));
+    // The upstream was sent nothing more.
+    let mut buffer = [0u8; 600];
+    stub.set_nonblocking(true)?;
+    assert!(rt; stub.recv_from(&mut buffer).is_err());
+    Ok(())
+}
+
+/// Whether an answer has the record, with a TTL of 295 to 300 seconds, since a test may take some.
+fn shows_record(answer: &[u8]) -> bool {
+    let seconds = answer.get(49).copied().unwrap_or(0);
+    answer.len() == 56
+        && answer.get(..49) == ANSWER.get(..49)
+        && (39..=44).contains(&seconds)
+        && answer.get(50..) == ANSWER.get(50..)
+}
+
+#[test]
+fn counts_what_fails(rt: HostRuntime) -> Result<(), Fail> {
+    let mut port = UdpPort::bind(&rt, loopback(0))?;
+    assert!(rt; UdpPort::bind(&rt, port.address()).is_err());
+    assert!(rt; port.send(loopback(0), b"x").is_err());
+    let elsewhere = Addr {
+        host: 0x0a00_0001,
+        port: 53,
+    };
+    assert!(rt; port.send(elsewhere, b"x").is_err());
+    assert_eq!(rt; port.failures(), 2);
+    let mut buffer = [0u8; 8];
+    assert!(rt; matches!(port.recv(&mut buffer), Ok(None)));
+    assert_eq!(rt; port.failures(), 2);
+    let (client, from) = open(&rt)?;
+    for (bytes, len) in [
+        (b"".as_slice(), 0usize),
+        (b"12345678", 8),
+        (b"123456789", 8),
+    ] {
+        send(&client, port.address(), bytes)?;
+        match port.recv(&mut buffer) {
+            Ok(Some(got)) => assert_eq!(rt; got, (from, len)),
+            _ => assert!(rt; false, "{len}"),
+        }
+        assert_eq!(rt; buffer.get(..len), bytes.get(..len));
+    }
+    port.send(from, b"abc")?;
+    assert_eq!(rt; receive(rt.alloc(), &client)?.as_slice(), b"abc".as_slice());
+    assert_eq!(rt; port.failures(), 2);
+    Ok(())
+}
+
+/// A clock that is set by hand; `None` is one that can't be read.
+#[derive(Drop)]
+struct Set(Cell<Option<Duration>>);
+
+impl time::Clock for Set {
+    fn monotonic(&self) -> io::Result<Duration> {
+        self.since_1970()
+    }
+
+    fn since_1970(&self) -> io::Result<Duration> {
+        self.0.get().ok_or(io::Error::from(ErrorKind::Other))
+    }
+}
+
+#[test]
+fn tells_whole_seconds(rt: HostRuntime) {
+    let set = Set(Cell::new(None));
+    let mut clock = SystemClock::new(&set);
+    assert_eq!(rt; clock.now().value(), 0);
+    for (since, wanted) in [
+        (
+            Some(Duration::from_millis(1_700_000_000_999)),
+            1_700_000_000,
+        ),
+        (None, 1_700_000_000),
+        (Some(Duration::from_secs(7)), 7),
+        (Some(Duration::from_secs(1 << 40)), 1 << 40),
+        (Some(Duration::from_secs((1 << 40) + 1)), 1 << 40),
+        (None, 1 << 40),
+        (Some(Duration::MAX), 1 << 40),
+        (Some(Duration::ZERO), 0),
+    ] {
+        set.0.set(since);
+        assert_eq!(rt; clock.now().value(), wanted);
+    }
+    let mut clock = SystemClock::new(&rt);
+    // 2024 has begun.
+    assert!(rt; clock.now() > Moment::new(1_704_067_200).unwrap());
+}

@@ -1,0 +1,210 @@
+//! The command `serve`: what it prints, and the status that it ends with.
+
+use super::settings::loopback;
+use super::told::Told;
+use crate::serve::{ConfigurationFault, serve_settings, settings_at};
+use crate::{Settings, SettingsFault, UdpPort, read_settings, run};
+use std::alloc::Global;
+use std::process::{Abort, ExitCode};
+use std::test::Fail;
+
+/// A key.
+const KEY: &str = "000102030405060708090a0b0c0d0e0f101112131415161718191A1B1C1D1E1F";
+
+/// Runs the program with words, and gives the status with what was printed on standard output and on standard error.
+fn ran(rt: &HostRuntime, words: &str) -> Result<(ExitCode, String, String), Fail> {
+    let told = Told::new(rt.alloc());
+    let mut list = Vec::new(rt.alloc());
+    for word in words.split(' ') {
+        list.push(word.to_string(rt.alloc())?)?;
+    }
+    let code = run(rt, &told, list.as_slice())?;
+    Ok((code, told.output.into_inner(), told.errors.into_inner()))
+}
+
+#[test]
+fn looks_at_its_words_before_its_key(rt: HostRuntime) -> Result<(), Fail> {
+    for words in [
+        "dnsfleet",
+        "dnsfleet serf",
+        "dnsfleet serve",
+        "dnsfleet serve --key 00 --turns 1",
+        "dnsfleet serve --config / --turns 1",
+        "dnsfleet serve --config / --key 00",
+        "dnsfleet serve --config / --key 00 --turns 0",
+        "dnsfleet serve --config / --key 00 --turns -1",
+        "dnsfleet serve --config / --key 00 --turns one",
+        "dnsfleet serve --config / --key 00 --turns 4294967296",
+        "dnsfleet serve --config / --key 00 --turns 1 --turns 1",
+        "dnsfleet serve --config / --key 00 --turns 1 more",
+        "dnsfleet script more",
+    ] {
+        let (code, output, errors) = ran(&rt, words)?;
+        assert!(rt; code == ExitCode::from(2), "{words}");
+        assert_eq!(rt; output.as_str(), "", "{words}");
+        assert!(rt; errors.starts_with("error: "), "{words}");
+    }
+    Ok(())
+}
+
+#[test]
+fn helps(rt: HostRuntime) -> Result<(), Fail> {
+    for (words, example) in [
+        ("dnsfleet --help", "dnsfleet script < examples/fleet.script"),
+        ("dnsfleet script --help", "  learn 0 100 0001"),
+        ("dnsfleet serve --help", "  listen = \"127.0.0.1:5400\""),
+        ("dnsfleet help serve", "  listen = \"127.0.0.1:5400\""),
+    ] {
+        let (code, output, errors) = ran(&rt, words)?;
+        assert!(rt; code == ExitCode::SUCCESS, "{words}");
+        assert!(rt; output.contains(example), "{words}");
+        assert_eq!(rt; errors.as_str(), "", "{words}");
+    }
+    Ok(())
+}
+
+#[test]
+fn looks_at_its_key_before_its_configuration(rt: HostRuntime) -> Result<(), Fail> {
+    let mut text = String::new(rt.alloc());
+    for length in [0usize, 2, 62, 63, 65, 66] {
+        text.clear();
+        for _ in 0..length {
+            text.push('0')?;
+        }
+        let words = format!(in rt.alloc(); "dnsfleet serve --turns 1 --config / --key {text}")?;
+        let (code, output, errors) = ran(&rt, words.as_str())?;
+        assert!(rt; code == ExitCode::from(2), "{length}");
+        assert_eq!(rt; output.as_str(), "", "{length}");
+        let told = "dnsfleet: key: 64 hexadecimal digits wanted\n";
+        assert_eq!(rt; errors.as_str(), told, "{length}");
+    }
+    let words = format!(in rt.alloc(); "dnsfleet serve --turns 1 --config / --key {KEY}")?;
+    let (code, output, errors) = ran(&rt, words.as_str())?;
+    assert!(rt; code == ExitCode::from(1));
+    assert_eq!(rt; output.as_str(), "");
+    assert_eq!(rt; errors.as_str(), "dnsfleet: config: not readable\n");
+    Ok(())
+}
+
+/// The fault of the configuration at a path, `None` where there is none.
+fn fault_at(rt: &HostRuntime, path: &str) -> Option<ConfigurationFault> {
+    settings_at(rt, rt.alloc(), path).err()
+}
+
+#[test]
+fn reads_a_file(rt: HostRuntime) {
+    let unreadable = Some(ConfigurationFault::NotReadable);
+    assert_eq!(rt; fault_at(&rt, ""), unreadable);
+    assert_eq!(rt; fault_at(&rt, "/"), unreadable);
+    assert_eq!(rt; fault_at(&rt, "/nowhere/site.toml"), unreadable);
+    let missing = ConfigurationFault::Settings(SettingsFault::MissingKey);
+    assert_eq!(rt; fault_at(&rt, "/dev/null"), Some(missing));
+    let long = ConfigurationFault::Settings(SettingsFault::TooLong);
+    assert_eq!(rt; fault_at(&rt, "/dev/zero"), Some(long));
+}
+
+/// The faults of a configuration, with what is printed of each.
+const TEXTS: [(ConfigurationFault, &str); 14] = [
+    (ConfigurationFault::NotReadable, "not readable"),
+    (
+        ConfigurationFault::Settings(SettingsFault::TooLong),
+        "too long",
+    ),
+    (
+        ConfigurationFault::Settings(SettingsFault::NotToml),
+        "not TOML",
+    ),
+    (
+        ConfigurationFault::Settings(SettingsFault::UnknownKey),
+        "unknown key",
+    ),
+    (
+        ConfigurationFault::Settings(SettingsFault::MissingKey),
+        "missing key",
+    ),
+    (
+        ConfigurationFault::Settings(SettingsFault::WrongKind),
+        "wrong kind",
+    ),
+    (
+        ConfigurationFault::Settings(SettingsFault::BadAddress),
+        "bad address",
+    ),
+    (
+        ConfigurationFault::Settings(SettingsFault::NotLoopback),
+        "listen is not 127.0.0.1",
+    ),
+    (
+        ConfigurationFault::Settings(SettingsFault::BadSweep),
+        "bad sweep",
+    ),
+    (
+        ConfigurationFault::Settings(SettingsFault::NoUpstream),
+        "no upstream",
+    ),
+    (
+        ConfigurationFault::Settings(SettingsFault::TooManyUpstreams),
+        "too many upstreams",
+    ),
+    (
+        ConfigurationFault::Settings(SettingsFault::TooManyPeers),
+        "too many peers",
+    ),
+    (
+        ConfigurationFault::Settings(SettingsFault::AddressTwice),
+        "address twice",
+    ),
+    (
+        ConfigurationFault::Settings(SettingsFault::OutOfMemory),
+        "out of memory",
+    ),
+];
+
+/// Serves three turns with settings, and gives the status with what was printed.
+fn served(
+    rt: &HostRuntime,
+    settings: Result<Settings, ConfigurationFault>,
+) -> Result<(ExitCode, String, String), Fail> {
+    let told = Told::new(rt.alloc());
+    let code = serve_settings(rt, &told, settings, [7; 32], 3)?;
+    Ok((code, told.output.into_inner(), told.errors.into_inner()))
+}
+
+#[test]
+fn tells_faults_of_its_configuration(rt: HostRuntime) -> Result<(), Fail> {
+    for (fault, text) in TEXTS {
+        let (code, output, errors) = served(&rt, Err(fault))?;
+        assert!(rt; code == ExitCode::from(1), "{text}");
+        assert_eq!(rt; output.as_str(), "", "{text}");
+        let wanted = format!(in rt.alloc(); "dnsfleet: config: {text}\n")?;
+        assert_eq!(rt; errors.as_str(), wanted.as_str());
+    }
+    Ok(())
+}
+
+/// Settings of a site at a port of 127.0.0.1.
+fn settings_for(alloc: Global, port: u16) -> Result<Settings, Fail> {
+    let text = format!(in alloc;
+        "listen = \"127.0.0.1:{port}\"\nupstreams = [\"127.0.0.1:5301\"]\n"
+    )?;
+    Ok(read_settings(alloc, text.as_bytes())?)
+}
+
+#[test]
+fn prints_where_it_listens_and_what_it_counted(rt: HostRuntime) -> Result<(), Fail> {
+    let taken = UdpPort::bind(&rt, loopback(0))?;
+    let port = taken.address().port;
+    let (code, output, errors) = served(&rt, Ok(settings_for(rt.alloc(), port)?))?;
+    assert!(rt; code == ExitCode::from(1));
+    assert_eq!(rt; output.as_str(), "");
+    assert_eq!(rt; errors.as_str(), "dnsfleet: socket\n");
+    drop(taken);
+    let (code, output, errors) = served(&rt, Ok(settings_for(rt.alloc(), port)?))?;
+    assert!(rt; code == ExitCode::SUCCESS);
+    let wanted = format!(in rt.alloc();
+        "listening 127.0.0.1:{port}\nturns 3 received 0 sent 0 lost 0 faults 0 refused 0 short 0\n"
+    )?;
+    assert_eq!(rt; output.as_str(), wanted.as_str());
+    assert_eq!(rt; errors.as_str(), "");
+    Ok(())
+}

@@ -1,0 +1,62 @@
+//! What is printed, kept apart.
+
+use std::alloc::Global;
+use std::cell::RefCell;
+use std::fmt::Display;
+use std::io;
+use std::io::ErrorKind;
+
+/// What is written on standard output and on standard error, and nothing else.
+#[derive(Drop)]
+pub struct Told {
+    /// Standard output.
+    pub output: RefCell<String>,
+    /// Standard error.
+    pub errors: RefCell<String>,
+}
+
+impl Told {
+    /// Nothing was written.
+    pub fn new(alloc: Global) -> Told {
+        Told {
+            output: RefCell::new(String::new(alloc)),
+            errors: RefCell::new(String::new(alloc)),
+        }
+    }
+}
+
+/// Adds a value to what was written.
+fn add<D: Display + Drop>(text: &RefCell<String>, value: D) -> io::Result<()> {
+    match text.try_borrow_mut() {
+        Ok(mut text) => write!(text, "{value}")?,
+        Err(_) => return Err(io::Error::from(ErrorKind::Other)),
+    }
+    Ok(())
+}
+
+impl Print for Told {
+    fn print<D: Display + Drop>(&self, value: D) -> io::Result<()> {
+        add(&self.output, value)
+    }
+
+    fn println<D: Display + Drop>(&self, value: D) -> io::Result<()> {
+        add(&self.output, format_args!("{value}\n"))
+    }
+
+    fn write_all(&self, bytes: &[u8]) -> io::Result<()> {
+        match str::from_utf8(bytes) {
+            Ok(text) => add(&self.output, text),
+            Err(_) => Err(io::Error::from(ErrorKind::InvalidData)),
+        }
+    }
+}
+
+impl Eprint for Told {
+    fn eprint<D: Display + Drop>(&self, value: D) -> io::Result<()> {
+        add(&self.errors, value)
+    }
+
+    fn eprintln<D: Display + Drop>(&self, value: D) -> io::Result<()> {
+        add(&self.errors, format_args!("{value}\n"))
+    }
+}
