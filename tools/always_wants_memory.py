@@ -32,33 +32,37 @@ FAULTS = {
     "WorldFault": "WorldFault::Memory { taken: 0 }",
     "Halted": "Halted { at: 0, fault: WorldFault::Memory { taken: 0 } }",
     "ScriptFault": "ScriptFault { line: 1, what: What::OutOfMemory }",
+    "SettingsFault": "SettingsFault::OutOfMemory",
 }
 
 
+# `serve` has no such answer: it counts each step as short.
+IN_PLACE_OF = {"serve": ("carry_out", "report.count_short(); return false;")}
+
+
 def body_at(text, call):
-    """Where the body of a public call begins, and the head before it."""
+    """Where the body of a function begins, and the head before it."""
     owner, _, name = call.rpartition("::")
-    for found in re.finditer(rf"^( *)pub fn {name}\b.*?^\1\{{$|^( *)pub fn {name}\b[^\n]*\{{$", text, re.M | re.S):
+    for found in re.finditer(rf"^( *)(?:pub )?fn {name}\b", text, re.M):
         owners = re.findall(r"^impl\b.*?(\w+)(?:<[^\n{]*>)? *\{", text[: found.start()], re.M)
-        is_method = bool(found[1] or found[2])
-        if is_method == bool(owner) and (not owner or owners[-1:] == [owner]):
-            return found.end(), found[0]
+        if bool(found[1]) == bool(owner) and (not owner or owners[-1:] == [owner]):
+            end = re.compile(r"\{$", re.M).search(text, found.end()).end()
+            return end, text[found.start() : end]
     return None
 
 
 def edited(folder, call):
     """Gives the call a body that always wants memory; whether it was found."""
+    function, body = IN_PLACE_OF.get(call, (call, None))
     for file in sorted((folder / "src").rglob("*.rt")):
         text = file.read_text()
-        found = body_at(text, call)
+        found = body_at(text, function)
         if not found:
             continue
         end, head = found
-        if call == "serve":
-            text = text.replace("Ok(outcome) => {\n            if", "Ok(outcome) if false => {\n            if")
-            return None
-        fault = re.findall(rf"\b({'|'.join(FAULTS)})\b", head.split("->", 1)[1])
-        file.write_text(text[:end] + f"\n    if true {{ return Err({FAULTS[fault[0]]}); }}" + text[end:])
+        fault = re.findall(rf"\b({'|'.join(FAULTS)})\b", head.split("->", 1)[1]) + [""]
+        body = body or f"return Err({FAULTS[fault[0]]});"
+        file.write_text(f"{text[:end]}\n    if true {{ {body} }}{text[end:]}")
         return True
     return False
 

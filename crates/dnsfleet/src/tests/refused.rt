@@ -72,9 +72,9 @@ impl Met {
 }
 
 /// Makes the sites of an example, a second time where a call was refused.
-fn begin_refused(
+fn begin_refused<A: Allocator + Copy>(
     rt: &impl Abort,
-    fleet: &mut Fleet<&Refusing<Global>>,
+    fleet: &mut Fleet<A>,
     refusing: &Refusing<Global>,
     first: &str,
 ) -> Result<(), Fail> {
@@ -135,6 +135,56 @@ fn check_lost<A: Allocator + Copy>(
     Ok(())
 }
 
+/// Checks what became of a line, and says whether the next one follows: not where frames were not kept.
+fn check_line<A: Allocator + Copy>(
+    rt: &impl Abort,
+    ample: A,
+    fleet: &mut Fleet<A>,
+    before: &mut Fleet<A>,
+    line: &Line<'_>,
+    ended: Ended<A>,
+    met: &mut Met,
+) -> Result<bool, Fail> {
+    match ended {
+        Ended::Done(text) => assert_eq!(rt; text.as_str(), line.prints),
+        Ended::Short(taken) => {
+            met.count(taken);
+            check_short(rt, ample, fleet, before, line, taken)?;
+        }
+        Ended::Lost(text) => {
+            met.count_lost();
+            check_lost(rt, ample, fleet, before, line, text.as_str())?;
+            return Ok(false);
+        }
+    }
+    Ok(true)
+}
+
+/// Does lines on a fleet whose memory may be refused.
+fn run_lines<A: Allocator + Copy>(
+    rt: &impl Abort,
+    ample: A,
+    alloc: A,
+    refusing: &Refusing<Global>,
+    lines: &[Line<'_>],
+    met: &mut Met,
+) -> Result<(), Fail> {
+    let first = lines.first().ok_or("no line")?.text;
+    let mut fleet = Fleet::new(alloc);
+    begin_refused(rt, &mut fleet, refusing, first)?;
+    for (place, line) in lines.iter().enumerate() {
+        let had_refused = refusing.has_refused();
+        let ended = run_line(fleet.world()?, ample, line.text)?;
+        let is_done = matches!(&ended, Ended::Done(_));
+        assert_eq!(rt; is_done, refusing.has_refused() == had_refused);
+        let mut before = fleet_after(ample, first, &lines[..place])?;
+        if !check_line(rt, ample, &mut fleet, &mut before, line, ended, met)? {
+            return Ok(());
+        }
+    }
+    Ok(())
+}
+
 /// Does the lines of an example with a call refused, and says whether that call was made.
 fn run_refused(
     rt: &impl Abort,
@@ -145,29 +195,7 @@ fn run_refused(
 ) -> Result<bool, Fail> {
     let ample = Refusing::after(alloc, 0);
     let refusing = Refusing::after(alloc, call);
-    let first = lines.first().ok_or("no line")?.text;
-    let mut fleet = Fleet::new(&refusing);
-    begin_refused(rt, &mut fleet, &refusing, first)?;
-    for (place, line) in lines.iter().enumerate() {
-        let had_refused = refusing.has_refused();
-        let ended = run_line(fleet.world()?, &ample, line.text)?;
-        let is_done = matches!(&ended, Ended::Done(_));
-        assert_eq!(rt; is_done, refusing.has_refused() == had_refused);
-        match ended {
-            Ended::Done(text) => assert_eq!(rt; text.as_str(), line.prints),
-            Ended::Short(taken) => {
-                met.count(taken);
-                let mut before = fleet_after(&ample, first, &lines[..place])?;
-                check_short(rt, &ample, &mut fleet, &mut before, line, taken)?;
-            }
-            Ended::Lost(text) => {
-                met.count_lost();
-                let mut before = fleet_after(&ample, first, &lines[..place])?;
-                check_lost(rt, &ample, &mut fleet, &mut before, line, text.as_str())?;
-                return Ok(true);
-            }
-        }
-    }
+    run_lines(rt, &ample, &refusing, &refusing, lines, met)?;
     Ok(refusing.has_refused())
 }
 

@@ -8,7 +8,7 @@ use crate::tests::refused::lines::{
 };
 use crate::tests::refused::{MANY, REFUSED, begin_refused, check_lost};
 use crate::tests::refusing::Refusing;
-use fleet_world::{Event, Stepped, World, WorldFault};
+use fleet_world::{Event, Halted, Stepped, World, WorldFault};
 use std::alloc::{Allocator, Global};
 use std::process::Abort;
 use std::test::Fail;
@@ -77,6 +77,57 @@ fn check_halted<A: Allocator + Copy>(
     Ok(())
 }
 
+/// Checks a fleet whose run was halted, and runs the events that are left, but where frames were not kept.
+fn go_on<A: Allocator + Copy>(
+    rt: &impl Abort,
+    ample: A,
+    fleet: &mut Fleet<A>,
+    first: &str,
+    steps: &[Line<'_>],
+    events: &[Event<A>],
+    halted: Halted<A>,
+) -> Result<(), Fail> {
+    let at = halted.at;
+    let line = steps.get(at).ok_or("no line")?;
+    let mut before = fleet_after(ample, first, steps.get(..at).ok_or("no line")?)?;
+    match halted.fault {
+        WorldFault::Memory { taken } => {
+            check_halted(rt, ample, fleet, &mut before, line, taken)?;
+            let rest = events.get(at..).ok_or("no event")?;
+            let steps = steps.get(at..).ok_or("no line")?;
+            let all = fleet.world()?.run(rest)?;
+            check_run(rt, ample, fleet.world()?, rest, &all, steps)
+        }
+        WorldFault::FramesLost(stepped) => {
+            let event = events.get(at).ok_or("no event")?;
+            let text = printed_of(fleet.world()?, ample, event, &stepped)?;
+            check_lost(rt, ample, fleet, &mut before, line, text.as_str())
+        }
+        fault => Err(fault.into()),
+    }
+}
+
+/// Runs events at once on a fleet whose memory may be refused.
+fn run_steps<A: Allocator + Copy>(
+    rt: &impl Abort,
+    ample: A,
+    alloc: A,
+    refusing: &Refusing<Global>,
+    first: &str,
+    steps: &[Line<'_>],
+) -> Result<(), Fail> {
+    let events = events_of(ample, steps)?;
+    let mut fleet = Fleet::new(alloc);
+    begin_refused(rt, &mut fleet, refusing, first)?;
+    let had_refused = refusing.has_refused();
+    let ran = fleet.world()?.run(&events);
+    assert_eq!(rt; ran.is_ok(), refusing.has_refused() == had_refused);
+    match ran {
+        Ok(all) => check_run(rt, ample, fleet.world()?, &events, &all, steps),
+        Err(halted) => go_on(rt, ample, &mut fleet, first, steps, &events, halted),
+    }
+}
+
 /// Runs the events of an example at once with a call refused, and says whether that call was made.
 fn run_at_once(
     rt: &impl Abort,
@@ -88,38 +139,8 @@ fn run_at_once(
     let refusing = Refusing::after(alloc, call);
     let first = lines.first().ok_or("no line")?.text;
     let steps = steps_of(alloc, lines)?;
-    let events = events_of(&ample, &steps)?;
-    let mut fleet = Fleet::new(&refusing);
-    begin_refused(rt, &mut fleet, &refusing, first)?;
-    let had_refused = refusing.has_refused();
-    let ran = fleet.world()?.run(&events);
-    assert_eq!(rt; ran.is_ok(), refusing.has_refused() == had_refused);
-    let halted = match ran {
-        Ok(all) => {
-            check_run(rt, &ample, fleet.world()?, &events, &all, &steps)?;
-            return Ok(had_refused);
-        }
-        Err(halted) => halted,
-    };
-    let at = halted.at;
-    let line = steps.get(at).ok_or("no line")?;
-    let mut before = fleet_after(&ample, first, steps.get(..at).ok_or("no line")?)?;
-    match halted.fault {
-        WorldFault::Memory { taken } => {
-            check_halted(rt, &ample, &mut fleet, &mut before, line, taken)?;
-            let rest = events.get(at..).ok_or("no event")?;
-            let all = fleet.world()?.run(rest)?;
-            let steps = steps.get(at..).ok_or("no line")?;
-            check_run(rt, &ample, fleet.world()?, rest, &all, steps)?;
-        }
-        WorldFault::FramesLost(stepped) => {
-            let event = events.get(at).ok_or("no event")?;
-            let text = printed_of(fleet.world()?, &ample, event, &stepped)?;
-            check_lost(rt, &ample, &mut fleet, &mut before, line, text.as_str())?;
-        }
-        fault => return Err(fault.into()),
-    }
-    Ok(true)
+    run_steps(rt, &ample, &refusing, &refusing, first, &steps)?;
+    Ok(refusing.has_refused())
 }
 
 /// Runs the events of an example at once with each call refused in turn, until one is not made.
