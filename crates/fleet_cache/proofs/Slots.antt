@@ -1,10 +1,7 @@
 -- What an edit of one slot does to the items.
-use Rattle.std.proofs.Common.{ℕ, ◌+◌, ◌≤◌, length, length-append, arith, ◌≡◌, Bool, true, false, not, cond, List, [], ◌∷◌, ◌++◌, ◌⊎◌, ◌↔◌, inl, inr, Some, None, sym, ap, refl, ◌∙◌, subst, append_assoc}
+use Rattle.std.proofs.Common.{ℕ, ◌+◌, ◌≤◌, length, length-append, arith, ◌≡◌, Bool, true, false, List, [], ◌∷◌, ◌++◌, ◌⊎◌, ◌↔◌, inl, inr, Some, None, sym, ap, refl, ◌∙◌, subst, append_assoc}
 use mathlib.Core.Bool.{false≢true}
-use Rattle.std.specs.List.{filter}
 use Rattle.std.specs.Map.{lookup, set_value, values_of}
-use Rattle.std.specs.Map.Calls.{RetainsPairs}
-use Rattle.std.proofs.lemmas.List.Elements.{filter-append}
 use Rattle.std.specs.BTreeMap.{insert_entry}
 use Rattle.std.specs.declared.cmp.Ordering.{Ordering}
 use Rattle.std.specs.declared.cmp.Ordering.TheVariants.{Less, Equal, Greater}
@@ -14,12 +11,11 @@ use Rattle.std.proofs.lemmas.Map.Lookups.{exact_bytes}
 use Rattle.fleet_observe.specs.Members.{Has}
 use Rattle.fleet_observe.specs.Fact.{Fact, key_of}
 use Rattle.fleet_observe.specs.Preference.{preference}
-use Rattle.fleet_cache.specs.Front.{IsDescending, IsFront, shown}
-use Rattle.fleet_cache.specs.Live.{hidden}
+use Rattle.fleet_cache.specs.Front.{IsDescending, IsFront}
 use Rattle.fleet_cache.specs.Dominates.{dominates}
 use Rattle.fleet_cache.specs.Cached.{key_cmp, place, IsCovered}
 use Rattle.fleet_cache.specs.Slots.{items_of, joined, is_nil, IsSlot, IsLaid, Put}
-use Rattle.fleet_cache.proofs.Fronts.{bool_cases, ordering_cases, not_true, climb, front_itself, front_shown, Has-append, Has-left, Has-right, Has-filter, IsDescending-append}
+use Rattle.fleet_cache.proofs.Fronts.{bool_cases, ordering_cases, climb, front_itself, Has-append, Has-left, Has-right, IsDescending-append}
 use Rattle.fleet_cache.specs.Orders.{ranked, place_laws, over_from, same_key, equal_from}
 
 -- the items are the values joined
