@@ -27,8 +27,8 @@ pub struct Stopped {
 }
 
 /// The undominated observations of a set that end after a floor: those of a key (the octets of the
-/// name, the kind, the type) in one front, the preferred first, and the fronts in a map by the
-/// octets of their keys.
+/// name, the kind, the type) in one front, the preferred first, and the fronts in a map by their
+/// keys, seven octets to a word.
 ///
 /// `earliest` is a moment before which none of them ends, so that a purge up to an earlier one
 /// looks at none. `most` is how many they are at most, so that they can be counted: at the greatest

@@ -15,6 +15,7 @@ mod lookup;
 mod rows;
 mod shown;
 mod store;
+mod words;
 
 pub use answer::{Answer, Chain};
 pub use cache::{Cache, Stopped};
