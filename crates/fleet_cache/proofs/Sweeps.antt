@@ -53,6 +53,7 @@ module _ {K : Type 0} (octets : K → List ℕ) (m : ℕ) where
     slot = λ s. record {
       some = left;
       one_key = λ x h. s.one_key x (Has-filter (λ o. not (hidden m o)) e.1 x h).0;
+      packable = λ x h. s.packable x (Has-filter (λ o. not (hidden m o)) e.1 x h).0;
       own_front = front_itself ranked (shown hidden m e.1) (shown hidden m e.1) (front_shown ranked m e.1 e.1 s.own_front);
     };
   }

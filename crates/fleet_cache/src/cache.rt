@@ -27,8 +27,8 @@ pub struct Stopped {
 }
 
 /// The undominated observations of a set that end after a floor: those of a key (the octets of the
-/// name, the kind, the type) in one front, the preferred first, and the fronts in a map by the
-/// octets of their keys.
+/// name, the kind, the type) in one front, the preferred first, and the fronts in a map by their
+/// keys, seven octets to a word.
 ///
 /// The fronts may hold observations that ended by the floor: they are shown to nobody, and a sweep,
 /// which goes on at the cursor, drops some of them at each purge. `most` is how many the fronts hold
