@@ -5,7 +5,7 @@ use Rattle.std.proofs.Math.Seq.{take-append_seam}
 use Rattle.std.specs.Result.{is_ok, is_err}
 use Rattle.std.proofs.lemmas.Bool.Decides.{nat_tests}
 use Rattle.fleet_observe.specs.Members.{Has}
-use Rattle.fleet_observe.specs.Fact.{Fact, IsFact, AreFacts, expires}
+use Rattle.fleet_observe.specs.Fact.{Fact, IsFact, AreFacts}
 use Rattle.fleet_cache.specs.Front.{IsDescending, IsUndominated, IsFront, shown}
 use Rattle.fleet_cache.specs.Live.{hidden}
 use Rattle.fleet_cache.specs.Dominates.{dominates}

@@ -4,6 +4,8 @@ mod Names
 mod Lawful
 mod Caches
 mod Keyed
+mod Packed
+mod Packing
 mod Slots
 mod Sweeps
 mod Best

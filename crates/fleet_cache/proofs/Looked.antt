@@ -13,12 +13,14 @@ use Rattle.fleet_cache.specs.Front.{shown}
 use Rattle.fleet_cache.specs.Live.{hidden}
 use Rattle.fleet_cache.specs.Dominates.{dominates}
 use Rattle.fleet_cache.specs.Cached.{key_cmp, is_covered, IsCovered}
+use Rattle.fleet_cache.specs.Packed.{packed, words_of, IsPackable}
 use Rattle.fleet_cache.specs.Slots.{items_of, IsSlot, IsLaid}
 use Rattle.fleet_cache.specs.Best.{IsBest, seen, IsAt, IsOn}
 use Rattle.fleet_cache.proofs.Fronts.{bool_cases, not_true, Has-filter, Has-in_filter}
 use Rattle.fleet_cache.specs.Orders.{key_exact, exact_preference, equal_from, over_from, same_key}
 use Rattle.fleet_cache.proofs.Best.{best_same}
 use Rattle.fleet_cache.proofs.Answers.{or_left, or_right}
+use Rattle.fleet_cache.proofs.Packed.{packed_exact}
 use Rattle.fleet_cache.proofs.Keyed.{has_from, has_to, front_to}
 use Rattle.fleet_cache.proofs.Slots.{Around, in_slot, present, covered, in_front, in_items}
 
@@ -55,10 +57,10 @@ module _ {K : Type 0} (octets : K → List ℕ) (q : List ℕ) where
   ]
 
   -- none of the items makes x needless, of that key
-  pub none_covers : (es : List (K × List Fact)) (x : Fact) → q ≡ key_of x → IsLaid octets es → lookup (λ k. is_eq (key_cmp q (octets k))) es ≡ None → ¬ IsCovered (items_of es) x
+  pub none_covers : (es : List (K × List Fact)) (x : Fact) → q ≡ words_of x → IsLaid octets es → lookup (λ k. is_eq (key_cmp q (octets k))) es ≡ None → ¬ IsCovered (items_of es) x
   none_covers es x is laid none c =
       let e = in_slot es c.0 c.1 in
-      let same : key_of c.0 ≡ key_of x = elim c.2 [ inl here ↦ ap key_of here | inr over ↦ same_key c.0 x (over_from c.0 x over) ] in
+      let same : words_of c.0 ≡ words_of x = elim c.2 [ inl here ↦ ap words_of here | inr over ↦ ap packed (same_key c.0 x (over_from c.0 x over)) ] in
       looked_none es none e.0 e.1 (sym ((laid.slots e.0 e.1).one_key c.0 e.2) ∙ (same ∙ sym is))
 
 module _ {K : Type 0} (octets : K → List ℕ) (t : ℕ) (q : List ℕ) where
@@ -74,13 +76,13 @@ module _ {K : Type 0} (octets : K → List ℕ) (t : ℕ) (q : List ℕ) where
     pub slot_front : IsFrontOf preference dominates f f
     slot_front = front_to preference dominates f f slot.own_front
 
-    here : (y : Fact) → Has (items_of es) y → key_of y ≡ q → Has f y
+    here : (y : Fact) → Has (items_of es) y → words_of y ≡ q → Has f y
     here y h same = in_front octets es q f (present octets es q f laid found).around y h same
 
     live_here : (y : Fact) → Has (items_of es) y → IsAt t q y → Has (shown hidden t f) y
     live_here y h k = Has-in_filter (λ o. not (hidden t o)) f y (here y h k.keyed) (ap not k.live)
 
-    pub covered_there : (x : Fact) → q ≡ key_of x → IsCovered f x ↔ IsCovered (items_of es) x
+    pub covered_there : (x : Fact) → q ≡ words_of x → IsCovered f x ↔ IsCovered (items_of es) x
     covered_there x is = covered octets es x f (subst (λ v. Around octets es v f) is (present octets es q f laid found).around)
 
     pub look_some : (r : Option (Bor Fact)) → MatchOption r (shown hidden t f ≡ []) (λ x. IsGreatest preference (shown hidden t f) x.now) → IsBest (IsAt t q) (items_of es) (seen r)
@@ -90,11 +92,15 @@ module _ {K : Type 0} (octets : K → List ℕ) (t : ℕ) (q : List ℕ) where
         (in_items octets es q f (present octets es q f laid found).around x.now m.0, record { live = not_true _ m.1; keyed = slot.one_key x.now m.0 }, λ y h k. e.greatest y (has_to (shown hidden t f) y (live_here y h k)))
 
 -- a key stands for a name, a kind and a type
-pub best_on : (t : ℕ) (key : List ℕ) (n : List (List ℕ)) (kind rtype : ℕ) (s : List Fact) (a : Option Fact) → key ≡ key_at n kind rtype → IsBest (IsAt t key) s a → IsBest (IsOn t n kind rtype) s a
-best_on t key n kind rtype s a e best = best_same (IsAt t key) (IsOn t n kind rtype) s a
-    (λ o h k. let x = key_exact o.name n o.kind kind o.rtype rtype (k.keyed ∙ e) in record { live = k.live; named = x.0; of_kind = x.1; of_type = x.2 })
+pub best_on : (t : ℕ) (words : List ℕ) (n : List (List ℕ)) (kind rtype : ℕ) (s : List Fact) (a : Option Fact) → words ≡ packed (key_at n kind rtype) → IsPackable (key_at n kind rtype) → ((o : Fact) → Has s o → IsPackable (key_of o)) → IsBest (IsAt t words) s a → IsBest (IsOn t n kind rtype) s a
+best_on t words n kind rtype s a e fits all best = best_same (IsAt t words) (IsOn t n kind rtype) s a
+    (λ o h k. let x = key_exact o.name n o.kind kind o.rtype rtype (packed_exact (key_of o) (key_at n kind rtype) (all o h) fits (k.keyed ∙ e)) in record { live = k.live; named = x.0; of_kind = x.1; of_type = x.2 })
     (λ o h k. record { live = k.live; keyed = one_key o k })
     best
   where
-    one_key : (o : Fact) → IsOn t n kind rtype o → key_of o ≡ key
-    one_key o k = let i = k.named in let j = k.of_kind in let l = k.of_type in let m : key_of o ≡ key_at n kind rtype = cc in m ∙ sym e
+    one_key : (o : Fact) → IsOn t n kind rtype o → words_of o ≡ words
+    one_key o k = let i = k.named in let j = k.of_kind in let l = k.of_type in let m : key_of o ≡ key_at n kind rtype = cc in ap packed m ∙ sym e
+
+-- the items' keys fit in words
+pub items_packable : {K : Type 0} (words : K → List ℕ) (es : List (K × List Fact)) → IsLaid words es → (o : Fact) → Has (items_of es) o → IsPackable (key_of o)
+items_packable words es laid o h = let e = in_slot es o h in (laid.slots e.0 e.1).packable o e.2

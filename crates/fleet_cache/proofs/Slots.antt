@@ -1,10 +1,7 @@
 -- What an edit of one slot does to the items.
-use Rattle.std.proofs.Common.{ℕ, ◌+◌, ◌≤◌, length, length-append, arith, ◌≡◌, Bool, true, false, not, cond, List, [], ◌∷◌, ◌++◌, ◌⊎◌, ◌↔◌, inl, inr, Some, None, sym, ap, refl, ◌∙◌, subst, append_assoc}
+use Rattle.std.proofs.Common.{ℕ, ◌+◌, ◌≤◌, length, length-append, arith, ◌≡◌, Bool, true, false, List, [], ◌∷◌, ◌++◌, ◌⊎◌, ◌↔◌, inl, inr, Some, None, sym, ap, refl, ◌∙◌, subst, append_assoc}
 use mathlib.Core.Bool.{false≢true}
-use Rattle.std.specs.List.{filter}
 use Rattle.std.specs.Map.{lookup, set_value, values_of}
-use Rattle.std.specs.Map.Calls.{RetainsPairs}
-use Rattle.std.proofs.lemmas.List.Elements.{filter-append}
 use Rattle.std.specs.BTreeMap.{insert_entry}
 use Rattle.std.specs.declared.cmp.Ordering.{Ordering}
 use Rattle.std.specs.declared.cmp.Ordering.TheVariants.{Less, Equal, Greater}
@@ -14,12 +11,13 @@ use Rattle.std.proofs.lemmas.Map.Lookups.{exact_bytes}
 use Rattle.fleet_observe.specs.Members.{Has}
 use Rattle.fleet_observe.specs.Fact.{Fact, key_of}
 use Rattle.fleet_observe.specs.Preference.{preference}
-use Rattle.fleet_cache.specs.Front.{IsDescending, IsFront, shown}
-use Rattle.fleet_cache.specs.Live.{hidden}
+use Rattle.fleet_cache.specs.Front.{IsDescending, IsFront}
 use Rattle.fleet_cache.specs.Dominates.{dominates}
+use Rattle.fleet_cache.specs.Packed.{packed, words_of, IsPackable}
 use Rattle.fleet_cache.specs.Cached.{key_cmp, place, IsCovered}
 use Rattle.fleet_cache.specs.Slots.{items_of, joined, is_nil, IsSlot, IsLaid, Put}
-use Rattle.fleet_cache.proofs.Fronts.{bool_cases, ordering_cases, not_true, climb, front_itself, front_shown, Has-append, Has-left, Has-right, Has-filter, IsDescending-append}
+use Rattle.fleet_cache.proofs.Fronts.{bool_cases, ordering_cases, climb, front_itself, Has-append, Has-left, Has-right, IsDescending-append}
+use Rattle.fleet_cache.proofs.Packed.{packed_cmp, packed_exact}
 use Rattle.fleet_cache.specs.Orders.{ranked, place_laws, over_from, same_key, equal_from}
 
 -- the items are the values joined
@@ -28,13 +26,14 @@ joined_values [] = refl
 joined_values (e ∷ es) = ap (λ t. e.1 ++ t) (joined_values es)
 
 -- within a key, the greater comes first
-within : (xs : List Fact) (k : List ℕ) → ((x : Fact) → Has xs x → (key_of x) ≡ k) → IsDescending preference xs → IsDescending place xs
-within [] k same d = tt
-within (x ∷ xs) k same d = (
+within : (xs : List Fact) (k : List ℕ) → ((x : Fact) → Has xs x → (words_of x) ≡ k) → ((x : Fact) → Has xs x → IsPackable (key_of x)) → IsDescending preference xs → IsDescending place xs
+within [] k same fits d = tt
+within (x ∷ xs) k same fits d = (
   (λ y h.
-      let e : key_cmp (key_of y) (key_of x) ≡ Equal = ap (key_cmp (key_of y)) (same x (inl refl) ∙ sym (same y (inr h))) ∙ tied_itself nat_list_cmp_total (key_of y) in
+      let one : key_of x ≡ key_of y = packed_exact (key_of x) (key_of y) (fits x (inl refl)) (fits y (inr h)) (same x (inl refl) ∙ sym (same y (inr h))) in
+      let e : key_cmp (key_of y) (key_of x) ≡ Equal = ap (key_cmp (key_of y)) one ∙ tied_itself nat_list_cmp_total (key_of y) in
       ap (λ o. ordering_then o (preference x y)) e ∙ d.0 y h),
-  within xs k (λ y h. same y (inr h)) d.1,
+  within xs k (λ y h. same y (inr h)) (λ y h. fits y (inr h)) d.1,
 )
 
 -- nothing is the front of nothing
@@ -72,19 +71,21 @@ module _ {K : Type 0} (octets : K → List ℕ) where
   pub items_descend : (es : List Slot) → IsLaid octets es → IsDescending place (items_of es)
   items_descend [] laid = tt
   items_descend (e ∷ es) laid = IsDescending-append place e.1 (items_of es)
-      (within e.1 (octets e.0) (laid.slots e (inl refl)).one_key (laid.slots e (inl refl)).own_front.descending)
+      (within e.1 (octets e.0) (laid.slots e (inl refl)).one_key (laid.slots e (inl refl)).packable (laid.slots e (inl refl)).own_front.descending)
       (items_descend es (record { slots = λ f h. laid.slots f (inr h); ascending = laid.ascending.1 }))
       (λ x y h k. let s = in_slot es y k in
-      let kx : (key_of x) ≡ octets e.0 = (laid.slots e (inl refl)).one_key x h in
-      let ky : (key_of y) ≡ octets s.0.0 = (laid.slots s.0 (inr s.1)).one_key y s.2 in
-      let up : key_cmp (key_of y) (key_of x) ≡ Greater = ap (λ v. key_cmp v (key_of x)) ky ∙ ap (key_cmp (octets s.0.0)) kx ∙ laid.ascending.0 s.0 s.1 in
+      let kx : (words_of x) ≡ octets e.0 = (laid.slots e (inl refl)).one_key x h in
+      let ky : (words_of y) ≡ octets s.0.0 = (laid.slots s.0 (inr s.1)).one_key y s.2 in
+      let fx = (laid.slots e (inl refl)).packable x h in
+      let fy = (laid.slots s.0 (inr s.1)).packable y s.2 in
+      let up : key_cmp (key_of y) (key_of x) ≡ Greater = sym (packed_cmp (key_of y) (key_of x) fy fx) ∙ ap (λ v. key_cmp v (words_of x)) ky ∙ ap (key_cmp (octets s.0.0)) kx ∙ laid.ascending.0 s.0 s.1 in
       ap (λ o. ordering_then o (preference x y)) up)
 
   -- one slot replaced, or put in: what the items become. The items besides it are of other keys
   pub one_front : (s a f g b : List Fact) (x : Fact)
-      → ((y : Fact) → Has a y → (key_of y) ≡ (key_of x) → ⊥)
-      → ((y : Fact) → Has b y → (key_of y) ≡ (key_of x) → ⊥)
-      → ((y : Fact) → Has f y → (key_of y) ≡ (key_of x))
+      → ((y : Fact) → Has a y → (words_of y) ≡ (words_of x) → ⊥)
+      → ((y : Fact) → Has b y → (words_of y) ≡ (words_of x) → ⊥)
+      → ((y : Fact) → Has f y → (words_of y) ≡ (words_of x))
       → IsFront preference dominates (x ∷ f) g
       → IsDescending place (a ++ (g ++ b))
       → IsFront place dominates s (a ++ (f ++ b))
@@ -102,12 +103,12 @@ module _ {K : Type 0} (octets : K → List ℕ) where
       | inr nay ↦ nay
       | inl over ↦ elim (three a g b y h) [
         | inl l ↦ elim m [
-          | inl e ↦ absurd (in_a y l (sym (ap (λ v. (key_of v)) e ∙ same_key w y (over_from w y over))))
+          | inl e ↦ absurd (in_a y l (sym (ap words_of e ∙ ap packed (same_key w y (over_from w y over)))))
           | inr old ↦ front.undominated y (Has-left a _ y l) w old
         ]
         | inr n ↦ elim n [
           | inr r ↦ elim m [
-            | inl e ↦ absurd (in_b y r (sym (ap (λ v. (key_of v)) e ∙ same_key w y (over_from w y over))))
+            | inl e ↦ absurd (in_b y r (sym (ap words_of e ∙ ap packed (same_key w y (over_from w y over)))))
             | inr old ↦ front.undominated y (Has-right a _ y (Has-right f b y r)) w old
           ]
           | inl c ↦ elim m [
@@ -132,8 +133,8 @@ module _ {K : Type 0} (octets : K → List ℕ) where
       three : (p q r : List Fact) (y : Fact) → Has (p ++ (q ++ r)) y → Has p y ⊎ (Has q y ⊎ Has r y)
       three p q r y h = elim (Has-append p (q ++ r) y h) [ inl l ↦ inl l | inr m ↦ inr (Has-append q r y m) ]
 
-      key_of_new : (y : Fact) → Has g y → (key_of y) ≡ (key_of x)
-      key_of_new y c = elim (new.of_set y c) [ inl e ↦ ap (λ v. (key_of v)) (sym e) | inr k ↦ in_f y k ]
+      key_of_new : (y : Fact) → Has g y → (words_of y) ≡ (words_of x)
+      key_of_new y c = elim (new.of_set y c) [ inl e ↦ ap words_of (sym e) | inr k ↦ in_f y k ]
 
       -- w of s dominates y of g: the undominated one above w stands in f
       above : (y : Fact) → Has g y → (w : Fact) → Has s w → dominates w y ≡ true → dominates w y ≡ false
@@ -141,7 +142,7 @@ module _ {K : Type 0} (octets : K → List ℕ) where
           let p = climb place_laws s w in
           let top : dominates p.0 y ≡ true = elim p.1 [ inl e ↦ ap (λ v. dominates v y) e ∙ over | inr far ↦ place_laws.chained p.0 w y far.1 over ] in
           let member : Has s p.0 = elim p.1 [ inl e ↦ subst (Has s) (sym e) old | inr far ↦ far.0 ] in
-          let key : (key_of p.0) ≡ (key_of x) = same_key p.0 y (over_from p.0 y top) ∙ key_of_new y c in
+          let key : (words_of p.0) ≡ (words_of x) = ap packed (same_key p.0 y (over_from p.0 y top)) ∙ key_of_new y c in
           elim (three a f b p.0 (front.whole p.0 member p.2)) [
             | inl l ↦ absurd (in_a p.0 l key)
             | inr n ↦ elim n [
@@ -277,20 +278,20 @@ module _ {K : Type 0} (octets : K → List ℕ) where
   ]
 
   -- what lies round a key is of other keys
-  not_before : (es : List Slot) (q : List ℕ) (f : List Fact) (a : Around es q f) (y : Fact) → Has (items_of a.pre) y → key_of y ≡ q → ⊥
+  not_before : (es : List Slot) (q : List ℕ) (f : List Fact) (a : Around es q f) (y : Fact) → Has (items_of a.pre) y → words_of y ≡ q → ⊥
   not_before es q f a y h same =
       let e = in_slot a.pre y h in
       let at : key_cmp (octets e.0.0) q ≡ Equal = ap (λ v. key_cmp v q) (sym ((a.laid_pre.slots e.0 e.1).one_key y e.2) ∙ same) ∙ tied_itself nat_list_cmp_total q in
       let lt : key_cmp (octets e.0.0) q ≡ Less = a.below e.0 e.1 in cc
 
-  not_behind : (es : List Slot) (q : List ℕ) (f : List Fact) (a : Around es q f) (y : Fact) → Has (items_of a.post) y → key_of y ≡ q → ⊥
+  not_behind : (es : List Slot) (q : List ℕ) (f : List Fact) (a : Around es q f) (y : Fact) → Has (items_of a.post) y → words_of y ≡ q → ⊥
   not_behind es q f a y h same =
       let e = in_slot a.post y h in
       let at : key_cmp q (octets e.0.0) ≡ Equal = ap (key_cmp q) (sym ((a.laid_post.slots e.0 e.1).one_key y e.2) ∙ same) ∙ tied_itself nat_list_cmp_total q in
       let lt : key_cmp q (octets e.0.0) ≡ Less = a.over e.0 e.1 in cc
 
   -- the items of a key are those of its front
-  pub in_front : (es : List Slot) (q : List ℕ) (f : List Fact) (a : Around es q f) (y : Fact) → Has (items_of es) y → key_of y ≡ q → Has f y
+  pub in_front : (es : List Slot) (q : List ℕ) (f : List Fact) (a : Around es q f) (y : Fact) → Has (items_of es) y → words_of y ≡ q → Has f y
   in_front es q f a y h same = elim (Has-append (items_of a.pre) (f ++ items_of a.post) y (subst (λ v. Has v y) a.lies h)) [
     | inl l ↦ absurd (not_before es q f a y l same)
     | inr m ↦ elim (Has-append f (items_of a.post) y m) [ inl here ↦ here | inr r ↦ absurd (not_behind es q f a y r same) ]
@@ -300,39 +301,40 @@ module _ {K : Type 0} (octets : K → List ℕ) where
   in_items es q f a y h = subst (λ v. Has v y) (sym a.lies) (Has-right (items_of a.pre) (f ++ items_of a.post) y (Has-left f (items_of a.post) y h))
 
   -- what makes x needless stands in the front of its key
-  pub covered : (es : List Slot) (x : Fact) (f : List Fact) (a : Around es (key_of x) f) → IsCovered f x ↔ IsCovered (items_of es) x
+  pub covered : (es : List Slot) (x : Fact) (f : List Fact) (a : Around es (words_of x) f) → IsCovered f x ↔ IsCovered (items_of es) x
   covered es x f a = (
-    (λ c. (c.0, in_items es (key_of x) f a c.0 c.1, c.2)),
-    λ c. (c.0, in_front es (key_of x) f a c.0 c.1 (elim c.2 [ inl same ↦ ap key_of same | inr over ↦ same_key c.0 x (over_from c.0 x over) ]), c.2),
+    (λ c. (c.0, in_items es (words_of x) f a c.0 c.1, c.2)),
+    λ c. (c.0, in_front es (words_of x) f a c.0 c.1 (elim c.2 [ inl same ↦ ap words_of same | inr over ↦ ap packed (same_key c.0 x (over_from c.0 x over)) ]), c.2),
   )
 
-  pub put_at : (es : List Slot) (f g : List Fact) (x : Fact) (kept : Bool) (k : K) → octets k ≡ (key_of x) → (a : Around es (key_of x) f) → ((y : Fact) → Has f y → (key_of y) ≡ (key_of x)) → IsFront preference dominates (x ∷ f) g → length g ≤ length f + 1 → (kept ≡ false) ↔ IsCovered f x → Put octets es (a.pre ++ (k, g) ∷ a.post) x kept
-  put_at es f g x kept k is_key a in_f new size needless =
+  pub put_at : (es : List Slot) (f g : List Fact) (x : Fact) (kept : Bool) (k : K) → octets k ≡ (words_of x) → (a : Around es (words_of x) f) → ((y : Fact) → Has f y → (words_of y) ≡ (words_of x)) → IsPackable (key_of x) → ((y : Fact) → Has f y → IsPackable (key_of y)) → IsFront preference dominates (x ∷ f) g → length g ≤ length f + 1 → (kept ≡ false) ↔ IsCovered f x → Put octets es (a.pre ++ (k, g) ∷ a.post) x kept
+  put_at es f g x kept k is_key a in_f fits in_fits new size needless =
       let laid_new : IsLaid octets (a.pre ++ (k, g) ∷ a.post) = record {
         slots = λ e h. elim (Has-append a.pre ((k, g) ∷ a.post) e h) [
           | inl l ↦ a.laid_pre.slots e l
           | inr m ↦ elim m [
             | inl same ↦ subst (λ v. IsSlot (octets v.0) v.1) same (record {
               some = some_of (x ∷ f) g x (inl refl) new;
-              one_key = λ y c. elim (new.of_set y c) [ inl e ↦ ap (λ v. (key_of v)) (sym e) ∙ sym is_key | inr old ↦ in_f y old ∙ sym is_key ];
+              one_key = λ y c. elim (new.of_set y c) [ inl e ↦ ap words_of (sym e) ∙ sym is_key | inr old ↦ in_f y old ∙ sym is_key ];
+              packable = λ y c. elim (new.of_set y c) [ inl e ↦ subst (λ v. IsPackable (key_of v)) e fits | inr old ↦ in_fits y old ];
               own_front = front_itself ranked (x ∷ f) g new;
             })
             | inr r ↦ a.laid_post.slots e r
           ]
         ];
         ascending = IsDescending-append by_key a.pre ((k, g) ∷ a.post) a.laid_pre.ascending
-            ((λ d h. rw is_key (turned_up (key_of x) (octets d.0) (a.over d h))), a.laid_post.ascending)
+            ((λ d h. rw is_key (turned_up (words_of x) (octets d.0) (a.over d h))), a.laid_post.ascending)
             (λ d e h m. elim m [
-              | inl same ↦ subst (λ v. by_key d v ≡ Greater) same (rw is_key (turned_up (octets d.0) (key_of x) (a.below d h)))
-              | inr r ↦ turned_up (octets d.0) (octets e.0) (nat_list_cmp_total.trans (octets d.0) (key_of x) (octets e.0) (a.below d h) (a.over e r))
+              | inl same ↦ subst (λ v. by_key d v ≡ Greater) same (rw is_key (turned_up (octets d.0) (words_of x) (a.below d h)))
+              | inr r ↦ turned_up (octets d.0) (octets e.0) (nat_list_cmp_total.trans (octets d.0) (words_of x) (octets e.0) (a.below d h) (a.over e r))
             ]);
       } in
       let lies : items_of (a.pre ++ (k, g) ∷ a.post) ≡ items_of a.pre ++ (g ++ items_of a.post) = items_of-append a.pre ((k, g) ∷ a.post) in
       record {
         laid = laid_new;
         taken = λ s front. subst (IsFront place dominates (x ∷ s)) (sym lies) (one_front s (items_of a.pre) f g (items_of a.post) x
-            (not_before es (key_of x) f a)
-            (not_behind es (key_of x) f a)
+            (not_before es (words_of x) f a)
+            (not_behind es (words_of x) f a)
             in_f
             new
             (subst (IsDescending place) lies (items_descend _ laid_new))
@@ -351,14 +353,14 @@ module _ {K : Type 0} (octets : K → List ℕ) where
       }
 
   -- the front of a key that is there was changed in place
-  pub edited : (es new : List Slot) (f g : List Fact) (x : Fact) (kept : Bool) → IsLaid octets es → lookup (λ k. is_eq (key_cmp (key_of x) (octets k))) es ≡ Some f → new ≡ set_value (λ k. is_eq (key_cmp (key_of x) (octets k))) es g → IsFront preference dominates (x ∷ f) g → length g ≤ length f + 1 → (kept ≡ false) ↔ IsCovered f x → Put octets es new x kept
-  edited es new f g x kept laid found is front size needless =
-      let p = present es (key_of x) f laid found in
-      subst (λ v. Put octets es v x kept) (sym (is ∙ p.written g)) (put_at es f g x kept p.at.0 p.is_key p.around p.slot.one_key front size needless)
+  pub edited : (es new : List Slot) (f g : List Fact) (x : Fact) (kept : Bool) → IsLaid octets es → lookup (λ k. is_eq (key_cmp (words_of x) (octets k))) es ≡ Some f → new ≡ set_value (λ k. is_eq (key_cmp (words_of x) (octets k))) es g → IsPackable (key_of x) → IsFront preference dominates (x ∷ f) g → length g ≤ length f + 1 → (kept ≡ false) ↔ IsCovered f x → Put octets es new x kept
+  edited es new f g x kept laid found is fits front size needless =
+      let p = present es (words_of x) f laid found in
+      subst (λ v. Put octets es v x kept) (sym (is ∙ p.written g)) (put_at es f g x kept p.at.0 p.is_key p.around p.slot.one_key fits p.slot.packable front size needless)
 
   -- the front of a new key was put in
-  pub entered : (es new : List Slot) (g : List Fact) (x : Fact) (k : K) → octets k ≡ (key_of x) → IsLaid octets es → lookup (λ j. is_eq (key_cmp (key_of x) (octets j))) es ≡ None → new ≡ insert_entry (λ i j. key_cmp (octets i) (octets j)) es k g → IsFront preference dominates (x ∷ []) g → length g ≤ 1 → Put octets es new x true
-  entered es new g x k same laid found is front size =
+  pub entered : (es new : List Slot) (g : List Fact) (x : Fact) (k : K) → octets k ≡ (words_of x) → IsLaid octets es → lookup (λ j. is_eq (key_cmp (words_of x) (octets j))) es ≡ None → new ≡ insert_entry (λ i j. key_cmp (octets i) (octets j)) es k g → IsPackable (key_of x) → IsFront preference dominates (x ∷ []) g → length g ≤ 1 → Put octets es new x true
+  entered es new g x k same laid found is fits front size =
       let p = absent es k laid (rw same found) in
       let here = subst (λ q. (a : Around es q []) × ((v : List Fact) → insert_entry (λ i j. key_cmp (octets i) (octets j)) es k v ≡ a.pre ++ (k, v) ∷ a.post)) same (p.around, p.inserted) in
-      subst (λ v. Put octets es v x true) (sym (is ∙ here.1 g)) (put_at es [] g x true k same here.0 (λ y h. absurd h) front size ((λ e. absurd (false≢true (sym e))), λ c. absurd c.1))
+      subst (λ v. Put octets es v x true) (sym (is ∙ here.1 g)) (put_at es [] g x true k same here.0 (λ y h. absurd h) fits (λ y h. absurd h) front size ((λ e. absurd (false≢true (sym e))), λ c. absurd c.1))

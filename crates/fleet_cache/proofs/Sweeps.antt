@@ -1,13 +1,11 @@
 -- What dropping the ended observations of one key does to the map.
-use Rattle.std.proofs.Common.{ℕ, ◌≤◌, ◌+◌, length, length-append, arith, ◌≡◌, Bool, true, false, not, List, [], ◌∷◌, ◌++◌, ◌⊎◌, inl, inr, Some, None, sym, ap, refl, ◌∙◌, subst}
-use Rattle.std.specs.List.{filter}
+use Rattle.std.proofs.Common.{ℕ, length-append, arith, ◌≡◌, Bool, false, not, List, [], ◌∷◌, ◌++◌, ◌⊎◌, inl, inr, Some, sym, ap, refl, ◌∙◌, subst}
 use Rattle.std.specs.Map.{lookup, set_value, remove_entry}
 use Rattle.std.proofs.lemmas.List.Elements.{filter-append}
 use Rattle.std.specs.declared.cmp.Ordering.{Ordering}
 use Rattle.fleet_observe.specs.Members.{Has}
-use Rattle.fleet_observe.specs.Fact.{Fact, key_of}
-use Rattle.fleet_observe.specs.Preference.{preference}
-use Rattle.fleet_cache.specs.Front.{IsDescending, IsFront, shown}
+use Rattle.fleet_observe.specs.Fact.{Fact}
+use Rattle.fleet_cache.specs.Front.{IsDescending, shown}
 use Rattle.fleet_cache.specs.Live.{hidden}
 use Rattle.fleet_cache.specs.Cached.{key_cmp}
 use Rattle.fleet_cache.specs.Slots.{items_of, is_nil, IsSlot, IsLaid}
@@ -55,6 +53,7 @@ module _ {K : Type 0} (octets : K → List ℕ) (m : ℕ) where
     slot = λ s. record {
       some = left;
       one_key = λ x h. s.one_key x (Has-filter (λ o. not (hidden m o)) e.1 x h).0;
+      packable = λ x h. s.packable x (Has-filter (λ o. not (hidden m o)) e.1 x h).0;
       own_front = front_itself ranked (shown hidden m e.1) (shown hidden m e.1) (front_shown ranked m e.1 e.1 s.own_front);
     };
   }

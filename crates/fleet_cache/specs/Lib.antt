@@ -7,6 +7,7 @@ pub mod Answer
 pub mod Shown
 pub mod Told
 pub mod Kinds
+pub mod Packed
 pub mod Best
 pub mod Orders
 pub mod Slots

@@ -27,8 +27,8 @@ pub struct Stopped {
 }
 
 /// The undominated observations of a set that end after a floor: those of a key (the octets of the
-/// name, the kind, the type) in one front, the preferred first, and the fronts in a map by the
-/// octets of their keys.
+/// name, the kind, the type) in one front, the preferred first, and the fronts in a map by their
+/// keys, seven octets to a word.
 ///
 /// The fronts may hold observations that ended by the floor: they are shown to nobody, and a sweep,
 /// which goes on at the cursor, drops some of them at each purge. `most` is how many the fronts hold
@@ -144,7 +144,9 @@ impl<A: Allocator> Cache<A> {
         Ok(())
     }
 
-    /// Raises the floor to the moment, if that is later, and drops what has ended by then.
+    /// Raises the floor to the moment, if that is later: what has ended by then is not held any more.
+    /// A part of it leaves the memory at once, the rest at further purges: each one that raises the
+    /// floor looks at 4096 fronts, or at the 256th part of them where that is more, in turn.
     pub fn purge(&mut self, moment: Moment)
         ensures purged { (s : List Fact) → IsCached s self.old.floor self.old.items → IsCached s self.new.floor self.new.items }
         ensures floor { self.new.floor ≡ max self.old.floor moment }
@@ -182,14 +184,14 @@ impl<A: Allocator> Cache<A> {
         self.floor == other.floor && same_items(self.items(), other.items())
     }
 
-    /// How many items there are: it counts them.
+    /// How many items there are: it goes over them, and over what has ended and is still in memory.
     pub fn len(&self) -> usize
         ensures { result ≡ length self.now.items }
     {
         count(self.items())
     }
 
-    /// Whether there are no items.
+    /// Whether there are no items: it goes over what has ended before the first one.
     pub fn is_empty(&self) -> bool
         ensures { IsTrue result ↔ (self.now.items ≡ []) }
     {
@@ -232,6 +234,12 @@ impl<A: Allocator> Cache<A> {
             question.rtype,
             at,
         )
+    }
+
+    /// How many fronts are in memory, also those of which all has ended.
+    #[cfg(test)]
+    pub(crate) fn fronts(&self) -> usize {
+        self.fronts.len()
     }
 
     // Takes a copy of an observation in.

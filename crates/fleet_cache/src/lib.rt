@@ -16,6 +16,7 @@ mod rows;
 mod shown;
 mod store;
 mod sweep;
+mod words;
 
 pub use answer::{Answer, Chain};
 pub use cache::{Cache, Stopped};

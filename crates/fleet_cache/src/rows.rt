@@ -203,6 +203,58 @@ fn what_has_ended_is_not_held(rt: HostRuntime) -> Result<(), Fail> {
 }
 
 #[test]
+fn a_purge_shows_at_once_what_is_left(rt: HostRuntime) -> Result<(), Fail> {
+    let mut cache = Cache::new(rt.alloc());
+    for (digit, life) in [(b'1', 10), (b'2', 300), (b'3', 10), (b'4', 20)] {
+        cache.take(seen(&rt, &numbered(digit), 1, FIRST, 3, 100, life)?)?;
+    }
+    cache.take(seen(&rt, &numbered(b'2'), 1, SECOND, 1, 99, 311)?)?;
+    for (moment, lives) in [
+        (109, [10, 300, 311, 10, 20].as_slice()),
+        (110, [300, 311, 20].as_slice()),
+        (120, [300, 311].as_slice()),
+        (400, [311].as_slice()),
+        (410, [].as_slice()),
+        (411, [].as_slice()),
+    ] {
+        cache.purge(at(moment)?);
+        assert_eq!(rt; cache.len(), lives.len());
+        assert_eq!(rt; cache.is_empty(), lives.is_empty());
+        let mut items = cache.items();
+        for life in lives {
+            assert_eq!(rt; items.next().map(|item| item.life()), Some(*life));
+        }
+        assert!(rt; items.next().is_none());
+    }
+    assert_eq!(rt; cache.fronts(), 0);
+    Ok(())
+}
+
+#[test]
+fn purges_go_round(rt: HostRuntime) -> Result<(), Fail> {
+    let mut cache = Cache::new(rt.alloc());
+    for number in 0..5000u16 {
+        let high = b'0' + (number / 1000 % 10) as u8;
+        let upper = b'0' + (number / 100 % 10) as u8;
+        let lower = b'0' + (number / 10 % 10) as u8;
+        let low = b'0' + (number % 10) as u8;
+        let life = if number % 2 == 0 { 10 } else { 300 };
+        let name = [4, high, upper, lower, low, 0];
+        cache.take(seen(&rt, &name, 1, FIRST, 3, 100, life)?)?;
+    }
+    cache.purge(at(110)?);
+    assert_eq!(rt; cache.len(), 2500);
+    assert_eq!(rt; cache.fronts(), 5000 - 4096 / 2);
+    cache.purge(at(111)?);
+    assert_eq!(rt; cache.fronts(), 2500);
+    cache.purge(at(112)?);
+    cache.purge(at(400)?);
+    assert!(rt; cache.is_empty());
+    assert_eq!(rt; cache.fronts(), 0);
+    Ok(())
+}
+
+#[test]
 fn a_name_error_behind_two_links(rt: HostRuntime) -> Result<(), Fail> {
     let www = b"\x03www\x07example\0";
     let a = b"\x01a\x07example\0";

@@ -6,41 +6,39 @@ ghost use Rattle.fleet_observe.specs.Preference.{preference};
 ghost use Rattle.fleet_cache.specs.Front.{IsFront};
 ghost use Rattle.fleet_cache.specs.Dominates.{dominates};
 ghost use Rattle.fleet_cache.specs.Cached.{key_with, is_covered, IsCovered};
+ghost use Rattle.fleet_cache.specs.Packed.{packed, words_of, IsPackable};
 ghost use Rattle.fleet_cache.specs.Slots.{items_of, IsLaid, Put};
 
 use crate::item::Item;
+use crate::words::{key_octets, pack};
 use arrayvec::ArrayVec;
 use fleet_front::Front;
 use fleet_observe::{Kind, Observation};
 use std::alloc::{AllocError, Allocator};
 use std::collections::BTreeMap;
 
-/// The octets of a key.
-pub(crate) type Key<A> = Vec<u8, A>;
+/// The words of a key.
+pub(crate) type Key<A> = Vec<u64, A>;
 
-/// The fronts of a cache, by the octets of their keys.
+/// The fronts of a cache, by the words of their keys.
 pub(crate) type Fronts<A> = BTreeMap<Key<A>, Front<Item<A>, A>, A>;
 
-/// The octets of a key on the stack: those of the name, the kind, the type in two octets.
-pub(crate) fn key_octets(name: &[u8], kind: Kind, rtype: u16) -> ArrayVec<u8, 258>
+/// The words of a key on the stack.
+pub(crate) fn key_words(name: &[u8], kind: Kind, rtype: u16) -> ArrayVec<u64, 37>
     requires { length name.now ≤ 255 }
-    ensures { result.items ≡ key_with name.now (kind_number kind) rtype }
+    ensures words { result.items ≡ packed (key_with name.now (kind_number kind) rtype) }
+    ensures packable { IsPackable (key_with name.now (kind_number kind) rtype) }
 {
-    let mut key = ArrayVec::new();
-    if key.try_extend_from_slice(name).is_err() {
-        return key;
-    }
-    key.push(kind.number());
-    key.push((rtype / 256) as u8);
-    key.push((rtype % 256) as u8);
-    key
+    let octets = key_octets(name, kind, rtype);
+    pack(octets.as_slice())
 }
 
-// The octets of an observation's key.
-fn key_of_observation<A: Allocator>(observation: &Observation<A>) -> ArrayVec<u8, 258>
-    ensures { result.items ≡ key_of observation.now }
+// The words of an observation's key.
+fn words_of_observation<A: Allocator>(observation: &Observation<A>) -> ArrayVec<u64, 37>
+    ensures words { result.items ≡ words_of observation.now }
+    ensures packable { IsPackable (key_of observation.now) }
 {
-    key_octets(
+    key_words(
         observation.name().octets(),
         observation.kind(),
         observation.rtype(),
@@ -52,8 +50,8 @@ pub(crate) fn covers<A: Allocator>(fronts: &Fronts<A>, observation: &Observation
     requires { IsLaid (λ k. k.items) fronts.now.entries }
     ensures { IsTrue result ↔ IsCovered (items_of fronts.now.entries) observation.now }
 {
-    let octets = key_of_observation(observation);
-    let Some(front) = fronts.get(octets.as_slice()) else {
+    let words = words_of_observation(observation);
+    let Some(front) = fronts.get(words.as_slice()) else {
         return false;
     };
     covers_in(front.items(), observation)
@@ -77,11 +75,11 @@ pub(crate) fn store<A: Allocator + Copy>(
     ensures memory { OnErr result (¬ IsCovered (items_of fronts.old.entries) observation) }
     ensures err { OnErr result (fronts.new.entries ≡ fronts.old.entries) }
 {
-    let octets = key_of_observation(&observation);
-    if let Some(front) = fronts.get_mut(octets.as_slice()) {
+    let words = words_of_observation(&observation);
+    if let Some(front) = fronts.get_mut(words.as_slice()) {
         return front.take(Item::new(observation));
     }
-    let key = Vec::from_slice(alloc, octets.as_slice())?;
+    let key = Vec::from_slice(alloc, words.as_slice())?;
     let front = first(alloc, observation)?;
     fronts.insert(key, front)?;
     Ok(true)

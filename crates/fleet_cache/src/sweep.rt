@@ -10,8 +10,8 @@ use fleet_observe::{Moment, Observation};
 use std::alloc::{AllocError, Allocator};
 use std::ops::Bound;
 
-// How many octets a key has at most.
-const KEY: usize = 258;
+// How many words a key has at most.
+const KEY: usize = 37;
 
 // A sweep looks at one front of so many, ..
 const SHARE: usize = 256;
@@ -19,7 +19,7 @@ const SHARE: usize = 256;
 // .. and at least at so many.
 const LEAST: usize = 4096;
 
-/// Where a sweep stopped: the key of the front that it looked at last, or no octets at the start.
+/// Where a sweep stopped: the key of the front that it looked at last, or no words at the start.
 #[derive(Drop)]
 pub(crate) struct Cursor<A: Allocator> {
     key: Key<A>,

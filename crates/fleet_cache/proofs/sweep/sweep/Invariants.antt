@@ -1,4 +1,3 @@
-use Rattle.std.proofs.Common.{◌≡◌}
 use Rattle.fleet_cache.specs.Slots.{items_of, IsLaid}
 use Rattle.fleet_cache.specs.Swept.{IsSwept}
 use Rattle.fleet_cache.proofs.sweep.sweep.Given as goal

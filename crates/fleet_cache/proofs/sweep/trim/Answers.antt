@@ -1,12 +1,11 @@
-use Rattle.std.proofs.Common.{ℕ, ◌≡◌, ◌≢◌, Bool, true, false, List, [], ◌∷◌, Some, length, nat_eq, sym, ap, refl, ◌∙◌, subst, arith}
+use Rattle.std.proofs.Common.{ℕ, ◌≡◌, ◌≢◌, Bool, true, false, List, [], ◌∷◌, Some, length, sym, ap, refl, ◌∙◌, subst, arith}
 use Rattle.std.specs.Bool.{◌==◌}
 use Rattle.std.proofs.lemmas.Bool.Decides.{nat_tests}
 use Rattle.std.specs.Map.{lookup, set_value, remove_entry}
 use Rattle.fleet_observe.specs.Fact.{Fact}
 use Rattle.fleet_cache.specs.Front.{shown}
 use Rattle.fleet_cache.specs.Live.{hidden}
-use Rattle.fleet_cache.specs.Slots.{is_nil, items_of, IsLaid}
-use Rattle.fleet_cache.specs.Swept.{IsSwept}
+use Rattle.fleet_cache.specs.Slots.{is_nil}
 use Rattle.fleet_cache.proofs.Sweeps.{IsTrim, written, taken_out, trim_laid, trim_swept}
 use Rattle.fleet_cache.proofs.sweep.trim.Goals as goal
 

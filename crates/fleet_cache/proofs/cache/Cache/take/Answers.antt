@@ -1,6 +1,5 @@
-use Rattle.std.proofs.Common.{◌≡◌, ◌∷◌, Bool, true, false, Result, Ok, Err, IfOk, OnOk, inl, inr, sym, subst, arith}
+use Rattle.std.proofs.Common.{◌≡◌, ◌∷◌, Bool, true, false, Result, Ok, Err, IfOk, OnOk, sym, subst, arith}
 use Rattle.std.proofs.lemmas.Bool.Decides.{nat_tests}
-use Rattle.fleet_observe.specs.Fact.{expires}
 use Rattle.fleet_cache.specs.Front.{shown}
 use Rattle.fleet_cache.specs.Live.{hidden}
 use Rattle.fleet_cache.specs.Cached.{IsCached, IsNeedless}
@@ -40,10 +39,11 @@ pub invariant_of-self-2 : goal.invariant_of-self-2
 invariant_of-self-2 g c =
     let i = c.self.inside in
     let items = items_of i.fronts.entries in
-    let put = c.in_ok-kept.ensures.put in
-    (kept_put items (items_of c.store.new.fronts.entries) c.args.observation c.self.invariant.0 c.expires.ensures.lawful (put.taken items c.self.invariant.0.front),
-    put.laid,
-    omega (arith, put.size, c.self.invariant.2))
+    let put = c.in_ok-kept.ensures.put in (
+      kept_put items (items_of c.store.new.fronts.entries) c.args.observation c.self.invariant.0 c.expires.ensures.lawful (put.taken items c.self.invariant.0.front),
+      put.laid,
+      omega (arith, put.size, c.self.invariant.2),
+    )
 
 -- what is told of a value holds where there is one
 known : {E P Q : Type 0} (r : Result Bool E) → IfOk r (λ kept. (kept ≡ false) × P) → (P → Q) → OnOk r Q
