@@ -2,6 +2,7 @@
 // octets of a name, a kind and a type in two octets; an entry holds the observations of its key. A question makes the
 // same look-ups as a cache: the records, the alias, that there is no such data, and a name error at the name and at
 // each name above it.
+#include <chrono>
 #include <cstdint>
 #include <cstdio>
 #include <cstdlib>
@@ -129,7 +130,11 @@ int main(int argc, char **argv) {
             printf("%u %zu\n", found, sum);
         }
     }
-    if (mode == "purge") purge(cache, 200);
-    if (mode == "all") purge(cache, 86500);
+    if (mode == "purge" || mode == "all") {
+        auto started = std::chrono::steady_clock::now();
+        purge(cache, mode == "all" ? 86500 : 200);
+        auto took = std::chrono::steady_clock::now() - started;
+        printf("%lld\n", (long long)std::chrono::duration_cast<std::chrono::microseconds>(took).count());
+    }
     return 0;
 }

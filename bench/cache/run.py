@@ -53,6 +53,13 @@ def least(program, mode, items, rounds, times):
     return min(seconds for seconds, _ in results), min(memory for _, memory in results)
 
 
+def pause(program, mode, items, times):
+    """The least of the milliseconds that the program says a purge took."""
+    words = [str(program), mode, str(items), "1"]
+    said = [subprocess.run(words, capture_output=True, text=True, check=True).stdout for _ in range(times)]
+    return f"{min(int(text) for text in said) / 1000:.2f}"
+
+
 def figures(program, items, times):
     """Microseconds a take and an answer, octets an item, milliseconds of the two purges."""
     rounds = max(1, 1_000_000 // items)
@@ -67,13 +74,7 @@ def figures(program, items, times):
     ]
     if items < 100_000:
         return row + ["-", "-", "-"]
-    few, _ = least(program, "purge", items, 1, times)
-    everything, _ = least(program, "all", items, 1, times)
-    return row + [
-        f"{(memory - base) / items:.0f}",
-        f"{(few - taken) * 1e3:.0f}",
-        f"{(everything - taken) * 1e3:.0f}",
-    ]
+    return row + [f"{(memory - base) / items:.0f}"] + [pause(program, mode, items, times) for mode in ("purge", "all")]
 
 
 def main():

@@ -1,9 +1,8 @@
 //! Fills a cache and asks it, for measuring: `cache_bench MODE ITEMS ROUNDS`.
 //!
-//! The modes stand in pairs, of which the second one does one thing more: `make` and `take` (observations are made;
-//! and taken), `ask` and `answer` (a filled cache, and questions are made; and answered), `keep` and `purge` (a filled
-//! cache is dropped; it is purged before, up to a moment at which one in a thousand has ended), `all` (purged up to a
-//! moment at which all have ended).
+//! The modes: `make` and `take` (observations are made; and taken); `ask` and `answer` (of a filled cache questions are
+//! made; and answered); `purge` and `all` (a filled cache is purged up to a moment at which one in a thousand has
+//! ended, or all; it prints the microseconds that this took).
 #![tactic(auto)]
 
 use fleet_cache::{Answer, Cache};
@@ -12,6 +11,7 @@ use fleet_observe::{Moment, Observation};
 use fleet_wire::{Question, read_query};
 use std::alloc::Global;
 use std::env;
+use std::time::Instant;
 
 // The octets of a question for an address of the name w and seven digits, below example.com.
 fn message_of(number: u32) -> [u8; 38] {
@@ -101,11 +101,11 @@ fn main(rt: HostRuntime) -> anyhow::Result<()> {
             println!(rt; "{found}")?;
         }
     }
-    if mode == "purge" {
-        cache.purge(moment_of(200)?);
-    }
-    if mode == "all" {
-        cache.purge(moment_of(86500)?);
+    if mode == "purge" || mode == "all" {
+        let moment = moment_of(if mode == "all" { 86500 } else { 200 })?;
+        let started = Instant::now(&rt)?;
+        cache.purge(moment);
+        println!(rt; "{}", started.elapsed(&rt)?.as_micros())?;
     }
     Ok(())
 }
