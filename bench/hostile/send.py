@@ -204,6 +204,8 @@ def send_all(run, options):
 
 
 def main():
+    # A request to end raises an exit, so that the site is ended too.
+    signal.signal(signal.SIGTERM, lambda number, _: sys.exit(128 + number))
     options = options_of()
     with tempfile.TemporaryDirectory(prefix="dnsfleet-hostile-") as folder:
         process = start(options.program, folder)

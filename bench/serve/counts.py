@@ -12,6 +12,8 @@ import sys
 import tempfile
 import time
 
+sys.dont_write_bytecode = True
+
 import run
 
 PASSES = 10
@@ -115,6 +117,7 @@ def options_of():
 
 
 def main():
+    run.end_servers_when_ended()
     options = options_of()
     folder = tempfile.mkdtemp(prefix="dnsfleet-bench-")
     servers = run.Servers(folder, None)

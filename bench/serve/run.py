@@ -287,6 +287,11 @@ def options_of():
     return words.parse_args()
 
 
+def end_servers_when_ended():
+    """A request to end raises an exit, so that what is running is ended too."""
+    signal.signal(signal.SIGTERM, lambda number, _: sys.exit(128 + number))
+
+
 def wanted(name, words):
     if shutil.which(words[0]) is None:
         print(f"{name} is not installed, and left out")
@@ -317,6 +322,7 @@ def start_all(servers, options):
 
 
 def main():
+    end_servers_when_ended()
     options = options_of()
     counts = [int(word) for word in options.names.split(",")]
     folder = tempfile.mkdtemp(prefix="dnsfleet-bench-")
