@@ -3,7 +3,7 @@
 
 The prover lets such a body pass, since a contract allows the answer whatever the call is given; so no wrong body under
 must-fail/ can show it. Here each call of the table in docs/PROMISES.md gets such a body in a copy of the sources, and the
-tests run there, unproved (`rt try --test`): the test that the table names has to fail, and to pass without the edit.
+tests run there, unproved (`rt try --test`): the test that the table names has to fail. `rt ci` sees it pass without.
 
     python3 tools/always_wants_memory.py [CALL..]     all calls, or those that are named, as `Name::push`
 
