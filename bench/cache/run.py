@@ -23,8 +23,9 @@ def build(folder):
     (folder / "crates.txt").write_text("\n".join(kept) + "\n")
     for name in BELOW:
         shutil.copytree(TOP / "crates" / name, folder / "crates" / name)
-    shutil.copytree(HERE / "program", folder / "crates" / "cache_bench")
     program = folder / "crates" / "cache_bench"
+    (program / "src").mkdir(parents=True)
+    shutil.copy(HERE / "cache.rattle", program / "src" / "main.rt")
     done = subprocess.run(
         ["rt", "run", "--", "make", "1", "1"], cwd=program, capture_output=True, text=True
     )
