@@ -69,7 +69,7 @@ def edited(folder, call):
 
 def fails(root, crate, test):
     """Whether the test fails, and what the run said."""
-    ran = subprocess.run(["rt", "try", "--test"], cwd=root / "crates" / crate, capture_output=True, text=True)
+    ran = subprocess.run(["rt", "try", "--test", "--seconds", "900"], cwd=root / "crates" / crate, capture_output=True, text=True)
     lines = [line for line in ran.stdout.splitlines() if re.match(rf"test (\w+::)*{test} ", line)]
     return [line.split("... ")[-1] for line in lines], ran.stdout + ran.stderr
 

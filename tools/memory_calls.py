@@ -29,6 +29,7 @@ def exports(files):
     names = set()
     for path in re.findall(r"^pub use ([^;]*);", root, re.M):
         names.update(re.findall(r"\w+", path.split("{")[-1] if "{" in path else path.split("::")[-1]))
+    names.update(re.findall(r"^pub (?:struct|enum|fn) (\w+)", root, re.M))
     return names, set(re.findall(r"^pub mod (\w+);", root, re.M))
 
 
