@@ -7,8 +7,24 @@ struct Part {
     frame: &'static [u8],
 }
 
-/// The reply that tells of two aliases and a denial, and what comes of frames and sites that have two observations.
-const PARTS: [Part; 6] = [
+/// Frames of up to four other observations, the reply that tells of two aliases and a denial, and what comes of frames
+/// and sites that have two observations.
+const PARTS: [Part; 9] = [
+    Part {
+        line: "frame 0 100 44470100",
+        taken: 1,
+        frame: ONE_OTHER,
+    },
+    Part {
+        line: "frame 0 100 44470100",
+        taken: 2,
+        frame: TWO_OTHERS,
+    },
+    Part {
+        line: "frame 0 100 44470100",
+        taken: 3,
+        frame: THREE_OTHERS,
+    },
     Part {
         line: "learn 0 100 0002",
         taken: 1,
@@ -43,6 +59,18 @@ const PARTS: [Part; 6] = [
 
 /// No observation.
 const EMPTY: &[u8] = b"\x44\x47\x01\x00\x00";
+
+/// 0. has the address 192.0.2.1, with rank 1, stamp 100 and life 300.
+const ONE_OTHER: &[u8] =
+    b"\x44\x47\x01\x00\x01\x03\x01\x00\x00\x00\x00\x00\x00\x00\x64\x00\x00\x01\x2c\x010\x00\x00\x01\x00\x01\x00\x04\xc0\x00\x02\x01";
+
+/// The same, and so has 1.
+const TWO_OTHERS: &[u8] =
+    b"\x44\x47\x01\x00\x02\x03\x01\x00\x00\x00\x00\x00\x00\x00\x64\x00\x00\x01\x2c\x010\x00\x00\x01\x00\x01\x00\x04\xc0\x00\x02\x01\x03\x01\x00\x00\x00\x00\x00\x00\x00\x64\x00\x00\x01\x2c\x011\x00\x00\x01\x00\x01\x00\x04\xc0\x00\x02\x01";
+
+/// The same, and so has 2.
+const THREE_OTHERS: &[u8] =
+    b"\x44\x47\x01\x00\x03\x03\x01\x00\x00\x00\x00\x00\x00\x00\x64\x00\x00\x01\x2c\x010\x00\x00\x01\x00\x01\x00\x04\xc0\x00\x02\x01\x03\x01\x00\x00\x00\x00\x00\x00\x00\x64\x00\x00\x01\x2c\x011\x00\x00\x01\x00\x01\x00\x04\xc0\x00\x02\x01\x03\x01\x00\x00\x00\x00\x00\x00\x00\x64\x00\x00\x01\x2c\x012\x00\x00\x01\x00\x01\x00\x04\xc0\x00\x02\x01";
 
 /// www.example. is an alias of a.example., with rank 1, stamp 100 and life 60.
 const ONE_ALIAS: &[u8] =
