@@ -4,7 +4,8 @@ ghost use Rattle.std.specs.Prelude.{◌≡◌, ℕ, ◌^◌, ◌<◌, ◌≤◌,
 ghost use Rattle.fleet_observe.specs.Fact.{Fact, IsFact};
 ghost use Rattle.fleet_cache.specs.Cached.{IsCached, IsNeedless, IsNeededAt, IsSameSet};
 ghost use Rattle.fleet_cache.specs.Answer.{answer_of};
-ghost use Rattle.fleet_cache.specs.Told.{told};
+ghost use Rattle.fleet_cache.specs.Shown.{AllSome};
+ghost use Rattle.fleet_cache.specs.Told.{told, chain_of};
 ghost use Rattle.fleet_cache.specs.Kinds.{HasKinds};
 
 use crate::answer::{Answer, follow};
@@ -214,26 +215,14 @@ impl<A: Allocator> Cache<A> {
     /// it. The most preferred observation that is live then and relevant decides; an alias is
     /// followed where another type is asked for, at most 8 of them. Records of two observations
     /// are never merged (RFC 2181 5.4). The question's class is not looked at. The parts are
-    /// copies: without memory for them there is no answer.
-    pub fn answer<B: Allocator>(
-        &self,
-        alloc: A,
-        question: &Question<B>,
-        moment: Moment,
-    ) -> Result<Answer<A>, AllocError>
-    where
-        A: Copy,
-        ensures kinds { IfOk result (λ a. HasKinds (told a)) }
-        ensures told { (s : List Fact) → IsCached s self.now.floor self.now.items → IfOk result (λ a. told a ≡ answer_of s (max self.now.floor moment) question.now.name question.now.rtype) }
+    /// lent, so that nothing can be taken or purged while they are in use, and this takes no memory.
+    pub fn answer<B: Allocator>(&self, question: &Question<B>, moment: Moment) -> Answer<'_, A>
+        ensures filled { AllSome (chain_of result) }
+        ensures kinds { HasKinds (told result) }
+        ensures told { (s : List Fact) → IsCached s self.now.floor self.now.items → told result ≡ answer_of s (max self.now.floor moment) question.now.name question.now.rtype }
     {
         let at = later(self.floor, moment);
-        follow(
-            alloc,
-            &self.fronts,
-            question.name.octets(),
-            question.rtype,
-            at,
-        )
+        follow(&self.fronts, question.name.octets(), question.rtype, at)
     }
 
     /// How many fronts are in memory, also those of which all has ended.

@@ -95,14 +95,14 @@ fn answered(
     moment: u64,
 ) -> Result<Told, Fail> {
     let question = asked(rt, name, rtype)?;
-    let told = match cache.answer(rt.alloc(), &question, at(moment)?)? {
+    let told = match cache.answer(&question, at(moment)?) {
         Answer::Found { chain, set } => {
             let first = set.observation.rdatas().first().ok_or("no record")?;
             let octet = first.as_slice().last().copied().ok_or("no octet")?;
-            Told::Found(chain.as_slice().len(), octet, set.ttl)
+            Told::Found(chain.len(), octet, set.ttl)
         }
-        Answer::NoData { chain, soa } => Told::NoData(chain.as_slice().len(), soa.ttl),
-        Answer::NxDomain { chain, soa } => Told::NxDomain(chain.as_slice().len(), soa.ttl),
+        Answer::NoData { chain, soa } => Told::NoData(chain.len(), soa.ttl),
+        Answer::NxDomain { chain, soa } => Told::NxDomain(chain.len(), soa.ttl),
         Answer::Miss => Told::Miss,
     };
     Ok(told)
@@ -199,6 +199,26 @@ fn what_has_ended_is_not_held(rt: HostRuntime) -> Result<(), Fail> {
     assert!(rt; !cache.take(seen(&rt, EXAMPLE, 1, FIRST, 3, 100, 1)?)?);
     assert!(rt; cache.take(seen(&rt, EXAMPLE, 1, FIRST, 3, 100, 2)?)?);
     assert_eq!(rt; answered(&rt, &cache, EXAMPLE, 1, 0)?, Told::Found(0, 1, 1));
+    Ok(())
+}
+
+#[test]
+fn an_answer_is_read_before_the_cache_changes(rt: HostRuntime) -> Result<(), Fail> {
+    let mut cache = Cache::new(rt.alloc());
+    assert!(rt; cache.take(seen(&rt, EXAMPLE, 1, FIRST, 1, 100, 300)?)?);
+    let other = seen(&rt, EXAMPLE, 1, SECOND, 3, 100, 300)?;
+    let question = asked(&rt, EXAMPLE, 1)?;
+    let Answer::Found { set, .. } = cache.answer(&question, at(150)?) else {
+        return Err("no records".into());
+    };
+    assert_eq!(rt; (set.observation.rank(), set.ttl), (1, 250));
+    assert!(rt; cache.take(other)?);
+    let Answer::Found { set, .. } = cache.answer(&question, at(150)?) else {
+        return Err("no records".into());
+    };
+    assert_eq!(rt; (set.observation.rank(), set.ttl), (3, 250));
+    cache.purge(at(400)?);
+    assert!(rt; matches!(cache.answer(&question, at(150)?), Answer::Miss));
     Ok(())
 }
 
@@ -349,12 +369,13 @@ fn chained(rt: &HostRuntime, links: u8) -> Result<Cache, Fail> {
 fn eight_links_are_followed(rt: HostRuntime) -> Result<(), Fail> {
     let cache = chained(&rt, 8)?;
     let question = asked(&rt, &numbered(b'0'), 1)?;
-    let answer = cache.answer(rt.alloc(), &question, at(110)?)?;
+    let answer = cache.answer(&question, at(110)?);
     let Answer::Found { chain, set } = answer else {
         return Err("no records".into());
     };
-    assert_eq!(rt; chain.as_slice().len(), 8);
+    assert_eq!(rt; chain.len(), 8);
     for (digit, link) in (b'0'..).zip(chain.as_slice()) {
+        let link = link.ok_or("no link")?;
         assert_eq!(rt;
             link.observation.name().octets(),
             numbered(digit).as_slice()
