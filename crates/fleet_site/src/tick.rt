@@ -42,7 +42,7 @@ fn failure_octets<A: Allocator + Copy>(
 ) -> Result<Octets<A>, AllocError>
     ensures { IfOk result (λ octets. octets ≡ (failure_to (asker waiter.now)).octets) }
 {
-    let outline = Outline::new(alloc, waiter.id, 0, true, 2, false, Some(&waiter.question))?;
+    let outline = Outline::new(alloc, waiter.id, 0, true, 2, false, Some(&waiter.question));
     Ok(Octets::new(write_reply(alloc, &outline)?))
 }
 

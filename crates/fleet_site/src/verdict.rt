@@ -5,7 +5,8 @@ ghost use Rattle.fleet_wire.specs.Question.{asked};
 ghost use Rattle.fleet_observe.specs.Fact.{Fact};
 ghost use Rattle.fleet_cache.specs.Cached.{IsCached};
 ghost use Rattle.fleet_cache.specs.Kinds.{HasKinds};
-ghost use Rattle.fleet_cache.specs.Told.{told};
+ghost use Rattle.fleet_cache.specs.Told.{told, chain_of};
+ghost use Rattle.fleet_cache.specs.Shown.{AllSome};
 ghost use Rattle.fleet_site.specs.Carried.{IsAskable, IsAnswered, IsUnread};
 ghost use Rattle.fleet_site.specs.Verdict.{IsAsking, verdict, IsServed, DecidesAnswer, DecidesQuestion, Decides};
 
@@ -97,7 +98,7 @@ fn decide_question<A: Allocator + Copy>(
         let reply = reply_without(alloc, header, 4, &question)?;
         return Ok(Decision::Reply(reply));
     }
-    let answer = cache.answer(alloc, &question, clock)?;
+    let answer = cache.answer(&question, clock);
     decide_answer(alloc, header, question, &answer)
 }
 
@@ -113,10 +114,11 @@ fn decide_answer<A: Allocator + Copy>(
     alloc: A,
     header: Header,
     question: Question<A>,
-    answer: &Answer<A>,
+    answer: &Answer<'_, A>,
 ) -> Result<Decision<A>, AllocError>
     requires opcode { header.opcode < 16 }
     requires served { question.class ≡ 1 }
+    requires filled { AllSome (chain_of answer.now) }
     requires kinds { HasKinds (told answer.now) }
     ensures decides { IfOk result (λ d. DecidesAnswer header (asked question) (told answer.now) (verdict d)) }
     ensures askable { IfOk result (λ d. IsAskable d) }
@@ -124,15 +126,15 @@ fn decide_answer<A: Allocator + Copy>(
     match answer {
         Answer::Miss => Ok(Decision::Miss(header, question)),
         Answer::Found { chain, set } => {
-            let reply = tell(alloc, header, &question, chain, set)?;
+            let reply = tell(alloc, header, &question, chain, *set)?;
             Ok(Decision::Reply(reply))
         }
         Answer::NoData { chain, soa } => {
-            let reply = deny(alloc, header, 0, &question, chain, soa)?;
+            let reply = deny(alloc, header, 0, &question, chain, *soa)?;
             Ok(Decision::Reply(reply))
         }
         Answer::NxDomain { chain, soa } => {
-            let reply = deny(alloc, header, 3, &question, chain, soa)?;
+            let reply = deny(alloc, header, 3, &question, chain, *soa)?;
             Ok(Decision::Reply(reply))
         }
     }

@@ -4,7 +4,7 @@ ghost use Rattle.std.specs.Prelude.{◌≡◌, ◌<◌, IfOk, OnOk, Some, None, 
 ghost use Rattle.fleet_wire.specs.Outline.{octets_of_outline};
 ghost use Rattle.fleet_wire.specs.Question.{asked};
 ghost use Rattle.fleet_cache.specs.Kinds.{IsPositivePart, ArePositiveParts};
-ghost use Rattle.fleet_cache.specs.Shown.{part_of, parts_of};
+ghost use Rattle.fleet_cache.specs.Shown.{part_of, parts_of, AllSome};
 ghost use Rattle.fleet_site.specs.Rows.{started, started_octets, AddsRows, AddsChainRows, AddsSoaRow, IsNegativePart, Tells, Denies};
 
 use fleet_cache::{Chain, Shown};
@@ -20,15 +20,16 @@ pub(crate) fn tell<A: Allocator + Copy>(
     alloc: A,
     header: Header,
     question: &Question<A>,
-    chain: &Chain<A>,
-    set: &Shown<A>,
+    chain: &Chain<'_, A>,
+    set: Shown<'_, A>,
 ) -> Result<Octets<A>, AllocError>
     requires opcode { header.opcode < 16 }
-    requires links { ArePositiveParts chain.now }
-    requires positive { IsPositivePart (part_of set.now) }
-    ensures { IfOk result (Tells header (asked question.now) chain.now (part_of set.now)) }
+    requires filled { AllSome chain.now.items }
+    requires links { ArePositiveParts (parts_of chain.now.items) }
+    requires positive { IsPositivePart (part_of set) }
+    ensures { IfOk result (Tells header (asked question.now) (parts_of chain.now.items) (part_of set.entry)) }
 {
-    let mut outline = begin(alloc, header, 0, Some(question))?;
+    let mut outline = begin(alloc, header, 0, Some(question));
     add_chain(&mut outline, chain.as_slice())?;
     add_set(&mut outline, set)?;
     finish(alloc, &outline)
@@ -40,39 +41,47 @@ pub(crate) fn deny<A: Allocator + Copy>(
     header: Header,
     rcode: u8,
     question: &Question<A>,
-    chain: &Chain<A>,
-    soa: &Shown<A>,
+    chain: &Chain<'_, A>,
+    soa: Shown<'_, A>,
 ) -> Result<Octets<A>, AllocError>
     requires opcode { header.opcode < 16 }
     requires rcode { rcode < 16 }
-    requires links { ArePositiveParts chain.now }
-    requires negative { IsNegativePart (part_of soa.now) }
-    ensures { IfOk result (Denies header rcode (asked question.now) chain.now (part_of soa.now)) }
+    requires filled { AllSome chain.now.items }
+    requires links { ArePositiveParts (parts_of chain.now.items) }
+    requires negative { IsNegativePart (part_of soa) }
+    ensures { IfOk result (Denies header rcode (asked question.now) (parts_of chain.now.items) (part_of soa.entry)) }
 {
-    let mut outline = begin(alloc, header, rcode, Some(question))?;
+    let mut outline = begin(alloc, header, rcode, Some(question));
     add_chain(&mut outline, chain.as_slice())?;
     add_soa(&mut outline, soa)?;
     finish(alloc, &outline)
 }
 
 /// Adds the records of the links.
-fn add_chain<A: Allocator + Copy>(
-    outline: &mut Outline<A>,
-    chain: &[Shown<A>],
+fn add_chain<'a, A: Allocator + Copy>(
+    outline: &mut Outline<'a, A>,
+    chain: &[Option<Shown<'a, A>>],
 ) -> Result<(), AllocError>
+    requires { AllSome chain.now }
     ensures { ArePositiveParts (parts_of chain.now) → OnOk result (AddsChainRows (parts_of chain.now) outline.old outline.new) }
 {
     for link in chain {
-        add_set(outline, link)?;
+        let Some(part) = link else {
+            unreachable!()
+        };
+        add_set(outline, *part)?;
     }
     Ok(())
 }
 
 /// Adds the records of a positive observation.
-fn add_set<A: Allocator + Copy>(outline: &mut Outline<A>, part: &Shown<A>) -> Result<(), AllocError>
-    ensures { IsPositivePart (part_of part.now) → OnOk result (AddsRows (part_of part.now) outline.old outline.new) }
+fn add_set<'a, A: Allocator + Copy>(
+    outline: &mut Outline<'a, A>,
+    part: Shown<'a, A>,
+) -> Result<(), AllocError>
+    ensures { IsPositivePart (part_of part.entry) → OnOk result (AddsRows (part_of part.entry) outline.old outline.new) }
 {
-    let observation = &part.observation;
+    let observation = part.observation;
     for rdata in observation.rdatas() {
         outline.answer(
             observation.name(),
@@ -85,8 +94,11 @@ fn add_set<A: Allocator + Copy>(outline: &mut Outline<A>, part: &Shown<A>) -> Re
 }
 
 /// Adds the SOA record of a negative observation.
-fn add_soa<A: Allocator + Copy>(outline: &mut Outline<A>, part: &Shown<A>) -> Result<(), AllocError>
-    ensures { IsNegativePart (part_of part.now) → OnOk result (AddsSoaRow (part_of part.now) outline.old outline.new) }
+fn add_soa<'a, A: Allocator + Copy>(
+    outline: &mut Outline<'a, A>,
+    part: Shown<'a, A>,
+) -> Result<(), AllocError>
+    ensures { IsNegativePart (part_of part.entry) → OnOk result (AddsSoaRow (part_of part.entry) outline.old outline.new) }
 {
     match part.observation.soa() {
         Some((owner, rdata)) => outline.authority(owner, SOA, part.ttl, rdata),
@@ -95,15 +107,15 @@ fn add_soa<A: Allocator + Copy>(outline: &mut Outline<A>, part: &Shown<A>) -> Re
 }
 
 /// A reply that has no records yet.
-fn begin<A: Allocator + Copy>(
+fn begin<'a, A: Allocator + Copy>(
     alloc: A,
     header: Header,
     rcode: u8,
-    question: Option<&Question<A>>,
-) -> Result<Outline<A>, AllocError>
+    question: Option<&'a Question<A>>,
+) -> Outline<'a, A>
     requires opcode { header.opcode < 16 }
     requires rcode { rcode < 16 }
-    ensures { IfOk result (λ outline. MatchOption question.entry (outline ≡ started header rcode None) (λ q. outline ≡ started header rcode (Some (asked q.now)))) }
+    ensures { MatchOption question.entry (result ≡ started header rcode None) (λ q. result ≡ started header rcode (Some (asked q.now))) }
 {
     Outline::new(
         alloc,
@@ -135,7 +147,7 @@ pub(crate) fn bare_reply<'a, A: Allocator + Copy + 'a>(
     ensures { IfOk result (λ octets. octets ≡ started_octets header rcode None) }
 {
     let question: Option<&'a Question<A>> = None;
-    let outline = begin(alloc, header, rcode, question)?;
+    let outline = begin(alloc, header, rcode, question);
     finish(alloc, &outline)
 }
 
@@ -150,6 +162,6 @@ pub(crate) fn reply_without<A: Allocator + Copy>(
     requires rcode { rcode < 16 }
     ensures { IfOk result (λ octets. octets ≡ started_octets header rcode (Some (asked question.now))) }
 {
-    let outline = begin(alloc, header, rcode, Some(question))?;
+    let outline = begin(alloc, header, rcode, Some(question));
     finish(alloc, &outline)
 }
