@@ -2,6 +2,7 @@
 //! sites then hold the first observations of the step, and all else is as before; and the step done again is as if
 //! nothing had been.
 
+mod lent;
 mod lines;
 mod parts;
 mod runs;

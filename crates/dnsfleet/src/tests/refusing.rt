@@ -1,27 +1,28 @@
-//! An allocator that refuses one call.
+//! An allocator that refuses one call, or all of them for a time.
 
 use std::alloc::{AllocError, Allocator};
 use std::cell::Cell;
 use std::collections::BTreeMap;
 use std::test::Fail;
 
-/// Calls, of which one is refused.
+/// Calls, of which one is refused, or all for a time.
 #[derive(Drop)]
 struct Calls {
     made: Cell<u64>,
     refused: u64,
+    refuses_all: Cell<bool>,
 }
 
 impl Calls {
-    /// Counts a call, and says whether it is the one that is refused.
+    /// Counts a call, and says whether it is refused.
     fn refuses_next(&self) -> bool {
         let number = self.made.get().saturating_add(1);
         self.made.set(number);
-        number == self.refused
+        number == self.refused || self.refuses_all.get()
     }
 }
 
-/// An allocator that refuses one call for memory, and passes every other on.
+/// An allocator that refuses one call for memory, or all for a time, and passes every other on.
 #[derive(Drop)]
 pub struct Refusing<A: Allocator> {
     inner: A,
@@ -31,11 +32,19 @@ pub struct Refusing<A: Allocator> {
 impl<A: Allocator> Refusing<A> {
     /// Refuses the call with this number, counted from 1; 0 is the number of none.
     pub fn after(inner: A, refused: u64) -> Refusing<A> {
-        let made = Cell::new(0);
         Refusing {
             inner,
-            calls: Calls { made, refused },
+            calls: Calls {
+                made: Cell::new(0),
+                refused,
+                refuses_all: Cell::new(false),
+            },
         }
+    }
+
+    /// From now on refuses every call, or no longer does.
+    pub fn refuse_all(&self, refuses_all: bool) {
+        self.calls.refuses_all.set(refuses_all);
     }
 
     /// Whether that call was made.
@@ -90,6 +99,16 @@ fn refuses_one_call_for_lists_and_maps(rt: HostRuntime) -> Result<(), Fail> {
             }
         }
         assert_eq!(rt; (faults, list.len(), map.len()), (1, 99, 99));
+    }
+    Ok(())
+}
+
+#[test]
+fn refuses_all_calls_for_a_time(rt: HostRuntime) -> Result<(), Fail> {
+    let refusing = Refusing::after(rt.alloc(), 0);
+    for refuses_all in [false, true, false, true] {
+        refusing.refuse_all(refuses_all);
+        assert_eq!(rt; Box::new(&refusing, 7u64).is_err(), refuses_all);
     }
     Ok(())
 }
