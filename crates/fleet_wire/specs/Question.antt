@@ -1,5 +1,6 @@
 -- What a question is, without where it lies in memory (RFC 1035 4.1.2).
 use Rattle.std.specs.Prelude.{◌≡◌, ℕ, ◌+◌, ◌<◌, ◌≤◌, ◌⊎◌, List, length, Option, Some, None}
+use Rattle.std.specs.Borrow.{Bor}
 use Rattle.fleet_name.specs.Name.{wire, lower, lower_all, labels_of, IsName}
 use Rattle.fleet_wire.specs.Number.{u16_at}
 use Rattle.fleet_wire.specs.NameAt.{NameAt, ReadsName}
@@ -23,9 +24,10 @@ asked q = record { spelled = q.spelled; name = q.name; rtype = q.rtype; class = 
 abbrev pub asked_spelled : SpelledQuestion → Asked
 asked_spelled q = record { spelled = q.name.octets.items; name = lower_all (labels_of q.name.octets.items); rtype = q.rtype; class = q.class }
 
-abbrev pub asked_in : {A : Type 0} → Option (Question A) → Option Asked
-asked_in None = None
-asked_in (Some q) = Some (asked q)
+-- a question that is lent, if there is one
+abbrev pub asked_lent : {A : Type 0} → Option (Bor (Question A)) → Option Asked
+asked_lent None = None
+asked_lent (Some q) = Some (asked q.now)
 
 -- the question q stands at p, and ends before e
 pub record IsQuestion (m : List ℕ) (p : ℕ) (q : Asked) (e : ℕ) : Type 0 where

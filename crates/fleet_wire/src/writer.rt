@@ -1,24 +1,23 @@
 //! Writing a reply (RFC 1035 4.1).
 
-ghost use Rattle.std.specs.Prelude.{◌≡◌, ℕ, ◌+◌, ◌<◌, ◌≤◌, ◌++◌, List, length, IfOk, OnOk, MatchOption, IsTrue, IsFalse};
+ghost use Rattle.std.specs.Prelude.{◌≡◌, ℕ, ◌+◌, ◌<◌, ◌≤◌, ◌++◌, List, length, IfOk, OnOk, IfSome, MatchOption};
 ghost use Rattle.fleet_wire.specs.Number.{u16_octets, u32_octets};
-ghost use Rattle.fleet_wire.specs.Question.{Asked, asked_in};
-ghost use Rattle.fleet_wire.specs.Record.{told, all_told};
+ghost use Rattle.fleet_wire.specs.Question.{Asked, asked_lent};
+ghost use Rattle.fleet_wire.specs.Line.{told_line, told_lines};
 ghost use Rattle.fleet_wire.specs.Message.{IsReply};
 ghost use Rattle.fleet_wire.specs.Outline.{record_octets, question_octets, rows, body_size, header_octets, octets_of_outline, IsWhole, reply_sketched};
 
 use crate::number::{push_long, push_short};
-use crate::outline::Outline;
+use crate::outline::{Line, Outline};
 use crate::question::Question;
-use crate::record::Record;
 use std::alloc::{AllocError, Allocator};
 
 // Adds a question in its own spelling, if there is one.
 fn push_question<A: Allocator, B: Allocator>(
     out: &mut Vec<u8, A>,
-    question: &Option<Question<B>>,
+    question: Option<&Question<B>>,
 ) -> Result<(), AllocError>
-    ensures { OnOk result (out.new.items ≡ out.old.items ++ question_octets (asked_in question.now)) }
+    ensures { OnOk result (out.new.items ≡ out.old.items ++ question_octets (asked_lent question.entry)) }
 {
     match question {
         None => Ok(()),
@@ -31,8 +30,8 @@ fn push_question<A: Allocator, B: Allocator>(
 }
 
 // How many octets a question has: its name in full, which has 255 at most, and four.
-fn question_size<A: Allocator>(question: &Option<Question<A>>) -> usize
-    ensures size { result ≡ length (question_octets (asked_in question.now)) }
+fn question_size<A: Allocator>(question: Option<&Question<A>>) -> usize
+    ensures size { result ≡ length (question_octets (asked_lent question.entry)) }
     ensures short { result ≤ 259 }
 {
     match question {
@@ -60,25 +59,24 @@ fn push_fixed<A: Allocator>(
 // Adds a record.
 fn push_record<A: Allocator, B: Allocator>(
     out: &mut Vec<u8, A>,
-    row: &Record<B>,
+    line: &Line<B>,
 ) -> Result<(), AllocError>
-    requires { length row.now.rdata < 65536 }
-    ensures { OnOk result (out.new.items ≡ out.old.items ++ record_octets (told row.now)) }
+    requires { length line.now.rdata.now < 65536 }
+    ensures { OnOk result (out.new.items ≡ out.old.items ++ record_octets (told_line line.now)) }
 {
-    out.extend_from_slice(row.name.octets())?;
-    let rdata = row.rdata.as_slice();
-    let count = rdata.len() as u16;
-    push_fixed(out, row.rtype, row.class, row.ttl, count)?;
-    out.extend_from_slice(rdata)
+    out.extend_from_slice(line.name.octets())?;
+    let count = line.rdata.len() as u16;
+    push_fixed(out, line.rtype, 1, line.ttl, count)?;
+    out.extend_from_slice(line.rdata)
 }
 
 // Adds records.
 fn push_records<A: Allocator, B: Allocator>(
     out: &mut Vec<u8, A>,
-    records: &[Record<B>],
+    records: &[Line<B>],
 ) -> Result<(), AllocError>
-    requires { length (rows (all_told records.now)) ≤ 512 }
-    ensures { OnOk result (out.new.items ≡ out.old.items ++ rows (all_told records.now)) }
+    requires { length (rows (told_lines records.now)) ≤ 512 }
+    ensures { OnOk result (out.new.items ≡ out.old.items ++ rows (told_lines records.now)) }
 {
     for record in records {
         push_record(out, record)?;
@@ -87,8 +85,8 @@ fn push_records<A: Allocator, B: Allocator>(
 }
 
 // How much of the room is left behind the octets of the records, if they fit.
-fn room_after<A: Allocator>(records: &[Record<A>], room: usize) -> Option<usize>
-    ensures { MatchOption result (room < length (rows (all_told records.now))) (λ left. left + length (rows (all_told records.now)) ≡ room) }
+fn room_after<A: Allocator>(records: &[Line<A>], room: usize) -> Option<usize>
+    ensures { MatchOption result (room < length (rows (told_lines records.now))) (λ left. left + length (rows (told_lines records.now)) ≡ room) }
 {
     let mut left = room;
     for record in records {
@@ -97,7 +95,7 @@ fn room_after<A: Allocator>(records: &[Record<A>], room: usize) -> Option<usize>
             return None;
         }
         left -= fixed;
-        let count = record.rdata.as_slice().len();
+        let count = record.rdata.len();
         if left < count {
             return None;
         }
@@ -106,22 +104,20 @@ fn room_after<A: Allocator>(records: &[Record<A>], room: usize) -> Option<usize>
     Some(left)
 }
 
-// Whether header, question and records fit a message.
-fn is_short<A: Allocator>(
-    question: &Option<Question<A>>,
-    answer: &[Record<A>],
-    authority: &[Record<A>],
-) -> bool
-    ensures short { IsTrue result → 12 + body_size (asked_in question.now) (all_told answer.now) (all_told authority.now) ≤ 512 }
-    ensures long { IsFalse result → 512 < 12 + body_size (asked_in question.now) (all_told answer.now) (all_told authority.now) }
+// How many octets header, question and records have, if they fit a message.
+fn size_within<A: Allocator>(
+    question: Option<&Question<A>>,
+    answer: &[Line<A>],
+    authority: &[Line<A>],
+) -> Option<usize>
+    ensures size { MatchOption result
+        (512 < 12 + body_size (asked_lent question.entry) (told_lines answer.now) (told_lines authority.now))
+        (λ size. size ≡ 12 + body_size (asked_lent question.entry) (told_lines answer.now) (told_lines authority.now)) }
+    ensures short { IfSome result (λ size. size ≤ 512) }
 {
-    let Some(room) = room_after(answer, 500 - question_size(question)) else {
-        return false;
-    };
-    let Some(_) = room_after(authority, room) else {
-        return false;
-    };
-    true
+    let room = room_after(answer, 500 - question_size(question))?;
+    let left = room_after(authority, room)?;
+    Some(512 - left)
 }
 
 // Adds the header.
@@ -148,7 +144,7 @@ fn push_header<A: Allocator, B: Allocator>(
 
 /// The octets of a reply (RFC 1035 4.1): header, question and records, every name in full. QR and RA
 /// are set, AA is clear. Where all of it passes 512 octets: header and question alone, with TC set.
-/// `Err` where there is no memory for them.
+/// Its memory is just its octets. `Err` where there is none for them.
 pub fn write_reply<A: Allocator, B: Allocator>(
     alloc: A,
     outline: &Outline<B>,
@@ -157,17 +153,18 @@ pub fn write_reply<A: Allocator, B: Allocator>(
     // Where it has a question, plain RDATA, TC clear, and fits a message, it is read again.
     ensures reads_back { IfOk result (λ v. (q : Asked) → IsWhole outline.now q → IsReply v.items (reply_sketched outline.now q)) }
 {
-    let mut octets = Vec::new(alloc);
-    if is_short(&outline.question, &outline.answer, &outline.authority) {
-        let answers = outline.answer.len() as u16;
-        let authorities = outline.authority.len() as u16;
-        push_header(&mut octets, outline, outline.tc, answers, authorities)?;
-        push_question(&mut octets, &outline.question)?;
-        push_records(&mut octets, &outline.answer)?;
-        push_records(&mut octets, &outline.authority)?;
+    let Some(size) = size_within(outline.question, &outline.answer, &outline.authority) else {
+        let mut octets = Vec::with_capacity(alloc, 12 + question_size(outline.question))?;
+        push_header(&mut octets, outline, true, 0, 0)?;
+        push_question(&mut octets, outline.question)?;
         return Ok(octets);
-    }
-    push_header(&mut octets, outline, true, 0, 0)?;
-    push_question(&mut octets, &outline.question)?;
+    };
+    let mut octets = Vec::with_capacity(alloc, size)?;
+    let answers = outline.answer.len() as u16;
+    let authorities = outline.authority.len() as u16;
+    push_header(&mut octets, outline, outline.tc, answers, authorities)?;
+    push_question(&mut octets, outline.question)?;
+    push_records(&mut octets, &outline.answer)?;
+    push_records(&mut octets, &outline.authority)?;
     Ok(octets)
 }
