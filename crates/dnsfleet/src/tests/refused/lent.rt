@@ -31,7 +31,7 @@ const LENT: [(&str, u64); 12] = [
     ),
     ("eight aliases are followed", 1),
     ("a ninth is a miss", 1),
-    ("so are aliases of one another", 2),
+    ("so are aliases of one another", 1),
     (
         "a denial holds for three hours at most, and is told with the SOA of an ancestor",
         1,
@@ -135,7 +135,7 @@ fn answers_are_lent_where_no_memory_is_left(rt: HostRuntime) -> Result<(), Fail>
             let answer = cache.answer(&question, now);
             refusing.refuse_all(false);
             let looked = looked_of(&refusing, header, &question, &answer)?;
-            let mut printed = String::new(rt.alloc());
+            let mut printed = String::new(&refusing);
             print_looked(&mut printed, &looked)?;
             assert_eq!(rt; printed.as_str(), line.prints);
             answered = answered.saturating_add(1);
