@@ -24,7 +24,7 @@ struct Observation {
 using Cache = std::map<std::string, std::vector<Observation>>;
 
 struct Shown {
-    Observation observation;
+    const Observation *observation;
     uint32_t ttl;
 };
 
@@ -89,7 +89,7 @@ static bool answer(const Cache &cache, const std::string &name, uint16_t type, u
     }
     const Observation *best = records ? records : alias ? alias : none ? none : denial;
     if (!best) return false;
-    shown.observation = *best;
+    shown.observation = best;
     shown.ttl = uint32_t(best->expires() - moment);
     return true;
 }

@@ -1,5 +1,5 @@
 -- The parts of an answer are of the kinds that their places say.
-use Rattle.std.proofs.Common.{◌≡◌, ◌≤◌, ℕ, zero, suc, List, [], Option, Some, None, Result, Ok, Err, IfOk, Bool, true, false, ◌&&◌, nat_eq, cond, refl, sym, subst, arith}
+use Rattle.std.proofs.Common.{◌≡◌, ◌≤◌, ℕ, zero, suc, List, [], Option, Some, None, Bool, true, false, ◌&&◌, nat_eq, cond, refl, sym, subst, arith}
 use Rattle.std.proofs.lemmas.Bool.Decides.{nat_tests}
 use Rattle.fleet_observe.specs.Fact.{Fact, IsFact, AreFacts}
 use Rattle.fleet_cache.specs.declared.answer.Answer.{Answer}
@@ -57,6 +57,5 @@ module _ (s : List Fact) (lawful : AreFacts s) (t rtype : ℕ) where
   has_kinds-answer_of n = has_kinds-within 8 n
 
 -- an answer of a set of observations has the kinds
-pub kinds_told : {A E : Type 0} (r : Result (Answer A) E) (s : List Fact) (t rtype : ℕ) (n : List (List ℕ)) → AreFacts s → IfOk r (λ a. told a ≡ answer_of s t n rtype) → IfOk r (λ a. HasKinds (told a))
-kinds_told (Ok a) s t rtype n lawful e = let P : Answered → Type 0 = HasKinds in subst P (sym e) (has_kinds-answer_of s lawful t rtype n)
-kinds_told (Err e) s t rtype n lawful h = tt
+pub kinds_told : {A : Type 0} (a : Answer A) (s : List Fact) (t rtype : ℕ) (n : List (List ℕ)) → AreFacts s → told a ≡ answer_of s t n rtype → HasKinds (told a)
+kinds_told a s t rtype n lawful e = let P : Answered → Type 0 = HasKinds in subst P (sym e) (has_kinds-answer_of s lawful t rtype n)

@@ -119,13 +119,14 @@ pub(crate) fn follow<'a, A: Allocator>(
         let Some(observation) = deciding(fronts, at, rtype, moment) else {
             return Answer::Miss;
         };
+        let part = shown(observation, moment);
         if !is_link(observation, rtype) {
-            return ending(chain, shown(observation, moment));
+            return ending(chain, part);
         }
         if chain.is_full() {
             return Answer::Miss;
         }
-        chain.push(Some(shown(observation, moment)));
+        chain.push(Some(part));
         at = target(observation);
     }
 }

@@ -1,4 +1,4 @@
-use Rattle.std.proofs.Common.{◌≡◌, ◌≤◌, max, IfOk, sym, ap, ◌∙◌, subst, arith}
+use Rattle.std.proofs.Common.{◌≡◌, ◌≤◌, max, sym, ap, ◌∙◌, subst, arith}
 use Rattle.fleet_cache.specs.Front.{shown}
 use Rattle.fleet_cache.specs.Live.{hidden}
 use Rattle.fleet_cache.specs.Slots.{items_of}
@@ -31,6 +31,5 @@ returns-clause-told g c s cached =
     let moment : at ≡ max c.args.self.now.floor c.args.moment = c.later-at.ensures ∙ ap (λ v. max v c.args.moment) same in
     let le : i.floor ≤ at = omega (arith, c.later-at.ensures) in
     let alike : answer_of items at q.name q.rtype ≡ answer_of s at q.name q.rtype = sets_answer_alike items s (shown hidden i.floor items) i.floor at q.name q.rtype le (kept_cached items i.floor c.self.invariant.0) held in
-    subst (λ v. IfOk c.follow.result (λ a. told a ≡ answer_of s v q.name q.rtype)) moment
-    (subst (λ v. IfOk c.follow.result (λ a. told a ≡ v)) alike
-    (c.follow.ensures.told q.name c.octets.ensures.octets items 0 (omega arith) (kept_whole items c.self.invariant.0)))
+    subst (λ v. told c.follow.result ≡ answer_of s v q.name q.rtype) moment
+    (c.follow.ensures.told q.name c.octets.ensures.octets items 0 (omega arith) (kept_whole items c.self.invariant.0) ∙ alike)
