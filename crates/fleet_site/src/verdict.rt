@@ -5,8 +5,7 @@ ghost use Rattle.fleet_wire.specs.Question.{asked};
 ghost use Rattle.fleet_observe.specs.Fact.{Fact};
 ghost use Rattle.fleet_cache.specs.Cached.{IsCached};
 ghost use Rattle.fleet_cache.specs.Kinds.{HasKinds};
-ghost use Rattle.fleet_cache.specs.Told.{told, chain_of};
-ghost use Rattle.fleet_cache.specs.Shown.{AllSome};
+ghost use Rattle.fleet_cache.specs.Told.{told};
 ghost use Rattle.fleet_site.specs.Carried.{IsAskable, IsAnswered, IsUnread};
 ghost use Rattle.fleet_site.specs.Verdict.{IsAsking, verdict, IsServed, DecidesAnswer, DecidesQuestion, Decides};
 
@@ -118,7 +117,6 @@ fn decide_answer<A: Allocator + Copy>(
 ) -> Result<Decision<A>, AllocError>
     requires opcode { header.opcode < 16 }
     requires served { question.class ≡ 1 }
-    requires filled { AllSome (chain_of answer.now) }
     requires kinds { HasKinds (told answer.now) }
     ensures decides { IfOk result (λ d. DecidesAnswer header (asked question) (told answer.now) (verdict d)) }
     ensures askable { IfOk result (λ d. IsAskable d) }

@@ -4,7 +4,7 @@ ghost use Rattle.std.specs.Prelude.{◌≡◌, ◌<◌, IfOk, OnOk, Some, None, 
 ghost use Rattle.fleet_wire.specs.Outline.{octets_of_outline};
 ghost use Rattle.fleet_wire.specs.Question.{asked};
 ghost use Rattle.fleet_cache.specs.Kinds.{IsPositivePart, ArePositiveParts};
-ghost use Rattle.fleet_cache.specs.Shown.{part_of, parts_of, AllSome};
+ghost use Rattle.fleet_cache.specs.Shown.{part_of, parts_of};
 ghost use Rattle.fleet_site.specs.Rows.{started, started_octets, AddsRows, AddsChainRows, AddsSoaRow, IsNegativePart, Tells, Denies};
 
 use fleet_cache::{Chain, Shown};
@@ -24,7 +24,6 @@ pub(crate) fn tell<A: Allocator + Copy>(
     set: Shown<'_, A>,
 ) -> Result<Octets<A>, AllocError>
     requires opcode { header.opcode < 16 }
-    requires filled { AllSome chain.now.items }
     requires links { ArePositiveParts (parts_of chain.now.items) }
     requires positive { IsPositivePart (part_of set) }
     ensures { IfOk result (Tells header (asked question.now) (parts_of chain.now.items) (part_of set.entry)) }
@@ -46,7 +45,6 @@ pub(crate) fn deny<A: Allocator + Copy>(
 ) -> Result<Octets<A>, AllocError>
     requires opcode { header.opcode < 16 }
     requires rcode { rcode < 16 }
-    requires filled { AllSome chain.now.items }
     requires links { ArePositiveParts (parts_of chain.now.items) }
     requires negative { IsNegativePart (part_of soa) }
     ensures { IfOk result (Denies header rcode (asked question.now) (parts_of chain.now.items) (part_of soa.entry)) }
@@ -62,14 +60,12 @@ fn add_chain<'a, A: Allocator + Copy>(
     outline: &mut Outline<'a, A>,
     chain: &[Option<Shown<'a, A>>],
 ) -> Result<(), AllocError>
-    requires { AllSome chain.now }
     ensures { ArePositiveParts (parts_of chain.now) → OnOk result (AddsChainRows (parts_of chain.now) outline.old outline.new) }
 {
     for link in chain {
-        let Some(part) = link else {
-            unreachable!()
-        };
-        add_set(outline, *part)?;
+        if let Some(part) = link {
+            add_set(outline, *part)?;
+        }
     }
     Ok(())
 }
