@@ -9,11 +9,9 @@ ghost use Rattle.fleet_site.specs.Rows.{started, started_octets, AddsRows, AddsC
 
 use fleet_cache::{Chain, Shown};
 use fleet_name::Octets;
+use fleet_observe::{Rows, add_rows, add_soa};
 use fleet_wire::{Header, Outline, Question, write_reply};
 use std::alloc::{AllocError, Allocator};
-
-/// The type of an SOA record.
-const SOA: u16 = 6;
 
 /// Links, and the records that they lead to.
 pub(crate) fn tell<A: Allocator + Copy>(
@@ -51,7 +49,7 @@ pub(crate) fn deny<A: Allocator + Copy>(
 {
     let mut outline = begin(alloc, header, rcode, Some(question));
     add_chain(&mut outline, chain.as_slice())?;
-    add_soa(&mut outline, soa)?;
+    add_denial(&mut outline, soa)?;
     finish(alloc, &outline)
 }
 
@@ -78,26 +76,24 @@ fn add_set<'a, A: Allocator + Copy>(
     ensures { IsPositivePart (part_of part.entry) → OnOk result (AddsRows (part_of part.entry) outline.old outline.new) }
 {
     let observation = part.observation;
-    for rdata in observation.rdatas() {
-        outline.answer(
-            observation.name(),
-            observation.rtype(),
-            part.ttl,
-            rdata.as_slice(),
-        )?;
-    }
-    Ok(())
+    let rows = Rows {
+        name: observation.name(),
+        rtype: observation.rtype(),
+        ttl: part.ttl,
+        rdatas: observation.rdatas(),
+    };
+    add_rows(outline, rows)
 }
 
 /// Adds the SOA record of a negative observation.
-fn add_soa<'a, A: Allocator + Copy>(
+fn add_denial<'a, A: Allocator + Copy>(
     outline: &mut Outline<'a, A>,
     part: Shown<'a, A>,
 ) -> Result<(), AllocError>
     ensures { IsNegativePart (part_of part.entry) → OnOk result (AddsSoaRow (part_of part.entry) outline.old outline.new) }
 {
     match part.observation.soa() {
-        Some((owner, rdata)) => outline.authority(owner, SOA, part.ttl, rdata),
+        Some((owner, rdata)) => add_soa(outline, owner, part.ttl, rdata),
         None => Ok(()),
     }
 }
