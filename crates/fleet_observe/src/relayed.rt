@@ -42,7 +42,7 @@ fn is_cut_off<A: Allocator>(end: &End<A>) -> bool
 }
 
 // Adds the records of an RRset to the answer section.
-fn put_set<'a, A: Allocator + Copy>(outline: &mut Outline<'a, A>, set: &'a RrSet<A>) -> Result<(), AllocError>
+fn put_set<A: Allocator + Copy>(outline: &mut Outline<A>, set: &RrSet<A>) -> Result<(), AllocError>
     ensures { OnOk result (outline.new ≡ with_answers outline.old (set_lines (set_of set.now))) }
 {
     for rdata in set.rdatas.as_slice() {
@@ -52,9 +52,9 @@ fn put_set<'a, A: Allocator + Copy>(outline: &mut Outline<'a, A>, set: &'a RrSet
 }
 
 // Adds an SOA, if there is one, to the authority section.
-fn put_soa<'a, A: Allocator + Copy>(
-    outline: &mut Outline<'a, A>,
-    soa: &'a Option<Soa<A>>,
+fn put_soa<A: Allocator + Copy>(
+    outline: &mut Outline<A>,
+    soa: &Option<Soa<A>>,
 ) -> Result<(), AllocError>
     ensures { OnOk result (outline.new ≡ with_authorities outline.old (soa_lines (soa_in soa.now))) }
 {
@@ -65,7 +65,7 @@ fn put_soa<'a, A: Allocator + Copy>(
 }
 
 // Adds the records of an end.
-fn put_end<'a, A: Allocator + Copy>(outline: &mut Outline<'a, A>, end: &'a End<A>) -> Result<(), AllocError>
+fn put_end<A: Allocator + Copy>(outline: &mut Outline<A>, end: &End<A>) -> Result<(), AllocError>
     ensures { OnOk result (outline.new ≡ with_end outline.old (ending_of end.now)) }
 {
     match end {
@@ -78,19 +78,19 @@ fn put_end<'a, A: Allocator + Copy>(outline: &mut Outline<'a, A>, end: &'a End<A
 }
 
 // An outline that says what the digest says.
-fn outline_of<'a, A: Allocator + Copy>(
+fn outline_of<A: Allocator + Copy>(
     alloc: A,
-    digest: &'a Digest<A>,
-    question: &'a Question<A>,
+    digest: &Digest<A>,
+    question: &Question<A>,
     id: u16,
     rd: bool,
-) -> Result<Outline<'a, A>, AllocError>
+) -> Result<Outline<A>, AllocError>
     ensures { IfOk result (λ o. o ≡ relayed digest.now (asked question.now) id rd) }
 {
     let end = digest.end();
     let rcode = code_of_end(end);
     let tc = is_cut_off(end);
-    let mut outline = Outline::new(alloc, id, 0, rd, rcode, tc, Some(question));
+    let mut outline = Outline::new(alloc, id, 0, rd, rcode, tc, Some(question))?;
     for link in digest.chain() {
         put_set(&mut outline, link)?;
     }
