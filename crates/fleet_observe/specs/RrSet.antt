@@ -7,6 +7,7 @@ use Rattle.fleet_wire.specs.Record.{Told}
 use Rattle.fleet_observe.specs.Members.{Has, IsAscending}
 use Rattle.fleet_observe.specs.Fact.{IsDataType}
 use Rattle.fleet_observe.specs.declared.rrset.RrSet.{RrSet}
+use Rattle.fleet_observe.specs.declared.rows.Rows.{Rows}
 
 -- octets that are a name in full
 pub record SpellsName (octets : List ℕ) : Type 0 where
@@ -66,6 +67,10 @@ pub record IsRrSet (s : List Told) (n : List (List ℕ)) (t : ℕ) (x : Set) : T
 
 abbrev pub set_of : {A : Type 0} → RrSet A → Set
 set_of x = record { name = x.name; rtype = x.rtype; ttl = x.ttl; rdatas = x.rdatas }
+
+-- records of one owner and type that are lent
+abbrev pub set_lent : {A : Type 0} → Rows A → Set
+set_lent r = record { name = r.name.now; rtype = r.rtype; ttl = r.ttl; rdatas = r.rdatas.now }
 
 -- RRsets, as plain data
 abbrev pub sets_of : {A : Type 0} → List (RrSet A) → List Set

@@ -19,6 +19,7 @@ mod relayed;
 #[cfg(test)]
 mod replies;
 mod reply;
+mod rows;
 mod rrset;
 mod soa;
 mod summary;
@@ -39,6 +40,7 @@ pub use order::preference_laws;
 pub use rdatas::Rdatas;
 pub use relayed::relay;
 pub use reply::digest;
+pub use rows::{Rows, add_rows, add_soa};
 pub use rrset::RrSet;
 pub use soa::Soa;
 pub use summary::Digest;

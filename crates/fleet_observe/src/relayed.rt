@@ -3,12 +3,10 @@
 ghost use Rattle.std.specs.Prelude.{◌≡◌, ℕ, ◌<◌, IfOk, OnOk};
 ghost use Rattle.fleet_wire.specs.Question.{asked};
 ghost use Rattle.fleet_wire.specs.Outline.{octets_of_outline};
-ghost use Rattle.fleet_observe.specs.RrSet.{set_of};
 ghost use Rattle.fleet_observe.specs.Digest.{ending_of, soa_in};
-ghost use Rattle.fleet_observe.specs.Relayed.{code_of, is_cut, set_lines, soa_lines, relayed, with_answers, with_authorities, with_end};
+ghost use Rattle.fleet_observe.specs.Relayed.{code_of, is_cut, soa_lines, relayed, with_authorities, with_end};
 
-use crate::checks::SOA;
-use crate::rrset::RrSet;
+use crate::rows::{add_rows, add_soa};
 use crate::soa::Soa;
 use crate::summary::Digest;
 use crate::told::End;
@@ -41,35 +39,28 @@ fn is_cut_off<A: Allocator>(end: &End<A>) -> bool
     }
 }
 
-// Adds the records of an RRset to the answer section.
-fn put_set<A: Allocator + Copy>(outline: &mut Outline<A>, set: &RrSet<A>) -> Result<(), AllocError>
-    ensures { OnOk result (outline.new ≡ with_answers outline.old (set_lines (set_of set.now))) }
-{
-    for rdata in set.rdatas.as_slice() {
-        outline.answer(&set.name, set.rtype, set.ttl, rdata.as_slice())?;
-    }
-    Ok(())
-}
-
 // Adds an SOA, if there is one, to the authority section.
-fn put_soa<A: Allocator + Copy>(
-    outline: &mut Outline<A>,
-    soa: &Option<Soa<A>>,
+fn put_soa<'a, A: Allocator + Copy>(
+    outline: &mut Outline<'a, A>,
+    soa: &'a Option<Soa<A>>,
 ) -> Result<(), AllocError>
-    ensures { OnOk result (outline.new ≡ with_authorities outline.old (soa_lines (soa_in soa.now))) }
+    ensures { OnOk result (outline.new ≡ with_authorities outline.old (soa_lines (soa_in soa.entry.now))) }
 {
     match soa {
         None => Ok(()),
-        Some(soa) => outline.authority(&soa.owner, SOA, soa.ttl, soa.rdata.as_slice()),
+        Some(soa) => add_soa(outline, &soa.owner, soa.ttl, soa.rdata.as_slice()),
     }
 }
 
 // Adds the records of an end.
-fn put_end<A: Allocator + Copy>(outline: &mut Outline<A>, end: &End<A>) -> Result<(), AllocError>
-    ensures { OnOk result (outline.new ≡ with_end outline.old (ending_of end.now)) }
+fn put_end<'a, A: Allocator + Copy>(
+    outline: &mut Outline<'a, A>,
+    end: &'a End<A>,
+) -> Result<(), AllocError>
+    ensures { OnOk result (outline.new ≡ with_end outline.old (ending_of end.entry.now)) }
 {
     match end {
-        End::Records(set) => put_set(outline, set),
+        End::Records(set) => add_rows(outline, set.rows()),
         End::NoData(soa) => put_soa(outline, soa),
         End::NxDomain(soa) => put_soa(outline, soa),
         End::Code(_) => Ok(()),
@@ -78,21 +69,21 @@ fn put_end<A: Allocator + Copy>(outline: &mut Outline<A>, end: &End<A>) -> Resul
 }
 
 // An outline that says what the digest says.
-fn outline_of<A: Allocator + Copy>(
+fn outline_of<'a, A: Allocator + Copy>(
     alloc: A,
-    digest: &Digest<A>,
-    question: &Question<A>,
+    digest: &'a Digest<A>,
+    question: &'a Question<A>,
     id: u16,
     rd: bool,
-) -> Result<Outline<A>, AllocError>
-    ensures { IfOk result (λ o. o ≡ relayed digest.now (asked question.now) id rd) }
+) -> Result<Outline<'a, A>, AllocError>
+    ensures { IfOk result (λ o. o ≡ relayed digest.entry.now (asked question.entry.now) id rd) }
 {
     let end = digest.end();
     let rcode = code_of_end(end);
     let tc = is_cut_off(end);
-    let mut outline = Outline::new(alloc, id, 0, rd, rcode, tc, Some(question))?;
+    let mut outline = Outline::new(alloc, id, 0, rd, rcode, tc, Some(question));
     for link in digest.chain() {
-        put_set(&mut outline, link)?;
+        add_rows(&mut outline, link.rows())?;
     }
     put_end(&mut outline, end)?;
     Ok(outline)

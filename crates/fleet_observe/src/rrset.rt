@@ -4,10 +4,11 @@ ghost use Rattle.std.specs.Prelude.{◌≡◌, ℕ, ◌≤◌, ◌⊎◌, ◌↔
 ghost use Rattle.fleet_name.specs.Name.{labels_of};
 ghost use Rattle.fleet_wire.specs.Record.{told, all_told};
 ghost use Rattle.fleet_observe.specs.Members.{Has, IsAscending};
-ghost use Rattle.fleet_observe.specs.RrSet.{SpellsName, Belongs, InSet, IsTtl, IsRrSet, read_ttl, set_of, count_below};
+ghost use Rattle.fleet_observe.specs.RrSet.{SpellsName, Belongs, InSet, IsTtl, IsRrSet, read_ttl, set_of, set_lent, count_below};
 
 use crate::checks::{LONGEST_LIFE, is_data_type};
 use crate::rdatas::Rdatas;
+use crate::rows::Rows;
 use fleet_name::{Name, Octets};
 use fleet_wire::Record;
 use std::alloc::{AllocError, Allocator, Global};
@@ -23,6 +24,20 @@ pub struct RrSet<A: Allocator = Global> {
     pub ttl: u32,
     /// Their RDATAs, ascending as octets, each once.
     pub rdatas: Rdatas<A>,
+}
+
+impl<A: Allocator> RrSet<A> {
+    /// Its records, as they are told in a reply.
+    pub fn rows(&self) -> Rows<A>
+        ensures { set_lent result ≡ set_of self.now }
+    {
+        Rows {
+            name: &self.name,
+            rtype: self.rtype,
+            ttl: self.ttl,
+            rdatas: self.rdatas.as_slice(),
+        }
+    }
 }
 
 /// Whether the record is of the RRset at this name, in full, and type.

@@ -1,7 +1,0 @@
-use Rattle.std.proofs.Common.{◌≡◌, take, map}
-use Rattle.fleet_wire.specs.Outline.{line}
-use Rattle.fleet_observe.specs.Relayed.{with_answers}
-use Rattle.fleet_observe.proofs.relayed.put_set.Given as goal
-
-abbrev pub invariant-loop-rdata : goal.invariant-loop-rdata
-invariant-loop-rdata g l = l.outline ≡ with_answers l.fn.outline (map (line l.set.name l.set.rtype l.set.ttl) (take l.rdata-index l.rdata-items))
