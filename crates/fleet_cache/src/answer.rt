@@ -4,6 +4,7 @@ ghost use Rattle.std.specs.Prelude.{◌≡◌, ℕ, ◌≤◌, ◌++◌, [], ◌
 ghost use Rattle.fleet_name.specs.Name.{wire, IsName};
 ghost use Rattle.fleet_observe.specs.Fact.{Fact};
 ghost use Rattle.fleet_cache.specs.Slots.{items_of, IsLaid};
+ghost use Rattle.fleet_cache.specs.Noted.{AreNoted};
 ghost use Rattle.fleet_cache.specs.Best.{IsWire};
 ghost use Rattle.fleet_cache.specs.Cached.{IsCached};
 ghost use Rattle.fleet_cache.specs.Live.{shown_ttl as ttl_at};
@@ -12,6 +13,7 @@ ghost use Rattle.fleet_cache.specs.Shown.{part_of, parts_of};
 ghost use Rattle.fleet_cache.specs.Told.{told, onto};
 ghost use Rattle.fleet_cache.specs.Path.{shown_part};
 
+use crate::denied::Denied;
 use crate::lookup::deciding;
 use crate::shown::Shown;
 use crate::store::Fronts;
@@ -134,18 +136,20 @@ fn ending<A: Allocator>(chain: Chain<A>, last: Shown<A>) -> Answer<A>
 pub(crate) fn follow<A: Allocator + Copy>(
     alloc: A,
     fronts: &Fronts<A>,
+    denied: &Denied,
     name: &[u8],
     rtype: u16,
     moment: Moment,
 ) -> Result<Answer<A>, AllocError>
     requires laid { IsLaid (λ k. k.items) fronts.now.entries }
+    requires noted { AreNoted denied.now (items_of fronts.now.entries) }
     requires named { IsWire name.now }
     ensures told { (n : List (List ℕ)) → name.now ≡ wire n → (s : List Fact) → (floor : ℕ) → floor ≤ moment → IsCached s floor (items_of fronts.now.entries) → IfOk result (λ a. told a ≡ answer_of s moment n rtype) }
 {
     let mut links = Vec::new(alloc);
     let mut at = name;
     loop {
-        let Some(observation) = deciding(fronts, at, rtype, moment) else {
+        let Some(observation) = deciding(fronts, denied, at, rtype, moment) else {
             return Ok(Answer::Miss);
         };
         if !is_link(observation, rtype) {
