@@ -10,6 +10,7 @@ mod Slots
 mod Sweeps
 mod Best
 mod Looked
+mod Climbed
 mod Answers
 mod Follow
 mod Paths

@@ -11,6 +11,7 @@ pub mod Packed
 pub mod Best
 pub mod Orders
 pub mod Slots
+pub mod Noted
 pub mod Swept
 pub mod Underway
 pub mod Path

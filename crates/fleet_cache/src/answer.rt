@@ -4,6 +4,7 @@ ghost use Rattle.std.specs.Prelude.{◌≡◌, ℕ, ◌≤◌, List};
 ghost use Rattle.fleet_name.specs.Name.{wire, IsName};
 ghost use Rattle.fleet_observe.specs.Fact.{Fact};
 ghost use Rattle.fleet_cache.specs.Slots.{items_of, IsLaid};
+ghost use Rattle.fleet_cache.specs.Noted.{AreNoted};
 ghost use Rattle.fleet_cache.specs.Best.{IsWire};
 ghost use Rattle.fleet_cache.specs.Cached.{IsCached};
 ghost use Rattle.fleet_cache.specs.Live.{shown_ttl as ttl_at};
@@ -12,6 +13,7 @@ ghost use Rattle.fleet_cache.specs.Shown.{part_of, parts_of, AllSome};
 ghost use Rattle.fleet_cache.specs.Told.{told, onto, chain_of};
 ghost use Rattle.fleet_cache.specs.Path.{shown_part};
 
+use crate::denied::Denied;
 use crate::lookup::deciding;
 use crate::shown::Shown;
 use crate::store::Fronts;
@@ -104,11 +106,13 @@ fn ending<'a, A: Allocator>(chain: Chain<'a, A>, last: Shown<'a, A>) -> Answer<'
 /// Follows the aliases from a name, by its octets.
 pub(crate) fn follow<'a, A: Allocator>(
     fronts: &'a Fronts<A>,
+    denied: &Denied,
     name: &[u8],
     rtype: u16,
     moment: Moment,
 ) -> Answer<'a, A>
     requires laid { IsLaid (λ k. k.items) fronts.now.entries }
+    requires noted { AreNoted denied.now (items_of fronts.now.entries) }
     requires named { IsWire name.now }
     ensures filled { AllSome (chain_of result) }
     ensures told { (n : List (List ℕ)) → name.now ≡ wire n → (s : List Fact) → (floor : ℕ) → floor ≤ moment → IsCached s floor (items_of fronts.now.entries) → told result ≡ answer_of s moment n rtype }
@@ -116,7 +120,7 @@ pub(crate) fn follow<'a, A: Allocator>(
     let mut chain = ArrayVec::new();
     let mut at = name;
     loop {
-        let Some(observation) = deciding(fronts, at, rtype, moment) else {
+        let Some(observation) = deciding(fronts, denied, at, rtype, moment) else {
             return Answer::Miss;
         };
         let part = shown(observation, moment);

@@ -9,6 +9,7 @@ ghost use Rattle.fleet_cache.specs.Told.{told, chain_of};
 ghost use Rattle.fleet_cache.specs.Kinds.{HasKinds};
 
 use crate::answer::{Answer, follow};
+use crate::denied::Denied;
 use crate::items::Items;
 use crate::store::{Fronts, covers, store};
 use crate::sweep::{Cursor, sweep};
@@ -34,12 +35,13 @@ pub struct Stopped {
 /// The fronts may hold observations that ended by the floor: they are shown to nobody, and a sweep,
 /// which goes on at the cursor, drops some of them at each purge. `most` is how many the fronts hold
 /// at most, so that they can be counted: at the greatest number, which no machine reaches, nothing
-/// more is taken.
+/// more is taken. `denied` says at which names a name error may stand.
 #[derive(Drop)]
 pub struct Cache<A: Allocator = Global> {
     floor: Moment,
     most: usize,
     fronts: Fronts<A>,
+    denied: Denied,
     cursor: Cursor<A>,
     alloc: A,
 }
@@ -50,12 +52,13 @@ impl<A: Allocator> Model for Cache<A> {
     ghost use Rattle.fleet_cache.specs.Live.{hidden};
     ghost use Rattle.fleet_cache.specs.Cached.{Held, IsKept};
     ghost use Rattle.fleet_cache.specs.Slots.{items_of, IsLaid};
+    ghost use Rattle.fleet_cache.specs.Noted.{AreNoted};
 
     ghost Value = { Held };
 
     ghost view = { λ c. record { floor = c.floor; items = shown hidden c.floor (items_of c.fronts.entries) } };
 
-    ghost invariant = { λ c. IsKept (items_of c.fronts.entries) × IsLaid (λ k. k.items) c.fronts.entries × (length (items_of c.fronts.entries) ≤ c.most) };
+    ghost invariant = { λ c. IsKept (items_of c.fronts.entries) × IsLaid (λ k. k.items) c.fronts.entries × (length (items_of c.fronts.entries) ≤ c.most) × AreNoted c.denied (items_of c.fronts.entries) };
 }
 
 impl<A: Allocator> Cache<A> {
@@ -70,6 +73,7 @@ impl<A: Allocator> Cache<A> {
             floor: Moment::new(0).unwrap(),
             most: 0,
             fronts: BTreeMap::new(alloc),
+            denied: Denied::new(),
             cursor: Cursor::new(alloc),
             alloc,
         }
@@ -94,6 +98,7 @@ impl<A: Allocator> Cache<A> {
             return self.take_uncounted(&observation);
         }
         self.cursor.make_room(&self.fronts, &observation)?;
+        self.denied.note(&observation);
         let kept = store(&mut self.fronts, self.alloc, observation)?;
         self.most += 1;
         Ok(kept)
@@ -167,6 +172,7 @@ impl<A: Allocator> Cache<A> {
         self.floor = Moment::new(0).unwrap();
         self.most = 0;
         self.fronts.clear();
+        self.denied = Denied::new();
         self.cursor.rewind();
     }
 
@@ -222,7 +228,13 @@ impl<A: Allocator> Cache<A> {
         ensures told { (s : List Fact) → IsCached s self.now.floor self.now.items → told result ≡ answer_of s (max self.now.floor moment) question.now.name question.now.rtype }
     {
         let at = later(self.floor, moment);
-        follow(&self.fronts, question.name.octets(), question.rtype, at)
+        follow(
+            &self.fronts,
+            &self.denied,
+            question.name.octets(),
+            question.rtype,
+            at,
+        )
     }
 
     /// How many fronts are in memory, also those of which all has ended.

@@ -7,6 +7,7 @@
 
 mod answer;
 mod cache;
+mod denied;
 mod item;
 mod items;
 mod laws;

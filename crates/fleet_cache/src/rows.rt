@@ -330,6 +330,56 @@ fn a_name_error_removes_nothing(rt: HostRuntime) -> Result<(), Fail> {
 }
 
 #[test]
+fn a_name_error_is_found_from_below(rt: HostRuntime) -> Result<(), Fail> {
+    let owner = b"\x07example\0";
+    let b = b"\x01b\x07example\0";
+    let below = b"\x01x\x01y\x01b\x07example\0";
+    let told = Told::NxDomain(0, 290);
+    let mut cache = Cache::new(rt.alloc());
+    let longer = denied(&rt, b"\x02cc\x07example\0", None, owner, 1, 100, 10)?;
+    assert!(rt; cache.take(longer)?);
+    assert_eq!(rt; answered(&rt, &cache, below, 1, 105)?, Told::Miss);
+    assert!(rt; cache.take(denied(&rt, b, None, owner, 1, 100, 300)?)?);
+    assert!(rt; cache.take(seen(&rt, EXAMPLE, 1, FIRST, 3, 100, 900)?)?);
+    assert_eq!(rt; answered(&rt, &cache, below, 1, 110)?, told);
+    let mut other = Cache::new(rt.alloc());
+    assert!(rt; other.take(seen(&rt, below, 28, FIRST, 3, 100, 900)?)?);
+    other.merge(&cache)?;
+    assert_eq!(rt; answered(&rt, &other, below, 1, 110)?, told);
+    other.purge(at(110)?);
+    assert_eq!(rt; other.len(), 3);
+    assert_eq!(rt; answered(&rt, &other, below, 1, 110)?, told);
+    other.purge(at(400)?);
+    assert_eq!(rt; other.len(), 2);
+    assert_eq!(rt; answered(&rt, &other, below, 1, 400)?, Told::Miss);
+    other.clear();
+    assert_eq!(rt; answered(&rt, &other, below, 1, 110)?, Told::Miss);
+    assert!(rt; other.take(denied(&rt, b, None, owner, 1, 100, 300)?)?);
+    assert_eq!(rt; answered(&rt, &other, below, 1, 110)?, told);
+    Ok(())
+}
+
+#[test]
+fn names_of_any_length_may_not_exist(rt: HostRuntime) -> Result<(), Fail> {
+    // The longest name: 255 octets in full.
+    let mut longest = [b'a'; 255];
+    longest[0] = 63;
+    longest[64] = 63;
+    longest[128] = 63;
+    longest[192] = 61;
+    longest[254] = 0;
+    for name in [longest.as_slice(), b"\0".as_slice()] {
+        let mut cache = Cache::new(rt.alloc());
+        assert!(rt; cache.take(denied(&rt, name, None, b"\0", 1, 100, 300)?)?);
+        assert_eq!(rt;
+            answered(&rt, &cache, &longest, 1, 110)?,
+            Told::NxDomain(0, 290)
+        );
+    }
+    Ok(())
+}
+
+#[test]
 fn no_data_holds_for_one_type(rt: HostRuntime) -> Result<(), Fail> {
     let mut cache = Cache::new(rt.alloc());
     let empty = denied(&rt, EXAMPLE, Some(28), b"\x03com\0", 1, 100, 10800)?;

@@ -43,6 +43,7 @@ invariant_of-self-2 g c =
       kept_put items (items_of c.store.new.fronts.entries) c.args.observation c.self.invariant.0 c.expires.ensures.lawful (put.taken items c.self.invariant.0.front),
       put.laid,
       omega (arith, put.size, c.self.invariant.2),
+      λ o h. c.note.ensures items c.self.invariant.3 o ((put.taken items c.self.invariant.0.front).of_set o h),
     )
 
 -- what is told of a value holds where there is one
