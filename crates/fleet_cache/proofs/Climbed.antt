@@ -10,7 +10,7 @@ use Rattle.fleet_cache.specs.Answer.{better}
 use Rattle.fleet_cache.specs.Orders.{greater_from, preferred_chain, wire_exact}
 use Rattle.fleet_cache.proofs.Fronts.{bool_cases}
 use Rattle.fleet_cache.proofs.Best.{AtLeast, not_above, at_least_chain, never_both, denied_root, denied_more}
-use Rattle.fleet_cache.proofs.Names.{Begins, root_read, more_read}
+use Rattle.fleet_cache.proofs.Names.{Begins, root_read}
 
 -- of the best so far and the best above it, the better one is the best of all
 pub record IsClimbed (t : ℕ) (items : List Fact) (name at : List ℕ) (best : Option Fact) : Type 0 where

@@ -1,4 +1,4 @@
-use Rattle.std.proofs.Common.{◌≡◌, ◌+◌, ◌∙◌, drop, sym, ap, subst, arith}
+use Rattle.std.proofs.Common.{◌≡◌, ◌+◌, ◌∙◌, drop, sym, ap, subst}
 use Rattle.fleet_name.specs.Name.{wire}
 use Rattle.fleet_cache.specs.Slots.{items_of}
 use Rattle.fleet_cache.specs.Best.{IsBest, Denies, seen}

@@ -1,4 +1,4 @@
-use Rattle.std.proofs.Common.{◌≡◌, ◌⊎◌, inl, inr, subst, sym}
+use Rattle.std.proofs.Common.{◌⊎◌, inl, inr, subst, sym}
 use Rattle.fleet_cache.specs.Slots.{items_of}
 use Rattle.fleet_cache.specs.Best.{IsBest, IsOn, seen}
 use Rattle.fleet_cache.proofs.Best.{best_or, best_same}
