@@ -12,7 +12,6 @@ use fleet_pending::Addr;
 use fleet_wire::ReadFault;
 use std::alloc::{AllocError, Allocator, Global};
 use std::marker::Model;
-use std::slice;
 use thiserror::Error;
 
 /// Octets, and where they go.
@@ -35,7 +34,7 @@ pub struct Packets<A: Allocator = Global> {
 #[derive(Drop)]
 enum Items<A: Allocator> {
     /// A single one, in place.
-    One(Packet<A>),
+    One([Packet<A>; 1]),
     /// Any number of them.
     Many(Vec<Packet<A>, A>),
 }
@@ -66,7 +65,7 @@ impl<A: Allocator> Packets<A> {
         ensures len { length result.now ≡ length self.now }
     {
         match &self.items {
-            Items::One(packet) => slice::from_ref(packet),
+            Items::One(packets) => packets,
             Items::Many(packets) => packets.as_slice(),
         }
     }
@@ -76,7 +75,7 @@ impl<A: Allocator> Packets<A> {
         ensures { result ≡ record { to = to; octets = bytes } ∷ [] }
     {
         Packets {
-            items: Items::One(Packet { to, bytes }),
+            items: Items::One([Packet { to, bytes }]),
         }
     }
 }
