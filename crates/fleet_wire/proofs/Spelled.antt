@@ -1,12 +1,12 @@
 -- Labels of any case, the octets that spell them, and lower case.
-use Rattle.std.proofs.Common.{◌≡◌, ℕ, zero, suc, ◌+◌, ◌<◌, ◌≤◌, List, [], ◌∷◌, ◌++◌, length, take, drop, refl, sym, ap, ◌∙◌, subst, arith, append_assoc, length-append}
+use Rattle.std.proofs.Common.{◌≡◌, ℕ, zero, suc, ◌+◌, ◌<◌, ◌≤◌, List, [], ◌∷◌, ◌++◌, length, take, drop, refl, sym, ap, ◌∙◌, arith, append_assoc, length-append}
 use Rattle.std.proofs.Math.Seq.{drop-append_seam, take-append_seam}
 use Rattle.std.proofs.lemmas.Grind.{flat_map-append}
 use Rattle.std.proofs.lemmas.List.{length-map, map-append, append-nil, take-map, take-append-drop}
 use Rattle.std.proofs.lemmas.Str.Ascii.{lowercase-lowercase, lowercase_is}
 use Rattle.std.specs.List.{flat_map, AllByRecursion, drop-map}
 use Rattle.std.specs.Char.{to_ascii_lowercase}
-use Rattle.fleet_name.specs.Name.{frame, wire, lower, lower_all, labels_after, labels_of, IsLabel, IsName, IsSpelling}
+use Rattle.fleet_name.specs.Name.{frame, wire, lower, lower_all, labels_after, labels_of, IsLabel, IsName}
 
 -- a label of any case
 abbrev pub IsLong : List ℕ → Type 0
@@ -56,14 +56,6 @@ long_labels (l ∷ n) all = ((all.0.some, all.0.short), long_labels n all.1)
 -- the octets of a name are read as it
 pub labels_whole : (octets : List ℕ) (n : List (List ℕ)) → octets ≡ wire n → IsName n → labels_of octets ≡ n
 labels_whole octets n is named = ap labels_of is ∙ labels_of-wire n (long_labels n named.labels)
-
-pub spelling_whole : (octets : List ℕ) (n : List (List ℕ)) → octets ≡ wire n → IsName n → IsSpelling octets
-spelling_whole octets n is named =
-    let labels = labels_whole octets n is named in
-    record { whole = is ∙ ap wire (sym labels); lawful = subst (λ (x : List (List ℕ)). IsName x) (sym (lower_same n named.labels) ∙ ap lower_all (sym labels)) named }
-
-pub lower_whole : (octets : List ℕ) (n : List (List ℕ)) → octets ≡ wire n → IsName n → lower_all (labels_of octets) ≡ n
-lower_whole octets n is named = ap lower_all (labels_whole octets n is named) ∙ lower_same n named.labels
 
 pub named_root : IsName []
 named_root = record { labels = tt; fits = omega arith }

@@ -1,28 +1,18 @@
 //! Replies that are to be written.
 
 ghost use Rattle.std.specs.Prelude.{◌≡◌, ◌<◌, [], Some, None, OnOk, OnErr, IsTrue, MatchOption};
-ghost use Rattle.fleet_name.specs.Name.{IsName};
 ghost use Rattle.fleet_wire.specs.Question.{asked, asked_lent};
-ghost use Rattle.fleet_wire.specs.Line.{told_line};
 ghost use Rattle.fleet_wire.specs.Outline.{line, with_answer, with_authority, IsAskedIfAny};
 
 use crate::question::Question;
+use crate::section::{Section, line_of};
 use fleet_name::Name;
 use std::alloc::{AllocError, Allocator, Global};
 use std::marker::Model;
 
-// A record of the class IN, lent: its owner, its type, its TTL in seconds and its RDATA.
-#[derive(Drop)]
-pub(crate) struct Line<'a, A: Allocator> {
-    pub(crate) name: &'a Name<A>,
-    pub(crate) rtype: u16,
-    pub(crate) ttl: u32,
-    pub(crate) rdata: &'a [u8],
-}
-
 /// What a reply is to say: header fields, a question if any, and lines of the answer and authority
 /// sections. A line is a record of the class IN. The question and what the lines say are lent for as
-/// long as the outline lives, and nothing of them is copied.
+/// long as the outline lives, and nothing of them is copied. Four lines of a section take no memory.
 #[derive(Drop)]
 pub struct Outline<'a, A: Allocator = Global> {
     pub(crate) id: u16,
@@ -31,21 +21,20 @@ pub struct Outline<'a, A: Allocator = Global> {
     pub(crate) rcode: u8,
     pub(crate) tc: bool,
     pub(crate) question: Option<&'a Question<A>>,
-    pub(crate) answer: Vec<Line<'a, A>, A>,
-    pub(crate) authority: Vec<Line<'a, A>, A>,
+    pub(crate) answer: Section<'a, A>,
+    pub(crate) authority: Section<'a, A>,
 }
 
 impl<'a, A: Allocator> Model for Outline<'a, A> {
     ghost use Rattle.std.specs.Prelude.{ℕ, ◌<◌};
     ghost use Rattle.fleet_wire.specs.Question.{asked_lent};
-    ghost use Rattle.fleet_wire.specs.Line.{told_lines};
     ghost use Rattle.fleet_wire.specs.Outline.{Sketch, sketch, IsSketch};
 
     ghost Value = { Sketch };
 
-    ghost view = { λ o. sketch o.id o.opcode o.rd o.rcode o.tc (asked_lent o.question) (told_lines o.answer.items) (told_lines o.authority.items) };
+    ghost view = { λ o. sketch o.id o.opcode o.rd o.rcode o.tc (asked_lent o.question) o.answer o.authority };
 
-    ghost invariant = { λ o. IsSketch (sketch o.id o.opcode o.rd o.rcode o.tc (asked_lent o.question) (told_lines o.answer.items) (told_lines o.authority.items)) };
+    ghost invariant = { λ o. IsSketch (sketch o.id o.opcode o.rd o.rcode o.tc (asked_lent o.question) o.answer o.authority) };
 }
 
 impl<'a, A: Allocator + Copy> Outline<'a, A> {
@@ -75,8 +64,8 @@ impl<'a, A: Allocator + Copy> Outline<'a, A> {
             rcode,
             tc,
             question,
-            answer: Vec::new(alloc),
-            authority: Vec::new(alloc),
+            answer: Section::new(alloc),
+            authority: Section::new(alloc),
         }
     }
 
@@ -92,8 +81,7 @@ impl<'a, A: Allocator + Copy> Outline<'a, A> {
         ensures ok { OnOk result (self.new ≡ with_answer self.old (line name.entry.now rtype ttl rdata.entry.now)) }
         ensures err { OnErr result (self.new ≡ self.old) }
     {
-        self.answer.push(line_of(name, rtype, ttl, rdata))?;
-        Ok(())
+        self.answer.push(line_of(name, rtype, ttl, rdata))
     }
 
     /// Adds a line at the end of the authority section: its owner, its type, its TTL in seconds and
@@ -108,28 +96,7 @@ impl<'a, A: Allocator + Copy> Outline<'a, A> {
         ensures ok { OnOk result (self.new ≡ with_authority self.old (line name.entry.now rtype ttl rdata.entry.now)) }
         ensures err { OnErr result (self.new ≡ self.old) }
     {
-        self.authority.push(line_of(name, rtype, ttl, rdata))?;
-        Ok(())
-    }
-}
-
-// A line, whose owner is a name.
-fn line_of<'a, A: Allocator>(
-    name: &'a Name<A>,
-    rtype: u16,
-    ttl: u32,
-    rdata: &'a [u8],
-) -> Line<'a, A>
-    ensures line { told_line result ≡ line name.entry.now rtype ttl rdata.entry.now }
-    ensures named { IsName name.entry.now }
-{
-    // What the proof needs to know of the name.
-    prove!(!name.octets().is_empty());
-    Line {
-        name,
-        rtype,
-        ttl,
-        rdata,
+        self.authority.push(line_of(name, rtype, ttl, rdata))
     }
 }
 

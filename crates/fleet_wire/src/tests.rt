@@ -191,6 +191,26 @@ fn what_passes_512_octets_is_cut_off(rt: HostRuntime) -> Result<(), Fail> {
 }
 
 #[test]
+fn lines_stand_in_their_order(rt: HostRuntime) -> Result<(), Fail> {
+    // More lines than take no memory.
+    let root: Name = Name::root(rt.alloc())?;
+    let mut outline: Outline = Outline::new(rt.alloc(), 7, 0, false, 0, false, None);
+    for rdata in [b"a", b"b", b"c", b"d", b"e", b"f"] {
+        outline.answer(&root, 16, 300, rdata)?;
+    }
+    let written = write_reply(rt.alloc(), &outline)?;
+    let want = b"\x00\x07\x80\x80\x00\x00\x00\x06\x00\x00\x00\x00\
+        \x00\x00\x10\x00\x01\x00\x00\x01\x2c\x00\x01a\
+        \x00\x00\x10\x00\x01\x00\x00\x01\x2c\x00\x01b\
+        \x00\x00\x10\x00\x01\x00\x00\x01\x2c\x00\x01c\
+        \x00\x00\x10\x00\x01\x00\x00\x01\x2c\x00\x01d\
+        \x00\x00\x10\x00\x01\x00\x00\x01\x2c\x00\x01e\
+        \x00\x00\x10\x00\x01\x00\x00\x01\x2c\x00\x01f";
+    assert_eq!(rt; written.as_slice(), want.as_slice());
+    Ok(())
+}
+
+#[test]
 fn rdata_that_is_not_plain(rt: HostRuntime) {
     // A number that is cut off, a name that is, and one with a label that is none.
     assert!(rt; !plain_rdata(15, b"\x00"));

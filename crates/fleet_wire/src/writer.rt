@@ -7,9 +7,11 @@ ghost use Rattle.fleet_wire.specs.Line.{told_line, told_lines};
 ghost use Rattle.fleet_wire.specs.Message.{IsReply};
 ghost use Rattle.fleet_wire.specs.Outline.{record_octets, question_octets, rows, body_size, header_octets, octets_of_outline, IsWhole, reply_sketched};
 
+use crate::line::Line;
 use crate::number::{push_long, push_short};
-use crate::outline::{Line, Outline};
+use crate::outline::Outline;
 use crate::question::Question;
+use crate::section::Section;
 use std::alloc::{AllocError, Allocator};
 
 // Adds a question in its own spelling, if there is one.
@@ -57,45 +59,52 @@ fn push_fixed<A: Allocator>(
 }
 
 // Adds a record.
-fn push_record<A: Allocator, B: Allocator>(
-    out: &mut Vec<u8, A>,
-    line: &Line<B>,
-) -> Result<(), AllocError>
+fn push_record<A: Allocator>(out: &mut Vec<u8, A>, line: &Line) -> Result<(), AllocError>
     requires { length line.now.rdata.now < 65536 }
     ensures { OnOk result (out.new.items ≡ out.old.items ++ record_octets (told_line line.now)) }
 {
-    out.extend_from_slice(line.name.octets())?;
+    out.extend_from_slice(line.owner)?;
     let count = line.rdata.len() as u16;
     push_fixed(out, line.rtype, 1, line.ttl, count)?;
     out.extend_from_slice(line.rdata)
 }
 
-// Adds records.
-fn push_records<A: Allocator, B: Allocator>(
-    out: &mut Vec<u8, A>,
-    records: &[Line<B>],
-) -> Result<(), AllocError>
-    requires { length (rows (told_lines records.now)) ≤ 512 }
-    ensures { OnOk result (out.new.items ≡ out.old.items ++ rows (told_lines records.now)) }
+// Adds the records of lines.
+fn push_lines<A: Allocator>(out: &mut Vec<u8, A>, lines: &[Line]) -> Result<(), AllocError>
+    requires { length (rows (told_lines lines.now)) ≤ 512 }
+    ensures { OnOk result (out.new.items ≡ out.old.items ++ rows (told_lines lines.now)) }
 {
-    for record in records {
-        push_record(out, record)?;
+    for line in lines {
+        push_record(out, line)?;
     }
     Ok(())
 }
 
-// How much of the room is left behind the octets of the records, if they fit.
-fn room_after<A: Allocator>(records: &[Line<A>], room: usize) -> Option<usize>
-    ensures { MatchOption result (room < length (rows (told_lines records.now))) (λ left. left + length (rows (told_lines records.now)) ≡ room) }
+// Adds the records of a section.
+fn push_section<A: Allocator, B: Allocator>(
+    out: &mut Vec<u8, A>,
+    section: &Section<B>,
+) -> Result<(), AllocError>
+    requires { length (rows section.now) ≤ 512 }
+    ensures { OnOk result (out.new.items ≡ out.old.items ++ rows section.now) }
+{
+    let (first, more) = section.parts();
+    push_lines(out, first)?;
+    push_lines(out, more)
+}
+
+// How much of the room is left behind the octets of the lines' records, if they fit.
+fn room_after(lines: &[Line], room: usize) -> Option<usize>
+    ensures { MatchOption result (room < length (rows (told_lines lines.now))) (λ left. left + length (rows (told_lines lines.now)) ≡ room) }
 {
     let mut left = room;
-    for record in records {
-        let fixed = record.name.octets().len() + 10;
+    for line in lines {
+        let fixed = line.owner.len() + 10;
         if left < fixed {
             return None;
         }
         left -= fixed;
-        let count = record.rdata.len();
+        let count = line.rdata.len();
         if left < count {
             return None;
         }
@@ -104,19 +113,28 @@ fn room_after<A: Allocator>(records: &[Line<A>], room: usize) -> Option<usize>
     Some(left)
 }
 
+// How much of the room is left behind the octets of a section, if they fit.
+fn room_behind<A: Allocator>(section: &Section<A>, room: usize) -> Option<usize>
+    ensures { MatchOption result (room < length (rows section.now)) (λ left. left + length (rows section.now) ≡ room) }
+{
+    let (first, more) = section.parts();
+    let left = room_after(first, room)?;
+    room_after(more, left)
+}
+
 // How many octets header, question and records have, if they fit a message.
 fn size_within<A: Allocator>(
     question: Option<&Question<A>>,
-    answer: &[Line<A>],
-    authority: &[Line<A>],
+    answer: &Section<A>,
+    authority: &Section<A>,
 ) -> Option<usize>
     ensures size { MatchOption result
-        (512 < 12 + body_size (asked_lent question.entry) (told_lines answer.now) (told_lines authority.now))
-        (λ size. size ≡ 12 + body_size (asked_lent question.entry) (told_lines answer.now) (told_lines authority.now)) }
+        (512 < 12 + body_size (asked_lent question.entry) answer.now authority.now)
+        (λ size. size ≡ 12 + body_size (asked_lent question.entry) answer.now authority.now) }
     ensures short { IfSome result (λ size. size ≤ 512) }
 {
-    let room = room_after(answer, 500 - question_size(question))?;
-    let left = room_after(authority, room)?;
+    let room = room_behind(answer, 500 - question_size(question))?;
+    let left = room_behind(authority, room)?;
     Some(512 - left)
 }
 
@@ -164,7 +182,7 @@ pub fn write_reply<A: Allocator, B: Allocator>(
     let authorities = outline.authority.len() as u16;
     push_header(&mut octets, outline, outline.tc, answers, authorities)?;
     push_question(&mut octets, outline.question)?;
-    push_records(&mut octets, &outline.answer)?;
-    push_records(&mut octets, &outline.authority)?;
+    push_section(&mut octets, &outline.answer)?;
+    push_section(&mut octets, &outline.authority)?;
     Ok(octets)
 }

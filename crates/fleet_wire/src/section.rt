@@ -1,0 +1,88 @@
+//! Sections of a reply that is to be written.
+
+ghost use Rattle.std.specs.Prelude.{◌≡◌, ◌≤◌, [], ◌∷◌, ◌++◌, length, OnOk, OnErr};
+ghost use Rattle.fleet_name.specs.Name.{IsName};
+ghost use Rattle.fleet_wire.specs.Outline.{line};
+ghost use Rattle.fleet_wire.specs.Line.{told_line, told_lines};
+
+use crate::line::Line;
+use arrayvec::ArrayVec;
+use fleet_name::Name;
+use std::alloc::{AllocError, Allocator};
+use std::marker::Model;
+
+// The lines of a section, in order. The first four lie in the value itself, so that a section of
+// few lines takes no memory.
+#[derive(Drop)]
+pub(crate) struct Section<'a, A: Allocator> {
+    first: ArrayVec<Line<'a>, 4>,
+    more: Vec<Line<'a>, A>,
+}
+
+impl<'a, A: Allocator> Model for Section<'a, A> {
+    ghost use Rattle.std.specs.Prelude.{List, ◌++◌};
+    ghost use Rattle.fleet_wire.specs.Record.{Told};
+    ghost use Rattle.fleet_wire.specs.Line.{told_lines};
+
+    ghost Value = { List Told };
+
+    ghost view = { λ s. told_lines s.first.items ++ told_lines s.more.items };
+}
+
+impl<'a, A: Allocator> Section<'a, A> {
+    // A section without lines.
+    pub(crate) fn new(alloc: A) -> Section<'a, A>
+        ensures { result ≡ [] }
+    {
+        Section {
+            first: ArrayVec::new(),
+            more: Vec::new(alloc),
+        }
+    }
+
+    // Adds a line at the end, or leaves the section as it was where there is no memory for it.
+    pub(crate) fn push(&mut self, line: Line<'a>) -> Result<(), AllocError>
+        ensures ok { OnOk result (self.new ≡ self.old ++ told_line line.entry ∷ []) }
+        ensures err { OnErr result (self.new ≡ self.old) }
+    {
+        if self.more.is_empty() && !self.first.is_full() {
+            self.first.push(line);
+            return Ok(());
+        }
+        self.more.push(line)?;
+        Ok(())
+    }
+
+    // How many lines there are.
+    pub(crate) fn len(&self) -> usize
+        requires { length self.now ≤ 512 }
+        ensures { result ≡ length self.now }
+    {
+        self.first.len() + self.more.len()
+    }
+
+    // The lines in the value itself, and the others.
+    pub(crate) fn parts(&self) -> (&[Line], &[Line])
+        ensures { told_lines result.0.now ++ told_lines result.1.now ≡ self.now }
+    {
+        (self.first.as_slice(), &self.more)
+    }
+}
+
+// A line.
+pub(crate) fn line_of<'a, A: Allocator>(
+    name: &'a Name<A>,
+    rtype: u16,
+    ttl: u32,
+    rdata: &'a [u8],
+) -> Line<'a>
+    ensures line { told_line result ≡ line name.entry.now rtype ttl rdata.entry.now }
+    ensures named { IsName name.entry.now }
+{
+    Line {
+        owner: name.octets(),
+        rtype,
+        ttl,
+        rdata,
+    }
+}
