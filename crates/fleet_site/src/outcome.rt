@@ -23,30 +23,21 @@ pub struct Packet<A: Allocator = Global> {
     pub bytes: Octets<A>,
 }
 
-/// Packets in order, seen by contracts as the list of what they are. A single one takes no memory
-/// but that of its octets.
+/// Packets in order, seen by contracts as the list of what they are.
 #[derive(Drop)]
 pub struct Packets<A: Allocator = Global> {
-    items: Items<A>,
-}
-
-/// Packets in order.
-#[derive(Drop)]
-enum Items<A: Allocator> {
-    /// A single one, in place.
-    One([Packet<A>; 1]),
-    /// Any number of them.
-    Many(Vec<Packet<A>, A>),
+    items: Vec<Packet<A>, A>,
 }
 
 impl<A: Allocator> Model for Packets<A> {
-    ghost use Rattle.std.specs.Prelude.{List};
+    ghost use Rattle.std.specs.Prelude.{List, map};
     ghost use Rattle.fleet_site.specs.Sent.{Sent};
-    ghost use Rattle.fleet_site.specs.Packet.{all_sent};
 
     ghost Value = { List Sent };
 
-    ghost view = { λ p. all_sent p.items };
+    ghost use Rattle.fleet_site.specs.Packet.{sent};
+
+    ghost view = { λ p. map sent p.items.items };
 }
 
 impl<A: Allocator> Packets<A> {
@@ -54,9 +45,7 @@ impl<A: Allocator> Packets<A> {
     pub fn new(items: Vec<Packet<A>, A>) -> Packets<A>
         ensures { result ≡ map sent items.items }
     {
-        Packets {
-            items: Items::Many(items),
-        }
+        Packets { items }
     }
 
     /// The packets, in their order.
@@ -64,19 +53,16 @@ impl<A: Allocator> Packets<A> {
         ensures value { map sent result.now ≡ self.now }
         ensures len { length result.now ≡ length self.now }
     {
-        match &self.items {
-            Items::One(packets) => packets,
-            Items::Many(packets) => packets.as_slice(),
-        }
+        self.items.as_slice()
     }
 
     /// One packet.
-    fn of_one(to: Addr, bytes: Octets<A>) -> Packets<A>
-        ensures { result ≡ record { to = to; octets = bytes } ∷ [] }
+    fn of_one(alloc: A, to: Addr, bytes: Octets<A>) -> Result<Packets<A>, AllocError>
+        ensures { IfOk result (λ p. p ≡ record { to = to; octets = bytes } ∷ []) }
     {
-        Packets {
-            items: Items::One([Packet { to, bytes }]),
-        }
+        let mut items = Vec::with_capacity(alloc, 1)?;
+        items.push_reserved(Packet { to, bytes });
+        Ok(Packets { items })
     }
 }
 
@@ -191,11 +177,11 @@ impl<A: Allocator + Copy> Outcome<A> {
         to: Addr,
         bytes: Octets<A>,
         refused: Option<Refusal>,
-    ) -> Outcome<A>
-        ensures { effect result ≡ record (sending to bytes) { refused = refused } }
+    ) -> Result<Outcome<A>, AllocError>
+        ensures { IfOk result (λ o. effect o ≡ record (sending to bytes) { refused = refused }) }
     {
-        let packets = Packets::of_one(to, bytes);
-        Outcome::with_packets(alloc, packets, 0, refused)
+        let packets = Packets::of_one(alloc, to, bytes)?;
+        Ok(Outcome::with_packets(alloc, packets, 0, refused))
     }
 
     /// Packets are sent, and no frames.

@@ -75,17 +75,17 @@ fn react<A: Allocator + Copy>(
 {
     match decision {
         Decision::Dropped => Ok(Outcome::silent(alloc, 0, Some(Refusal::Dropped))),
-        Decision::Reply(octets) => Ok(Outcome::sending(alloc, arrival.from, octets, None)),
+        Decision::Reply(octets) => Ok(Outcome::sending(alloc, arrival.from, octets, None)?),
         Decision::Unread(octets, fault) => {
             let refusal = Refusal::Read(fault);
-            Ok(Outcome::sending(alloc, arrival.from, octets, Some(refusal)))
+            Ok(Outcome::sending(alloc, arrival.from, octets, Some(refusal))?)
         }
         Decision::Miss(header, question) => {
             if header.rd {
                 forward(alloc, pending, upstreams, arrival, header, question)
             } else {
                 let octets = reply_without(alloc, header, 5, &question)?;
-                Ok(Outcome::sending(alloc, arrival.from, octets, None))
+                Ok(Outcome::sending(alloc, arrival.from, octets, None)?)
             }
         }
     }
@@ -161,7 +161,7 @@ fn query_for<A: Allocator + Copy>(
     match pending.entry(id) {
         Some(entry) => {
             let octets = entry_query(alloc, id, entry)?;
-            Ok(Outcome::sending(alloc, to, octets, None))
+            Outcome::sending(alloc, to, octets, None)
         }
         None => unreachable!(),
     }
@@ -195,5 +195,5 @@ fn say_full<A: Allocator + Copy>(
     ensures { IfOk result (λ o. effect o ≡ turned_away from header (asked question.now)) }
 {
     let octets = reply_without(alloc, header, 2, question)?;
-    Ok(Outcome::sending(alloc, from, octets, Some(Refusal::Full)))
+    Outcome::sending(alloc, from, octets, Some(Refusal::Full))
 }

@@ -104,7 +104,7 @@ fn plan_due<A: Allocator + Copy>(
         } => {
             let octets = entry_query(alloc, id, entry)?;
             let to = addr_of(upstreams, upstream);
-            let outcome = Outcome::sending(alloc, to, octets, None);
+            let outcome = Outcome::sending(alloc, to, octets, None)?;
             Ok(Plan::Retry(id, outcome))
         }
         Due::Failed { id, entry } => {
