@@ -1,20 +1,26 @@
 //! Answers are lent: a cache gives them while every call for memory is refused.
 
+ghost use Rattle.std.specs.Prelude.{◌<◌};
+
 use crate::command::{Command, read_command};
 use crate::fleet::Fleet;
 use crate::print::print_looked;
 use crate::tests::refused::lines::{begin, example_of, lines_of, run_line};
 use crate::tests::refusing::Refusing;
-use fleet_cache::{Answer, Chain, Shown};
+use fleet_cache::{Answer, Cache, Chain, Shown};
 use fleet_name::Octets;
+use fleet_observe::Moment;
 use fleet_site::Looked;
 use fleet_wire::{Header, Outline, Question, read_query, write_reply};
-use std::alloc::{AllocError, Allocator};
+use std::alloc::{AllocError, Allocator, Global};
 use std::test::Fail;
 
 /// What the examples show whose questions are answered so, and how many questions each has.
 const LENT: [(&str, u64); 12] = [
-    ("of two observations the higher rank answers while it lasts", 3),
+    (
+        "of two observations the higher rank answers while it lasts",
+        3,
+    ),
     ("the same in the other order", 3),
     (
         "of the same rank the later answers, and the one that lasts longer after it",
@@ -36,7 +42,10 @@ const LENT: [(&str, u64); 12] = [
         "a denial holds for three hours at most, and is told with the SOA of an ancestor",
         1,
     ),
-    ("no data behind an alias is told with the alias and the SOA", 1),
+    (
+        "no data behind an alias is told with the alias and the SOA",
+        1,
+    ),
     (
         "an alias whose target is not known is a miss, and answers where it is asked for",
         2,
@@ -67,14 +76,36 @@ fn add_links<'a, A: Allocator + Copy>(
     Ok(())
 }
 
-/// Adds the SOA of a denial to the authority section.
-fn add_denial<'a, A: Allocator + Copy>(
-    outline: &mut Outline<'a, A>,
-    part: Shown<'a, A>,
-) -> Result<(), Fail> {
-    let (owner, rdata) = part.observation.soa().ok_or("no SOA")?;
-    outline.authority(owner, 6, part.ttl, rdata)?;
-    Ok(())
+/// The reply that tells links and the records that they lead to.
+fn found<A: Allocator + Copy>(
+    alloc: A,
+    header: Header,
+    question: &Question<A>,
+    chain: &Chain<'_, A>,
+    set: Shown<'_, A>,
+) -> Result<Vec<u8, A>, Fail> {
+    let mut outline = Outline::new(alloc, header.id, 0, header.rd, 0, false, Some(question));
+    add_links(&mut outline, chain)?;
+    add_records(&mut outline, set)?;
+    Ok(write_reply(alloc, &outline)?)
+}
+
+/// The reply that tells links and the denial that they lead to, with its SOA.
+fn denied<A: Allocator + Copy>(
+    alloc: A,
+    header: Header,
+    rcode: u8,
+    question: &Question<A>,
+    chain: &Chain<'_, A>,
+    soa: Shown<'_, A>,
+) -> Result<Vec<u8, A>, Fail>
+    requires { rcode < 16 }
+{
+    let mut outline = Outline::new(alloc, header.id, 0, header.rd, rcode, false, Some(question));
+    add_links(&mut outline, chain)?;
+    let (owner, rdata) = soa.observation.soa().ok_or("no SOA")?;
+    outline.authority(owner, 6, soa.ttl, rdata)?;
+    Ok(write_reply(alloc, &outline)?)
 }
 
 /// What a site makes of an answer.
@@ -84,28 +115,31 @@ fn looked_of<A: Allocator + Copy>(
     question: &Question<A>,
     answer: &Answer<'_, A>,
 ) -> Result<Looked<A>, Fail> {
-    let rcode = match answer {
-        Answer::NxDomain { .. } => 3,
-        _ => 0,
-    };
-    let Header { id, opcode, rd, .. } = header;
-    let mut outline = Outline::new(alloc, id, opcode, rd, rcode, false, Some(question));
-    match answer {
-        Answer::Found { chain, set } => {
-            add_links(&mut outline, chain)?;
-            add_records(&mut outline, *set)?;
-        }
-        Answer::NoData { chain, soa } => {
-            add_links(&mut outline, chain)?;
-            add_denial(&mut outline, *soa)?;
-        }
-        Answer::NxDomain { chain, soa } => {
-            add_links(&mut outline, chain)?;
-            add_denial(&mut outline, *soa)?;
-        }
+    let reply = match answer {
+        Answer::Found { chain, set } => found(alloc, header, question, chain, *set)?,
+        Answer::NoData { chain, soa } => denied(alloc, header, 0, question, chain, *soa)?,
+        Answer::NxDomain { chain, soa } => denied(alloc, header, 3, question, chain, *soa)?,
         Answer::Miss => return Ok(Looked::Miss),
-    }
-    Ok(Looked::Reply(Octets::new(write_reply(alloc, &outline)?)))
+    };
+    Ok(Looked::Reply(Octets::new(reply)))
+}
+
+/// The reply to a question, looked up while every call for memory is refused, as it is printed.
+fn answered<A: Allocator + Copy>(
+    alloc: A,
+    refusing: &Refusing<Global>,
+    cache: &Cache<A>,
+    now: Moment,
+    octets: &[u8],
+) -> Result<String<A>, Fail> {
+    let (header, question) = read_query(alloc, octets)?;
+    refusing.refuse_all(true);
+    let answer = cache.answer(&question, now);
+    refusing.refuse_all(false);
+    let looked = looked_of(alloc, header, &question, &answer)?;
+    let mut printed = String::new(alloc);
+    print_looked(&mut printed, &looked)?;
+    Ok(printed)
 }
 
 #[test]
@@ -116,7 +150,7 @@ fn answers_are_lent_where_no_memory_is_left(rt: HostRuntime) -> Result<(), Fail>
         let lines = lines_of(rt.alloc(), example.transcript)?;
         let mut fleet = Fleet::new(&refusing);
         begin(&mut fleet, lines.first().ok_or("no line")?.text)?;
-        let mut answered = 0u64;
+        let mut asked = 0u64;
         for line in &lines {
             let world = fleet.world()?;
             let Command::Ask {
@@ -128,19 +162,13 @@ fn answers_are_lent_where_no_memory_is_left(rt: HostRuntime) -> Result<(), Fail>
                 run_line(world, &refusing, line.text)?;
                 continue;
             };
-            let octets = question.octets(&refusing)?;
-            let (header, question) = read_query(&refusing, octets.as_slice())?;
+            let octets = question.octets(rt.alloc())?;
             let cache = world.site(site).ok_or("no site")?.cache();
-            refusing.refuse_all(true);
-            let answer = cache.answer(&question, now);
-            refusing.refuse_all(false);
-            let looked = looked_of(&refusing, header, &question, &answer)?;
-            let mut printed = String::new(&refusing);
-            print_looked(&mut printed, &looked)?;
+            let printed = answered(&refusing, &refusing, cache, now, octets.as_slice())?;
             assert_eq!(rt; printed.as_str(), line.prints);
-            answered = answered.saturating_add(1);
+            asked = asked.saturating_add(1);
         }
-        assert_eq!(rt; answered, questions);
+        assert_eq!(rt; asked, questions);
     }
     Ok(())
 }
