@@ -9,10 +9,10 @@ use crate::tests::refused::lines::{begin, example_of, lines_of, run_line};
 use crate::tests::refusing::Refusing;
 use fleet_cache::{Answer, Cache, Chain, Shown};
 use fleet_name::Octets;
-use fleet_observe::Moment;
+use fleet_observe::{Moment, Rows, add_rows, add_soa};
 use fleet_site::Looked;
 use fleet_wire::{Header, Outline, Question, read_query, write_reply};
-use std::alloc::{AllocError, Allocator, Global};
+use std::alloc::{Allocator, Global};
 use std::test::Fail;
 
 /// What the examples show whose questions are answered so, and how many questions each has.
@@ -52,16 +52,15 @@ const LENT: [(&str, u64); 12] = [
     ),
 ];
 
-/// Adds the records of a part to the answer section.
-fn add_records<'a, A: Allocator + Copy>(
-    outline: &mut Outline<'a, A>,
-    part: Shown<'a, A>,
-) -> Result<(), AllocError> {
+/// The records of a part.
+fn rows_of<'a, A: Allocator>(part: Shown<'a, A>) -> Rows<'a, A> {
     let records = part.observation;
-    for rdata in records.rdatas() {
-        outline.answer(records.name(), records.rtype(), part.ttl, rdata.as_slice())?;
+    Rows {
+        name: records.name(),
+        rtype: records.rtype(),
+        ttl: part.ttl,
+        rdatas: records.rdatas(),
     }
-    Ok(())
 }
 
 /// Adds the records of links.
@@ -71,7 +70,7 @@ fn add_links<'a, A: Allocator + Copy>(
 ) -> Result<(), Fail> {
     for link in chain.as_slice() {
         let link = link.ok_or("an empty link")?;
-        add_records(outline, link)?;
+        add_rows(outline, rows_of(link))?;
     }
     Ok(())
 }
@@ -86,7 +85,7 @@ fn found<A: Allocator + Copy>(
 ) -> Result<Vec<u8, A>, Fail> {
     let mut outline = Outline::new(alloc, header.id, 0, header.rd, 0, false, Some(question));
     add_links(&mut outline, chain)?;
-    add_records(&mut outline, set)?;
+    add_rows(&mut outline, rows_of(set))?;
     Ok(write_reply(alloc, &outline)?)
 }
 
@@ -104,7 +103,7 @@ fn denied<A: Allocator + Copy>(
     let mut outline = Outline::new(alloc, header.id, 0, header.rd, rcode, false, Some(question));
     add_links(&mut outline, chain)?;
     let (owner, rdata) = soa.observation.soa().ok_or("no SOA")?;
-    outline.authority(owner, 6, soa.ttl, rdata)?;
+    add_soa(&mut outline, owner, soa.ttl, rdata)?;
     Ok(write_reply(alloc, &outline)?)
 }
 
