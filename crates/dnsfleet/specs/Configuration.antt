@@ -23,7 +23,8 @@ vec_read (Err fault) = Err fault
 
 -- a key that a configuration may have
 abbrev pub IsKey : List ℕ → Type 0
-IsKey key = (key ≡ codes "listen") ⊎ ((key ≡ codes "upstreams") ⊎ ((key ≡ codes "peers") ⊎ (key ≡ codes "sweep")))
+IsKey key = (key ≡ codes "listen")
+    ⊎ ((key ≡ codes "upstreams") ⊎ ((key ≡ codes "peers") ⊎ (key ≡ codes "sweep")))
 
 -- and no other key
 abbrev pub HasKeys : Members → Type 0
@@ -35,7 +36,8 @@ abbrev pub ReadsText : Option (List ℕ) → Reading Addr → Type 0
 ReadsText None (Ok addr) = ⊥
 ReadsText None (Err fault) = fault ≡ WrongKind
 ReadsText (Some text) (Ok addr) = SpellsAddress text addr
-ReadsText (Some text) (Err fault) = (fault ≡ BadAddress) × ((addr : Addr) → SpellsAddress text addr → ⊥)
+ReadsText (Some text) (Err fault) =
+    (fault ≡ BadAddress) × ((addr : Addr) → SpellsAddress text addr → ⊥)
 
 abbrev pub ReadsAddress : Data → Reading Addr → Type 0
 ReadsAddress value reading = ReadsText (as_str value) reading
@@ -44,7 +46,9 @@ ReadsAddress value reading = ReadsText (as_str value) reading
 abbrev pub ReadsListen : Option Data → Reading Addr → Type 0
 ReadsListen None reading = reading ≡ Err MissingKey
 ReadsListen (Some value) (Ok addr) = ReadsAddress value (Ok addr) × (addr.host ≡ 0x7f000001)
-ReadsListen (Some value) (Err fault) = ReadsAddress value (Err fault) ⊎ ((addr : Addr) × ReadsAddress value (Ok addr) × (addr.host ≢ 0x7f000001) × (fault ≡ NotLoopback))
+ReadsListen (Some value) (Err fault) = ReadsAddress value (Err fault)
+    ⊎ ((addr : Addr) × ReadsAddress value (Ok addr) × (addr.host ≢ 0x7f000001)
+    × (fault ≡ NotLoopback))
 
 -- a list whose entries are all texts
 abbrev pub are_texts : Items → Bool
@@ -56,18 +60,21 @@ abbrev pub SpellAddresses : Items → List Addr → Type 0
 SpellAddresses no_items [] = ⊤
 SpellAddresses no_items (addr ∷ addrs) = ⊥
 SpellAddresses (item value rest) [] = ⊥
-SpellAddresses (item value rest) (addr ∷ addrs) = ReadsAddress value (Ok addr) × SpellAddresses rest addrs
+SpellAddresses (item value rest) (addr ∷ addrs) =
+    ReadsAddress value (Ok addr) × SpellAddresses rest addrs
 
 -- a list of texts is read entry by entry; memory may run out then
 abbrev pub ReadsTexts : Items → Reading (List Addr) → Type 0
 ReadsTexts items (Ok addrs) = SpellAddresses items addrs
-ReadsTexts items (Err fault) = (fault ≡ OutOfMemory) ⊎ ((fault ≡ BadAddress) × ((addrs : List Addr) → SpellAddresses items addrs → ⊥))
+ReadsTexts items (Err fault) = (fault ≡ OutOfMemory)
+    ⊎ ((fault ≡ BadAddress) × ((addrs : List Addr) → SpellAddresses items addrs → ⊥))
 
 -- that each entry is a text is looked at before that
 abbrev pub ReadsItems : Option Items → Reading (List Addr) → Type 0
 ReadsItems None reading = reading ≡ Err WrongKind
 ReadsItems (Some items) (Ok addrs) = SpellAddresses items addrs
-ReadsItems (Some items) (Err fault) = (IsFalse (are_texts items) × (fault ≡ WrongKind)) ⊎ (IsTrue (are_texts items) × ReadsTexts items (Err fault))
+ReadsItems (Some items) (Err fault) = (IsFalse (are_texts items) × (fault ≡ WrongKind))
+    ⊎ (IsTrue (are_texts items) × ReadsTexts items (Err fault))
 
 -- `upstreams` have to be there
 abbrev pub ReadsUpstreams : Option Data → Reading (List Addr) → Type 0
@@ -83,7 +90,8 @@ ReadsPeers (Some value) reading = ReadsItems (as_array value) reading
 abbrev pub ReadsNumber : Option ℤ → Reading ℕ → Type 0
 ReadsNumber None reading = reading ≡ Err WrongKind
 ReadsNumber (Some number) (Ok sweep) = (number ≡ pos sweep) × (sweep ≤ 3600)
-ReadsNumber (Some number) (Err fault) = (fault ≡ BadSweep) × ((sweep : ℕ) → number ≡ pos sweep → 3600 < sweep)
+ReadsNumber (Some number) (Err fault) =
+    (fault ≡ BadSweep) × ((sweep : ℕ) → number ≡ pos sweep → 3600 < sweep)
 
 -- without `sweep` it is 30
 abbrev pub ReadsSweep : Option Data → Reading ℕ → Type 0
@@ -111,7 +119,8 @@ abbrev pub sweep_in : Members → Option Data
 sweep_in table = get_member (codes "sweep") table
 
 -- what they say
-pub record Says (table : Members) (listen : Addr) (upstreams peers : List Addr) (sweep : ℕ) : Type 0 where
+pub record Says (table : Members) (listen : Addr) (upstreams peers : List Addr) (sweep : ℕ)
+    : Type 0 where
   pub keys : HasKeys table
   pub in_listen : ReadsListen (listen_in table) (Ok listen)
   pub in_upstreams : ReadsUpstreams (upstreams_in table) (Ok upstreams)
@@ -123,19 +132,27 @@ abbrev pub ListenIsRead : Members → Type 0
 ListenIsRead table = HasKeys table × ((listen : Addr) × ReadsListen (listen_in table) (Ok listen))
 
 abbrev pub UpstreamsAreRead : Members → Type 0
-UpstreamsAreRead table = ListenIsRead table × ((upstreams : List Addr) × ReadsUpstreams (upstreams_in table) (Ok upstreams))
+UpstreamsAreRead table = ListenIsRead table
+    × ((upstreams : List Addr) × ReadsUpstreams (upstreams_in table) (Ok upstreams))
 
 abbrev pub PeersAreRead : Members → Type 0
-PeersAreRead table = UpstreamsAreRead table × ((peers : List Addr) × ReadsPeers (peers_in table) (Ok peers))
+PeersAreRead table =
+    UpstreamsAreRead table × ((peers : List Addr) × ReadsPeers (peers_in table) (Ok peers))
 
--- the first fault of a table: of its keys, then of their values in this order, then of the addresses together
+-- the first fault of a table: of its keys, then of their values in this order, then of the
+-- addresses together
 pub data FirstFault (table : Members) (fault : SettingsFault) : Type 0 where
   of_keys : (HasKeys table → ⊥) → fault ≡ UnknownKey → FirstFault table fault
   of_listen : HasKeys table → ReadsListen (listen_in table) (Err fault) → FirstFault table fault
-  of_upstreams : ListenIsRead table → ReadsUpstreams (upstreams_in table) (Err fault) → FirstFault table fault
-  of_peers : UpstreamsAreRead table → ReadsPeers (peers_in table) (Err fault) → FirstFault table fault
+  of_upstreams : ListenIsRead table → ReadsUpstreams (upstreams_in table) (Err fault)
+      → FirstFault table fault
+  of_peers : UpstreamsAreRead table → ReadsPeers (peers_in table) (Err fault)
+      → FirstFault table fault
   of_sweep : PeersAreRead table → ReadsSweep (sweep_in table) (Err fault) → FirstFault table fault
-  together : (listen : Addr) → (upstreams peers : List Addr) → (sweep : ℕ) → Says table listen upstreams peers sweep → (why : ConfigFault) → SettingFails upstreams peers why → fault ≡ fault_of why → FirstFault table fault
+  together : (listen : Addr) → (upstreams peers : List Addr)
+      → (sweep : ℕ) → Says table listen upstreams peers sweep
+      → (why : ConfigFault) → SettingFails upstreams peers why → fault ≡ fault_of why
+      → FirstFault table fault
 
 -- what a table is read as
 abbrev pub ReadsTable : Members → Reading Settings → Type 0
@@ -147,9 +164,12 @@ pub record IsTable (octets : List ℕ) (table : Members) : Type 0 where
   pub text : IsUtf8 octets
   pub document : parse_document octets ≡ Some table
 
--- what octets are read as: their number is looked at first, and memory may run out while they are read
+-- what octets are read as: their number is looked at first, and memory may run out while they are
+-- read
 pub data ReadsSettings (octets : List ℕ) (reading : Reading Settings) : Type 0 where
   too_long : 65536 < length octets → reading ≡ Err TooLong → ReadsSettings octets reading
   no_memory : length octets ≤ 65536 → reading ≡ Err OutOfMemory → ReadsSettings octets reading
-  no_toml : length octets ≤ 65536 → ((table : Members) → IsTable octets table → ⊥) → reading ≡ Err NotToml → ReadsSettings octets reading
-  in_table : length octets ≤ 65536 → (table : Members) → IsTable octets table → ReadsTable table reading → ReadsSettings octets reading
+  no_toml : length octets ≤ 65536 → ((table : Members) → IsTable octets table → ⊥)
+      → reading ≡ Err NotToml → ReadsSettings octets reading
+  in_table : length octets ≤ 65536 → (table : Members) → IsTable octets table
+      → ReadsTable table reading → ReadsSettings octets reading

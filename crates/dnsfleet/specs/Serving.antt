@@ -14,9 +14,10 @@ use Rattle.dnsfleet.specs.declared.settings.Settings.{Settings}
 abbrev pub words_of : List ℕ → Stream
 words_of key = stream_of (steps_u32 (next_word 10)) (of_seed key)
 
--- so many turns were served, with the upstreams, the peers and the seconds between sweeps that the settings say, by a
--- site that took nothing in before; over them it follows the model's steps
-pub record ServesNew (old new : PortState) (moments : Option (ℕ → ℕ)) (key : List ℕ) (turns : ℕ) (settings : Settings) (report : Report) : Type 0 where
+-- so many turns were served, with the upstreams, the peers and the seconds between sweeps that the
+-- settings say, by a site that took nothing in before; over them it follows the model's steps
+pub record ServesNew (old new : PortState) (moments : Option (ℕ → ℕ)) (key : List ℕ) (turns : ℕ)
+    (settings : Settings) (report : Report) : Type 0 where
   pub site : State
   pub after : State
   pub opens : StandsFor site (opening settings.config.upstreams settings.config.peers)

@@ -18,7 +18,8 @@ site_address site = local (5400 + site)
 -- the peers of a site: every other one of so many
 abbrev pub peers_of : ℕ → ℕ → List Addr
 peers_of site zero = []
-peers_of site (suc others) = cond (nat_eq others site) (peers_of site others) (peers_of site others ++ site_address others ∷ [])
+peers_of site (suc others) = cond (nat_eq others site) (peers_of site others)
+    (peers_of site others ++ site_address others ∷ [])
 
 -- where a site asks, and whom it tells
 abbrev pub setting_of : ℕ → ℕ → Setting

@@ -24,7 +24,8 @@ pub record IsPort (word : List ℕ) : Type 0 where
   pub plain : IsFalse (starts_with nat_eq word (codes "0"))
   pub fits : number_of word < 2 ^ 16
 
--- an address: four numbers below 256 without leading zeros and dots between them, a colon, and a port
+-- an address: four numbers below 256 without leading zeros and dots between them, a colon, and a
+-- port
 pub record SpellsAddress (word : List ℕ) (addr : Addr) : Type 0 where
   pub host : List ℕ
   pub port : List ℕ
@@ -35,4 +36,5 @@ pub record SpellsAddress (word : List ℕ) (addr : Addr) : Type 0 where
 
 -- a word for octets: `-` for none, else two hexadecimal digits of either case for each
 abbrev pub SpellsOctets : List ℕ → List ℕ → Type 0
-SpellsOctets word octets = ((word ≡ codes "-") × (octets ≡ [])) ⊎ ((word ≢ []) × (decode_of word ≡ Ok octets))
+SpellsOctets word octets =
+    ((word ≡ codes "-") × (octets ≡ [])) ⊎ ((word ≢ []) × (decode_of word ≡ Ok octets))

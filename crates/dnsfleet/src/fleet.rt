@@ -45,7 +45,8 @@ impl<A: Allocator + Copy> Fleet<A> {
     pub fn begin(&mut self, count: SiteCount) -> Result<(), What>
         ensures begun { OnOk result (BeginsWith count.value self.new.world) }
         ensures late { IsErrOf result What.SitesNotFirst ↔ IsSome self.old.world }
-        ensures refused { IfErr result (λ what. (what ≡ What.SitesNotFirst) ⊎ (what ≡ What.OutOfMemory)) }
+        ensures refused { IfErr result (λ what.
+            (what ≡ What.SitesNotFirst) ⊎ (what ≡ What.OutOfMemory)) }
     {
         if self.world.is_some() {
             return Err(What::SitesNotFirst);

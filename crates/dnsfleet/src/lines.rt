@@ -41,7 +41,8 @@ impl<'a, R: Read> Lines<'a, R> {
         }
     }
 
-    /// Reads the next line, without its LF, and says whether there is one. The last may lack its LF.
+    /// Reads the next line, without its LF, and says whether there is one. The last may lack its
+    /// LF.
     pub fn read<A: Allocator>(&mut self, line: &mut Vec<u8, A>) -> Result<bool, What> {
         line.clear();
         loop {
@@ -89,7 +90,8 @@ impl<'a, R: Read> Lines<'a, R> {
     }
 }
 
-/// Adds the octets before the first LF to a line. Says how many octets this was, with the LF, and whether there is one.
+/// Adds the octets before the first LF to a line. Says how many octets this was, with the LF, and
+/// whether there is one.
 fn add_piece<A: Allocator>(rest: &[u8], line: &mut Vec<u8, A>) -> Result<(usize, bool), What>
     requires { vec_len line.old ≤ LONGEST }
     ensures within { IfOk result (λ taken. taken.0 ≤ length rest.now) }

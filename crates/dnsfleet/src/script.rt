@@ -145,8 +145,9 @@ fn write_text<W: Write>(writer: &mut W, text: &str) -> io::Result<()> {
 
 /// Runs the lines of a reader on a new fleet, and writes what each prints before the next is read.
 ///
-/// The first line at fault ends it; what earlier lines printed is written then. The reader is called at most 4294967295
-/// times, and what comes after that ends as on a fault of the reader. An interrupted call of the reader is made again.
+/// The first line at fault ends it; what earlier lines printed is written then. The reader is
+/// called at most 4294967295 times, and what comes after that ends as on a fault of the reader. An
+/// interrupted call of the reader is made again.
 pub fn run_script<A: Allocator + Copy, R: Read, W: Write>(
     alloc: A,
     reader: &mut R,

@@ -80,7 +80,8 @@ pub enum ConfigurationFault {
 
 /// The key that 64 hexadecimal digits spell.
 fn key_of(text: &str) -> Option<[u8; 32]>
-    ensures { MatchOption result ((key : List ℕ) → SpellsKey text.now key → ⊥) (λ key. SpellsKey text.now key) }
+    ensures { MatchOption result ((key : List ℕ) → SpellsKey text.now key → ⊥)
+        (λ key. SpellsKey text.now key) }
 {
     let mut key = [0u8; 32];
     match hex::decode_to_slice(text, &mut key) {
@@ -138,7 +139,8 @@ fn serve_new<P: Port, C: Clock>(
     key: [u8; 32],
     turns: u32,
 ) -> Report
-    ensures { ServesNew (P.tells port.old) (P.tells port.new) (C.moments clock.old) key turns settings result }
+    ensures { ServesNew (P.tells port.old) (P.tells port.new)
+        (C.moments clock.old) key turns settings result }
 {
     let mut rng = ChaCha20Rng::from_seed(key);
     let mut site = Site::new(alloc, settings.config);
@@ -162,7 +164,8 @@ fn serve_port<R: time::Clock + AllocGlobal, O: Print>(
     print_report(out, &report)
 }
 
-/// Serves with these settings, if there are any. A fault is told on standard error, and ends with status 1.
+/// Serves with these settings, if there are any. A fault is told on standard error, and ends with
+/// status 1.
 pub fn serve_settings<R: time::Clock + Net + AllocGlobal, O: Print + Eprint>(
     rt: &R,
     out: &O,
@@ -170,7 +173,8 @@ pub fn serve_settings<R: time::Clock + Net + AllocGlobal, O: Print + Eprint>(
     key: [u8; 32],
     turns: u32,
 ) -> io::Result<ExitCode>
-    ensures served { IsOk settings → IfOk result (λ code. (exit_status code ≡ 0) ⊎ (exit_status code ≡ 1)) }
+    ensures served { IsOk settings
+        → IfOk result (λ code. (exit_status code ≡ 0) ⊎ (exit_status code ≡ 1)) }
     ensures fault { IsErr settings → IfOk result (λ code. exit_status code ≡ 1) }
 {
     let settings = match settings {
@@ -188,14 +192,17 @@ pub fn serve_settings<R: time::Clock + Net + AllocGlobal, O: Print + Eprint>(
     Ok(ExitCode::SUCCESS)
 }
 
-/// Serves one site as the words say. The key is looked at before the configuration; where it is none, the status is 2.
+/// Serves one site as the words say. The key is looked at before the configuration; where it is
+/// none, the status is 2.
 pub fn run_server<R: Files + time::Clock + Net + AllocGlobal, O: Print + Eprint>(
     rt: &R,
     out: &O,
     words: Words<'_>,
 ) -> io::Result<ExitCode>
-    ensures bad_key { ((key : List ℕ) → SpellsKey words.entry.key.now key → ⊥) → IfOk result (λ code. exit_status code ≡ 2) }
-    ensures with_key { (key : List ℕ) → SpellsKey words.entry.key.now key → IfOk result (λ code. (exit_status code ≡ 0) ⊎ (exit_status code ≡ 1)) }
+    ensures bad_key { ((key : List ℕ) → SpellsKey words.entry.key.now key → ⊥)
+        → IfOk result (λ code. exit_status code ≡ 2) }
+    ensures with_key { (key : List ℕ) → SpellsKey words.entry.key.now key
+        → IfOk result (λ code. (exit_status code ≡ 0) ⊎ (exit_status code ≡ 1)) }
 {
     match key_of(words.key) {
         Some(key) => {

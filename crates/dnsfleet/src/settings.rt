@@ -79,9 +79,9 @@ pub struct Settings {
     pub sweep: u32,
 }
 
-/// Reads a configuration, a TOML text with the keys `listen`, `upstreams`, `peers` and `sweep`. Of several faults the
-/// first is told, in the order of `SettingsFault`, but that the faults of a value are told key by key; `OutOfMemory` at
-/// the growth that met it.
+/// Reads a configuration, a TOML text with the keys `listen`, `upstreams`, `peers` and `sweep`. Of
+/// several faults the first is told, in the order of `SettingsFault`, but that the faults of a
+/// value are told key by key; `OutOfMemory` at the growth that met it.
 pub fn read_settings(alloc: Global, octets: &[u8]) -> Result<Settings, SettingsFault>
     ensures { ReadsSettings octets.now result }
 {

@@ -11,8 +11,8 @@ use std::{io, time};
 /// The seconds of the latest moment.
 const LATEST: u64 = 1 << 40;
 
-/// A clock of the system. Moments are its seconds since 1970, at most 2^40; where it can't be read, the last moment
-/// again, and 0 where there was none.
+/// A clock of the system. Moments are its seconds since 1970, at most 2^40; where it can't be read,
+/// the last moment again, and 0 where there was none.
 #[derive(Drop)]
 pub struct SystemClock<'a, C: time::Clock> {
     clock: &'a C,

@@ -23,8 +23,8 @@ pub struct UdpPort {
 }
 
 impl UdpPort {
-    /// Binds a socket to an address; where its port is 0, to a port that is free. `PortFault` where the address can't be
-    /// bound, or the time that a receive waits can't be set.
+    /// Binds a socket to an address; where its port is 0, to a port that is free. `PortFault` where
+    /// the address can't be bound, or the time that a receive waits can't be set.
     pub fn bind<N: Net>(net: &N, addr: Addr) -> Result<UdpPort, PortFault>
         ensures { IfOk result (λ port. port.failed ≡ 0) }
     {
@@ -58,7 +58,7 @@ impl UdpPort {
 }
 
 impl Port for UdpPort {
-    // It keeps no record of its calls, and counts those that failed.
+    /// It keeps no record of its calls, and counts those that failed.
     ghost tells = { λ p. record { told = None; failed = p.failed } };
 
     fn recv(&mut self, buffer: &mut [u8]) -> Result<Option<(Addr, usize)>, PortFault> {

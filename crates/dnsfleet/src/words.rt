@@ -44,7 +44,8 @@ pub fn number(word: &str) -> Option<usize>
 
 /// A moment: a number of seconds, at most 2^40.
 pub fn moment(word: &str) -> Option<Moment>
-    ensures { SomeIff result (IsNumber word.now × (number_of word.now ≤ 2 ^ 40)) (number_of word.now) }
+    ensures { SomeIff result (IsNumber word.now × (number_of word.now ≤ 2 ^ 40))
+        (number_of word.now) }
 {
     Moment::new(number(word)? as u64)
 }
@@ -60,7 +61,8 @@ pub struct SiteCount {
 
 /// A number of sites: 1 to 9.
 pub fn site_count(word: &str) -> Option<SiteCount>
-    ensures valid { IsSome result ↔ (IsNumber word.now × (1 ≤ number_of word.now) × (number_of word.now ≤ 9)) }
+    ensures valid { IsSome result
+        ↔ (IsNumber word.now × (1 ≤ number_of word.now) × (number_of word.now ≤ 9)) }
     ensures value { IfSome result (λ count. count.value ≡ number_of word.now) }
 {
     let value = number(word)?;
@@ -72,7 +74,8 @@ pub fn site_count(word: &str) -> Option<SiteCount>
 
 /// A number of 16 bits: 0 to 65535.
 pub fn word_of_16_bits(word: &str) -> Option<u16>
-    ensures { SomeIff result (IsNumber word.now × (number_of word.now < 2 ^ 16)) (number_of word.now) }
+    ensures { SomeIff result (IsNumber word.now × (number_of word.now < 2 ^ 16))
+        (number_of word.now) }
 {
     u16::try_from(number(word)?).ok()
 }
@@ -87,9 +90,11 @@ fn port_number(word: &str) -> Option<u16>
     word_of_16_bits(word)
 }
 
-/// An address, as `127.0.0.1:5301`: four numbers of 0 to 255 and a port of 1 to 65535, without leading zeros.
+/// An address, as `127.0.0.1:5301`: four numbers of 0 to 255 and a port of 1 to 65535, without
+/// leading zeros.
 pub fn address(word: &str) -> Option<Addr>
-    ensures { MatchOption result ((addr : Addr) → SpellsAddress word.now addr → ⊥) (λ addr. SpellsAddress word.now addr) }
+    ensures { MatchOption result ((addr : Addr) → SpellsAddress word.now addr → ⊥)
+        (λ addr. SpellsAddress word.now addr) }
 {
     let (host, port) = word.split_once(':')?;
     let host: Ipv4Addr = host.parse().ok()?;
@@ -121,7 +126,8 @@ impl<'a> Model for Hex<'a> {
 impl<'a> Hex<'a> {
     /// An even number of hexadecimal digits of either case, or `-` for no octets.
     pub fn new(word: &'a str) -> Option<Hex<'a>>
-        ensures { MatchOption result ((octets : List ℕ) → SpellsOctets word.entry.now octets → ⊥) (λ octets. SpellsOctets word.entry.now octets) }
+        ensures { MatchOption result ((octets : List ℕ) → SpellsOctets word.entry.now octets → ⊥)
+            (λ octets. SpellsOctets word.entry.now octets) }
     {
         if word == "-" {
             return Some(Hex { digits: "" });

@@ -52,7 +52,8 @@ IsNeedless floor items o = (expires o ≤ floor) ⊎ IsCovered items o
 
 -- the observation at this place of a list is to be held
 abbrev pub IsNeededAt : ℕ → List Fact → List Fact → ℕ → Type 0
-IsNeededAt floor items list at = (o : Fact) × (slice_get list at ≡ Some o) × ¬ IsNeedless floor items o
+IsNeededAt floor items list at =
+    (o : Fact) × (slice_get list at ≡ Some o) × ¬ IsNeedless floor items o
 
 -- two lists have the same members
 pub record IsSameSet (s t : List Fact) : Type 0 where

@@ -6,4 +6,5 @@ use Rattle.fleet_observe.specs.Fact.{Fact}
 
 -- each name error (kind 1) of the items has the length of its name in full noted
 abbrev pub AreNoted : List Bool → List Fact → Type 0
-AreNoted lengths items = (o : Fact) → Has items o → o.kind ≡ 1 → get_or lengths (length (wire o.name)) false ≡ true
+AreNoted lengths items =
+    (o : Fact) → Has items o → o.kind ≡ 1 → get_or lengths (length (wire o.name)) false ≡ true

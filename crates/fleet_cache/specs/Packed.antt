@@ -17,7 +17,8 @@ weigh (w ∷ ws) (x ∷ octets) = (x + 1) * w + weigh ws octets
 abbrev pub packed_within : ℕ → List ℕ → List ℕ
 packed_within zero octets = []
 packed_within (suc k) [] = []
-packed_within (suc k) (x ∷ octets) = weigh weights (x ∷ octets) ∷ packed_within k (drop 7 (x ∷ octets))
+packed_within (suc k) (x ∷ octets) =
+    weigh weights (x ∷ octets) ∷ packed_within k (drop 7 (x ∷ octets))
 
 -- the octets of a key as words
 unfoldable pub packed : List ℕ → List ℕ

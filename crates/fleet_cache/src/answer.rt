@@ -53,7 +53,7 @@ pub enum Answer<'a, A: Allocator = Global> {
     Miss,
 }
 
-// The TTL that is shown of an observation at the moment.
+/// The TTL that is shown of an observation at the moment.
 fn shown_ttl<A: Allocator>(observation: &Observation<A>, moment: Moment) -> u32
     ensures { result ≡ ttl_at moment observation.now }
 {
@@ -63,7 +63,7 @@ fn shown_ttl<A: Allocator>(observation: &Observation<A>, moment: Moment) -> u32
         .min(u64::from(observation.life())) as u32
 }
 
-// An observation with its TTL.
+/// An observation with its TTL.
 fn shown<'a, A: Allocator>(observation: &'a Observation<A>, moment: Moment) -> Shown<'a, A>
     ensures { part_of result ≡ shown_part moment observation.now }
 {
@@ -73,14 +73,14 @@ fn shown<'a, A: Allocator>(observation: &'a Observation<A>, moment: Moment) -> S
     }
 }
 
-// Whether an observation is an alias where another type is asked for.
+/// Whether an observation is an alias where another type is asked for.
 fn is_link<A: Allocator>(observation: &Observation<A>, rtype: u16) -> bool
     ensures { result ≡ leads_on rtype observation.now }
 {
     observation.kind() == Kind::Positive && observation.rtype() == 5 && rtype != 5
 }
 
-// The octets of the name that an alias leads to.
+/// The octets of the name that an alias leads to.
 fn target<A: Allocator>(observation: &Observation<A>) -> &[u8]
     requires of_kind { observation.now.kind ≡ 3 }
     requires of_type { observation.now.rtype ≡ 5 }
@@ -90,7 +90,7 @@ fn target<A: Allocator>(observation: &Observation<A>) -> &[u8]
     observation.rdatas()[0].as_slice()
 }
 
-// The answer that ends with an observation.
+/// The answer that ends with an observation.
 fn ending<'a, A: Allocator>(chain: Chain<'a, A>, last: Shown<'a, A>) -> Answer<'a, A>
     requires { AllSome chain.items }
     ensures told { told result ≡ onto (parts_of chain.entry.items) (by_kind (part_of last.entry)) }
@@ -115,7 +115,9 @@ pub(crate) fn follow<'a, A: Allocator>(
     requires noted { AreNoted denied.now (items_of fronts.now.entries) }
     requires named { IsWire name.now }
     ensures filled { AllSome (chain_of result) }
-    ensures told { (n : List (List ℕ)) → name.now ≡ wire n → (s : List Fact) → (floor : ℕ) → floor ≤ moment → IsCached s floor (items_of fronts.now.entries) → told result ≡ answer_of s moment n rtype }
+    ensures told { (n : List (List ℕ)) → name.now ≡ wire n → (s : List Fact)
+        → (floor : ℕ) → floor ≤ moment → IsCached s floor (items_of fronts.now.entries)
+        → told result ≡ answer_of s moment n rtype }
 {
     let mut chain = ArrayVec::new();
     let mut at = name;

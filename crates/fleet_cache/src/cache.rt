@@ -33,9 +33,9 @@ pub struct Stopped {
 /// keys, seven octets to a word.
 ///
 /// The fronts may hold observations that ended by the floor: they are shown to nobody, and a sweep,
-/// which goes on at the cursor, drops some of them at each purge. `most` is how many the fronts hold
-/// at most, so that they can be counted: at the greatest number, which no machine reaches, nothing
-/// more is taken. `denied` says at which names a name error may stand.
+/// which goes on at the cursor, drops some of them at each purge. `most` is how many the fronts
+/// hold at most, so that they can be counted: at the greatest number, which no machine reaches,
+/// nothing more is taken. `denied` says at which names a name error may stand.
 #[derive(Drop)]
 pub struct Cache<A: Allocator = Global> {
     floor: Moment,
@@ -56,9 +56,12 @@ impl<A: Allocator> Model for Cache<A> {
 
     ghost Value = { Held };
 
-    ghost view = { λ c. record { floor = c.floor; items = shown hidden c.floor (items_of c.fronts.entries) } };
+    ghost view = { λ c.
+        record { floor = c.floor; items = shown hidden c.floor (items_of c.fronts.entries) } };
 
-    ghost invariant = { λ c. IsKept (items_of c.fronts.entries) × IsLaid (λ k. k.items) c.fronts.entries × (length (items_of c.fronts.entries) ≤ c.most) × AreNoted c.denied (items_of c.fronts.entries) };
+    ghost invariant = { λ c. IsKept (items_of c.fronts.entries)
+        × IsLaid (λ k. k.items) c.fronts.entries × (length (items_of c.fronts.entries) ≤ c.most)
+        × AreNoted c.denied (items_of c.fronts.entries) };
 }
 
 impl<A: Allocator> Cache<A> {
@@ -85,8 +88,10 @@ impl<A: Allocator> Cache<A> {
     pub fn take(&mut self, observation: Observation<A>) -> Result<bool, AllocError>
     where
         A: Copy,
-        ensures taken { (s : List Fact) → IsCached s self.old.floor self.old.items → OnOk result (IsCached (observation ∷ s) self.new.floor self.new.items) }
-        ensures kept { IfOk result (λ kept. (kept ≡ false) ↔ IsNeedless self.old.floor self.old.items observation) }
+        ensures taken { (s : List Fact) → IsCached s self.old.floor self.old.items
+            → OnOk result (IsCached (observation ∷ s) self.new.floor self.new.items) }
+        ensures kept { IfOk result (λ kept.
+            (kept ≡ false) ↔ IsNeedless self.old.floor self.old.items observation) }
         ensures floor { self.new.floor ≡ self.old.floor }
         ensures memory { OnErr result (¬ IsNeedless self.old.floor self.old.items observation) }
         ensures err { OnErr result (self.new ≡ self.old) }
@@ -109,10 +114,14 @@ impl<A: Allocator> Cache<A> {
     pub fn take_list(&mut self, observations: Vec<Observation<A>, A>) -> Result<(), Stopped>
     where
         A: Copy,
-        ensures taken { (s : List Fact) → IsCached s self.old.floor self.old.items → OnOk result (IsCached (observations.items ++ s) self.new.floor self.new.items) }
-        ensures stopped { (s : List Fact) → IsCached s self.old.floor self.old.items → IfErr result (λ e. IsCached (take e.taken observations.items ++ s) self.new.floor self.new.items) }
+        ensures taken { (s : List Fact) → IsCached s self.old.floor self.old.items
+            → OnOk result (IsCached (observations.items ++ s) self.new.floor self.new.items) }
+        ensures stopped { (s : List Fact) → IsCached s self.old.floor self.old.items
+            → IfErr result (λ e.
+            IsCached (take e.taken observations.items ++ s) self.new.floor self.new.items) }
         ensures within { IfErr result (λ e. e.taken < length observations.items) }
-        ensures memory { IfErr result (λ e. IsNeededAt self.new.floor self.new.items observations.items e.taken) }
+        ensures memory { IfErr result (λ e.
+            IsNeededAt self.new.floor self.new.items observations.items e.taken) }
         ensures floor { self.new.floor ≡ self.old.floor }
     {
         let mut taken = 0;
@@ -126,16 +135,21 @@ impl<A: Allocator> Cache<A> {
     }
 
     /// Takes copies of the other's items in, in their order, and then purges to its floor: it is
-    /// then the cache of both sets, at the later floor. Memory is wanted only for items that are
-    /// to be held.
+    /// then the cache of both sets, at the later floor. Memory is wanted only for items that are to
+    /// be held.
     pub fn merge(&mut self, other: &Cache<A>) -> Result<(), Stopped>
     where
         A: Copy,
-        ensures both { (s u : List Fact) → IsCached s self.old.floor self.old.items → IsCached u other.now.floor other.now.items → OnOk result (IsCached (u ++ s) self.new.floor self.new.items) }
+        ensures both { (s u : List Fact) → IsCached s self.old.floor self.old.items
+            → IsCached u other.now.floor other.now.items
+            → OnOk result (IsCached (u ++ s) self.new.floor self.new.items) }
         ensures floor { OnOk result (self.new.floor ≡ max self.old.floor other.now.floor) }
-        ensures stopped { (s : List Fact) → IsCached s self.old.floor self.old.items → IfErr result (λ e. IsCached (take e.taken other.now.items ++ s) self.new.floor self.new.items) }
+        ensures stopped { (s : List Fact) → IsCached s self.old.floor self.old.items
+            → IfErr result (λ e.
+            IsCached (take e.taken other.now.items ++ s) self.new.floor self.new.items) }
         ensures within { IfErr result (λ e. e.taken < length other.now.items) }
-        ensures memory { IfErr result (λ e. IsNeededAt self.new.floor self.new.items other.now.items e.taken) }
+        ensures memory { IfErr result (λ e.
+            IsNeededAt self.new.floor self.new.items other.now.items e.taken) }
         ensures floor_stopped { OnErr result (self.new.floor ≡ self.old.floor) }
     {
         let mut items = other.items();
@@ -150,11 +164,13 @@ impl<A: Allocator> Cache<A> {
         Ok(())
     }
 
-    /// Raises the floor to the moment, if that is later: what has ended by then is not held any more.
-    /// A part of it leaves the memory at once, the rest at further purges: each one that raises the
-    /// floor looks at 4096 fronts, or at the 256th part of them where that is more, in turn.
+    /// Raises the floor to the moment, if that is later: what has ended by then is not held any
+    /// more. A part of it leaves the memory at once, the rest at further purges: each one that
+    /// raises the floor looks at 4096 fronts, or at the 256th part of them where that is more, in
+    /// turn.
     pub fn purge(&mut self, moment: Moment)
-        ensures purged { (s : List Fact) → IsCached s self.old.floor self.old.items → IsCached s self.new.floor self.new.items }
+        ensures purged { (s : List Fact) → IsCached s self.old.floor self.old.items
+            → IsCached s self.new.floor self.new.items }
         ensures floor { self.new.floor ≡ max self.old.floor moment }
     {
         if moment.value() <= self.floor.value() {
@@ -164,7 +180,8 @@ impl<A: Allocator> Cache<A> {
         sweep(&mut self.fronts, &mut self.cursor, moment);
     }
 
-    /// Drops all items and sets the floor back to 0: it is then as a new cache. This takes no memory.
+    /// Drops all items and sets the floor back to 0: it is then as a new cache. This takes no
+    /// memory.
     pub fn clear(&mut self)
         ensures held { self.new ≡ record { floor = 0; items = [] } }
         ensures cached { IsCached [] self.new.floor self.new.items }
@@ -186,7 +203,9 @@ impl<A: Allocator> Cache<A> {
     /// Whether floor and items are the other's.
     pub fn same(&self, other: &Cache<A>) -> bool
         ensures same { IsTrue result ↔ (self.now ≡ other.now) }
-        ensures alike { (s t : List Fact) → IsCached s self.now.floor self.now.items → IsCached t other.now.floor other.now.items → IsSameSet s t → self.now.floor ≡ other.now.floor → IsTrue result }
+        ensures alike { (s t : List Fact) → IsCached s self.now.floor self.now.items
+            → IsCached t other.now.floor other.now.items → IsSameSet s t
+            → self.now.floor ≡ other.now.floor → IsTrue result }
     {
         self.floor == other.floor && same_items(self.items(), other.items())
     }
@@ -219,13 +238,15 @@ impl<A: Allocator> Cache<A> {
 
     /// What the set answers to a question at a moment, or at the floor where the moment is before
     /// it. The most preferred observation that is live then and relevant decides; an alias is
-    /// followed where another type is asked for, at most 8 of them. Records of two observations
-    /// are never merged (RFC 2181 5.4). The question's class is not looked at. The parts are
-    /// lent, so that nothing can be taken or purged while they are in use, and this takes no memory.
+    /// followed where another type is asked for, at most 8 of them. Records of two observations are
+    /// never merged (RFC 2181 5.4). The question's class is not looked at. The parts are lent, so
+    /// that nothing can be taken or purged while they are in use, and this takes no memory.
     pub fn answer<B: Allocator>(&self, question: &Question<B>, moment: Moment) -> Answer<'_, A>
         ensures filled { AllSome (chain_of result) }
         ensures kinds { HasKinds (told result) }
-        ensures told { (s : List Fact) → IsCached s self.now.floor self.now.items → told result ≡ answer_of s (max self.now.floor moment) question.now.name question.now.rtype }
+        ensures told { (s : List Fact) → IsCached s self.now.floor self.now.items
+            → told result
+            ≡ answer_of s (max self.now.floor moment) question.now.name question.now.rtype }
     {
         let at = later(self.floor, moment);
         follow(
@@ -243,11 +264,12 @@ impl<A: Allocator> Cache<A> {
         self.fronts.len()
     }
 
-    // Takes a copy of an observation in.
+    /// Takes a copy of an observation in.
     fn take_copy(&mut self, observation: &Observation<A>) -> Result<bool, AllocError>
     where
         A: Copy,
-        ensures taken { (s : List Fact) → IsCached s self.old.floor self.old.items → OnOk result (IsCached (observation.now ∷ s) self.new.floor self.new.items) }
+        ensures taken { (s : List Fact) → IsCached s self.old.floor self.old.items
+            → OnOk result (IsCached (observation.now ∷ s) self.new.floor self.new.items) }
         ensures floor { self.new.floor ≡ self.old.floor }
         ensures memory { OnErr result (¬ IsNeedless self.old.floor self.old.items observation.now) }
         ensures err { OnErr result (self.new ≡ self.old) }
@@ -258,9 +280,10 @@ impl<A: Allocator> Cache<A> {
         self.take(observation.try_clone()?)
     }
 
-    // What `take` says at the greatest count, where nothing more is held.
+    /// What `take` says at the greatest count, where nothing more is held.
     fn take_uncounted(&self, observation: &Observation<A>) -> Result<bool, AllocError>
-        ensures needless { IfOk result (λ kept. (kept ≡ false) × IsNeedless self.now.floor self.now.items observation.now) }
+        ensures needless { IfOk result (λ kept.
+            (kept ≡ false) × IsNeedless self.now.floor self.now.items observation.now) }
         ensures memory { OnErr result (¬ IsNeedless self.now.floor self.now.items observation.now) }
     {
         if self.needs(observation) {
@@ -269,16 +292,17 @@ impl<A: Allocator> Cache<A> {
         Ok(false)
     }
 
-    // Whether an observation is to be held.
+    /// Whether an observation is to be held.
     fn needs(&self, observation: &Observation<A>) -> bool
-        ensures needless { (result ≡ false) ↔ IsNeedless self.now.floor self.now.items observation.now }
+        ensures needless { (result ≡ false)
+            ↔ IsNeedless self.now.floor self.now.items observation.now }
         ensures lawful { IsFact observation.now }
     {
         observation.expires() > self.floor.value() && !covers(&self.fronts, observation)
     }
 }
 
-// The later of two moments.
+/// The later of two moments.
 fn later(one: Moment, other: Moment) -> Moment
     ensures { result ≡ max one other }
 {
@@ -288,7 +312,7 @@ fn later(one: Moment, other: Moment) -> Moment
     one
 }
 
-// Whether both give the same items.
+/// Whether both give the same items.
 fn same_items<A: Allocator>(mut ours: Items<'_, A>, mut theirs: Items<'_, A>) -> bool
     ensures { IsTrue result ↔ (ours.entry ≡ theirs.entry) }
 {
@@ -303,7 +327,7 @@ fn same_items<A: Allocator>(mut ours: Items<'_, A>, mut theirs: Items<'_, A>) ->
     theirs.next().is_none()
 }
 
-// How many items are left.
+/// How many items are left.
 fn count<A: Allocator>(mut items: Items<'_, A>) -> usize
     requires { length items < 2 ^ 64 }
     ensures { result ≡ length items.entry }

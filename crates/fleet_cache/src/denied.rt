@@ -36,7 +36,8 @@ impl Denied {
 
     /// Notes an observation, if it is a name error.
     pub(crate) fn note<A: Allocator>(&mut self, observation: &Observation<A>)
-        ensures { (items : List Fact) → AreNoted self.old items → AreNoted self.new (observation.now ∷ items) }
+        ensures { (items : List Fact) → AreNoted self.old items
+            → AreNoted self.new (observation.now ∷ items) }
     {
         if observation.kind() == Kind::NameError {
             self.lengths[observation.name().octets().len()] = true;

@@ -48,7 +48,7 @@ impl<A: Allocator> Item<A> {
     }
 }
 
-// Whether an observation dominates another one; what is cheap to ask comes first.
+/// Whether an observation dominates another one; what is cheap to ask comes first.
 fn is_over<A: Allocator>(one: &Observation<A>, other: &Observation<A>) -> bool
     ensures { result ≡ over one.now other.now }
 {
@@ -61,7 +61,7 @@ fn is_over<A: Allocator>(one: &Observation<A>, other: &Observation<A>) -> bool
     has_key_of(one, other)
 }
 
-// Whether an observation has the name, the kind and the type of another one.
+/// Whether an observation has the name, the kind and the type of another one.
 fn has_key_of<A: Allocator>(one: &Observation<A>, other: &Observation<A>) -> bool
     ensures { result ≡ is_same_key one.now other.now }
 {

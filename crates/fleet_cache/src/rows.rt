@@ -14,11 +14,11 @@ const FIRST: &[u8; 4] = b"\xc0\x00\x02\x01";
 
 const SECOND: &[u8; 4] = b"\xc0\x00\x02\x02";
 
-// The SOA of the denials: its names are the root, its minimum 300 seconds.
+/// The SOA of the denials: its names are the root, its minimum 300 seconds.
 const SOA: &[u8; 22] = b"\0\0\0\0\0\x01\0\0\x0e\x10\0\0\x02\x58\0\x01\x51\x80\0\0\x01\x2c";
 
-// What an answer says: how many links lead to its end; of records the last octet of the first;
-// and the end's TTL.
+/// What an answer says: how many links lead to its end; of records the last octet of the first; and
+/// the end's TTL.
 #[derive(Clone, Copy, Debug, PartialEq, Eq)]
 enum Told {
     Found(usize, u8, u32),
@@ -31,7 +31,7 @@ fn at(seconds: u64) -> Result<Moment, Fail> {
     Ok(Moment::new(seconds).ok_or("no moment")?)
 }
 
-// A question for a type at a name, by its octets.
+/// A question for a type at a name, by its octets.
 fn asked(rt: &HostRuntime, name: &[u8], rtype: u16) -> Result<Question, Fail> {
     let mut message = b"\0\x07\x01\0\0\x01\0\0\0\0\0\0"
         .as_slice()
@@ -47,7 +47,7 @@ fn named(rt: &HostRuntime, name: &[u8]) -> Result<Name, Fail> {
     Ok(asked(rt, name, 1)?.name.try_clone()?)
 }
 
-// A record of the type.
+/// A record of the type.
 fn seen(
     rt: &HostRuntime,
     name: &[u8],
@@ -63,7 +63,7 @@ fn seen(
     Ok(Observation::positive(name, rtype, rank, at(stamp)?, life, rdatas)?)
 }
 
-// That there is no such type, or no such name, on the word of the owner's SOA.
+/// That there is no such type, or no such name, on the word of the owner's SOA.
 fn denied(
     rt: &HostRuntime,
     name: &[u8],
@@ -82,7 +82,7 @@ fn denied(
     Ok(Observation::negative(name, rtype, rank, at(stamp)?, life, soa)?)
 }
 
-// The name of the label c and a digit.
+/// The name of the label c and a digit.
 fn numbered(digit: u8) -> [u8; 4] {
     [2, b'c', digit, 0]
 }
@@ -401,7 +401,7 @@ fn no_data_holds_for_one_type(rt: HostRuntime) -> Result<(), Fail> {
     Ok(())
 }
 
-// A cache of so many aliases, each of the next name, and an address at the last.
+/// A cache of so many aliases, each of the next name, and an address at the last.
 fn chained(rt: &HostRuntime, links: u8) -> Result<Cache, Fail> {
     let mut list = Vec::new(rt.alloc());
     for digit in b'0'..b'0'.saturating_add(links) {

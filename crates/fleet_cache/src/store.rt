@@ -33,7 +33,7 @@ pub(crate) fn key_words(name: &[u8], kind: Kind, rtype: u16) -> ArrayVec<u64, 37
     pack(octets.as_slice())
 }
 
-// The words of an observation's key.
+/// The words of an observation's key.
 fn words_of_observation<A: Allocator>(observation: &Observation<A>) -> ArrayVec<u64, 37>
     ensures words { result.items ≡ words_of observation.now }
     ensures packable { IsPackable (key_of observation.now) }
@@ -57,7 +57,7 @@ pub(crate) fn covers<A: Allocator>(fronts: &Fronts<A>, observation: &Observation
     covers_in(front.items(), observation)
 }
 
-// Whether an observation is one of these items, or one of them dominates it.
+/// Whether an observation is one of these items, or one of them dominates it.
 fn covers_in<A: Allocator>(items: &[Item<A>], observation: &Observation<A>) -> bool
     ensures { result ≡ is_covered items.now observation.now }
 {
@@ -71,7 +71,8 @@ pub(crate) fn store<A: Allocator + Copy>(
     observation: Observation<A>,
 ) -> Result<bool, AllocError>
     requires { IsLaid (λ k. k.items) fronts.old.entries }
-    ensures put { IfOk result (Put (λ k. k.items) fronts.old.entries fronts.new.entries observation) }
+    ensures put { IfOk result (Put (λ k. k.items) fronts.old.entries fronts.new.entries
+        observation) }
     ensures memory { OnErr result (¬ IsCovered (items_of fronts.old.entries) observation) }
     ensures err { OnErr result (fronts.new.entries ≡ fronts.old.entries) }
 {
@@ -85,7 +86,7 @@ pub(crate) fn store<A: Allocator + Copy>(
     Ok(true)
 }
 
-// The front of one observation.
+/// The front of one observation.
 fn first<A: Allocator>(
     alloc: A,
     observation: Observation<A>,

@@ -10,13 +10,13 @@ use fleet_observe::{Moment, Observation};
 use std::alloc::{AllocError, Allocator};
 use std::ops::Bound;
 
-// How many words a key has at most.
+/// How many words a key has at most.
 const KEY: usize = 37;
 
-// A sweep looks at one front of so many, ..
+/// A sweep looks at one front of so many, ..
 const SHARE: usize = 256;
 
-// .. and at least at so many.
+/// .. and at least at so many.
 const LEAST: usize = 4096;
 
 /// Where a sweep stopped: the key of the front that it looked at last, or no words at the start.
@@ -55,8 +55,8 @@ impl<A: Allocator> Cursor<A> {
         self.key.clear();
     }
 
-    // Goes on to the next key, or back to the start where there is none. It takes no memory: where
-    // there is no room for the key, it goes back to the start too.
+    /// Goes on to the next key, or back to the start where there is none. It takes no memory: where
+    /// there is no room for the key, it goes back to the start too.
     fn advance(&mut self, fronts: &Fronts<A>) -> bool {
         let mut behind = fronts.range((Bound::Excluded(&self.key), Bound::Unbounded));
         let Some((key, _)) = behind.next() else {
@@ -82,7 +82,7 @@ pub(crate) fn sweep<A: Allocator>(fronts: &mut Fronts<A>, cursor: &mut Cursor<A>
     }
 }
 
-// Drops what has ended of the front of a key, and the front where nothing is left of it.
+/// Drops what has ended of the front of a key, and the front where nothing is left of it.
 fn trim<A: Allocator>(fronts: &mut Fronts<A>, key: &Key<A>, moment: Moment)
     requires { IsLaid (λ k. k.items) fronts.old.entries }
     ensures laid { IsLaid (λ k. k.items) fronts.new.entries }

@@ -9,7 +9,8 @@ ghost use Rattle.fleet_cache.specs.Packed.{weights, weigh, packed};
 use arrayvec::ArrayVec;
 use fleet_observe::Kind;
 
-// The powers of 257 from the sixth one down: an octet and 1 is a digit, and 0 stands where there are no more octets.
+/// The powers of 257 from the sixth one down: an octet and 1 is a digit, and 0 stands where there
+/// are no more octets.
 const WEIGHTS: [u64; 7] = [
     288136807515649,
     1121154893057,
@@ -51,7 +52,7 @@ pub(crate) fn pack(octets: &[u8]) -> ArrayVec<u64, 37>
     words
 }
 
-// At most seven octets as a word.
+/// At most seven octets as a word.
 fn word_of(octets: &[u8]) -> u64
     requires { length octets.now ≤ 7 }
     ensures word { result ≡ weigh weights octets.now }

@@ -7,7 +7,8 @@ use Rattle.std.specs.Ordering.{is_eq, is_gt}
 use Rattle.std.specs.Cmp.{IsTotalOrder}
 
 -- the laws of a ranked type
-pub record RankedLaws {T C : Type 0} (order : T → T → Ordering) (dominates : T → T → Bool) (hidden : C → T → Bool) : Type 0 where
+pub record RankedLaws {T C : Type 0} (order : T → T → Ordering) (dominates : T → T → Bool)
+    (hidden : C → T → Bool) : Type 0 where
   pub total : IsTotalOrder order
   pub exact : (x y : T) → order x y ≡ Equal → x ≡ y
   pub chained : (x y z : T) → dominates x y ≡ true → dominates y z ≡ true → dominates x z ≡ true
@@ -29,7 +30,8 @@ abbrev pub IsUndominated : {X : Type 0} → (X → X → Bool) → List X → X 
 IsUndominated {X} dominates s x = (y : X) → Has s y → dominates y x ≡ false
 
 -- the items are the undominated values of s, greatest first
-pub record IsFront {X : Type 0} (order : X → X → Ordering) (dominates : X → X → Bool) (s items : List X) : Type 0 where
+pub record IsFront {X : Type 0} (order : X → X → Ordering) (dominates : X → X → Bool)
+    (s items : List X) : Type 0 where
   pub descending : IsDescending order items
   pub of_set : (x : X) → Has items x → Has s x
   pub undominated : (x : X) → Has items x → IsUndominated dominates s x

@@ -83,7 +83,8 @@ impl<T: Ranked, A: Allocator> Front<T, A> {
     /// nothing changed. Else it goes to its place, and what it dominates goes. Memory is wanted
     /// only for a value that is to be held; without it nothing changes.
     pub fn take(&mut self, value: T) -> Result<bool, AllocError>
-        ensures taken { (s : List T) → IsFront T.order T.dominates s self.old → OnOk result (IsFront T.order T.dominates (value ∷ s) self.new) }
+        ensures taken { (s : List T) → IsFront T.order T.dominates s self.old
+            → OnOk result (IsFront T.order T.dominates (value ∷ s) self.new) }
         ensures kept { IfOk result (λ kept. (kept ≡ false) ↔ IsCovered T.dominates self.old value) }
         ensures size { length self.new ≤ length self.old + 1 }
         ensures memory { OnErr result (¬ IsCovered T.dominates self.old value) }
@@ -101,7 +102,8 @@ impl<T: Ranked, A: Allocator> Front<T, A> {
 
     /// Drops what the cut hides: what is left is the front of what the cut shows.
     pub fn drop_hidden(&mut self, cut: &T::Cut)
-        ensures front { (s : List T) → IsFront T.order T.dominates s self.old → IsFront T.order T.dominates (shown T.hidden cut.now s) self.new }
+        ensures front { (s : List T) → IsFront T.order T.dominates s self.old
+            → IsFront T.order T.dominates (shown T.hidden cut.now s) self.new }
         ensures items { self.new ≡ shown T.hidden cut.now self.old }
     {
         keep_shown(&mut self.items, cut);
@@ -109,13 +111,15 @@ impl<T: Ranked, A: Allocator> Front<T, A> {
 
     /// The greatest value of the set that the cut does not hide, if there is one.
     pub fn first_shown(&self, cut: &T::Cut) -> Option<&T>
-        ensures { (s : List T) → IsFront T.order T.dominates s self.now → MatchOption result (shown T.hidden cut.now s ≡ []) (λ x. IsGreatest T.order (shown T.hidden cut.now s) x.now) }
+        ensures { (s : List T) → IsFront T.order T.dominates s self.now
+            → MatchOption result (shown T.hidden cut.now s ≡ [])
+            (λ x. IsGreatest T.order (shown T.hidden cut.now s) x.now) }
     {
         first_kept(&self.items, cut)
     }
 }
 
-// Whether an item is equal to the value or dominates it.
+/// Whether an item is equal to the value or dominates it.
 fn covers<T: Ranked>(items: &[T], value: &T) -> bool
     ensures { result ≡ is_covered T.order T.dominates value.now items.now }
 {
@@ -124,7 +128,8 @@ fn covers<T: Ranked>(items: &[T], value: &T) -> bool
         .any(|held| held.order(value).is_eq() || held.dominates(value))
 }
 
-// Makes room for one more item; a first one takes just its own place, since most fronts have no more.
+/// Makes room for one more item; a first one takes just its own place, since most fronts have no
+/// more.
 fn make_room<T: Ranked, A: Allocator>(items: &mut Vec<T, A>) -> Result<(), AllocError>
     ensures items { items.new.items ≡ items.old.items }
     ensures len { vec_len items.new ≡ vec_len items.old }
@@ -136,7 +141,7 @@ fn make_room<T: Ranked, A: Allocator>(items: &mut Vec<T, A>) -> Result<(), Alloc
     items.reserve(1)
 }
 
-// Drops the items that the value dominates.
+/// Drops the items that the value dominates.
 fn drop_dominated<T: Ranked, A: Allocator>(items: &mut Vec<T, A>, value: &T)
     ensures items { items.new.items ≡ filter (λ y. not (T.dominates value.now y)) items.old.items }
     ensures shorter { vec_len items.new ≤ vec_len items.old }
@@ -149,7 +154,7 @@ fn drop_dominated<T: Ranked, A: Allocator>(items: &mut Vec<T, A>, value: &T)
     );
 }
 
-// Keeps what the cut does not hide.
+/// Keeps what the cut does not hide.
 fn keep_shown<T: Ranked, A: Allocator>(items: &mut Vec<T, A>, cut: &T::Cut)
     ensures { items.new.items ≡ shown T.hidden cut.now items.old.items }
 {
@@ -160,9 +165,10 @@ fn keep_shown<T: Ranked, A: Allocator>(items: &mut Vec<T, A>, cut: &T::Cut)
     );
 }
 
-// The first item that the cut does not hide.
+/// The first item that the cut does not hide.
 fn first_kept<'a, T: Ranked>(items: &'a [T], cut: &T::Cut) -> Option<&'a T>
-    ensures { MatchOption result (shown T.hidden cut.now items.now ≡ []) (λ x. (rest : List T) × (shown T.hidden cut.now items.now ≡ x.now ∷ rest)) }
+    ensures { MatchOption result (shown T.hidden cut.now items.now ≡ [])
+        (λ x. (rest : List T) × (shown T.hidden cut.now items.now ≡ x.now ∷ rest)) }
 {
     for held in items {
         if !held.hidden(cut) {
@@ -172,7 +178,7 @@ fn first_kept<'a, T: Ranked>(items: &'a [T], cut: &T::Cut) -> Option<&'a T>
     None
 }
 
-// How many items at the front are greater than the value.
+/// How many items at the front are greater than the value.
 fn place<T: Ranked>(items: &[T], value: &T) -> usize
     ensures count { result ≡ count_above T.order value.now items.now }
     ensures within { result ≤ length items.now }

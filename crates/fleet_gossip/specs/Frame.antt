@@ -18,7 +18,8 @@ entries facts = flat_map entry_octets facts
 
 -- magic, version, how many entries there are, and the entries
 abbrev pub frame_octets : List Fact → List ℕ
-frame_octets facts = u16_octets magic ++ (octet version ++ (u16_octets (length facts) ++ entries facts))
+frame_octets facts =
+    u16_octets magic ++ (octet version ++ (u16_octets (length facts) ++ entries facts))
 
 -- these octets are the frame of these observations
 pub record SpellsFrame (octets : List ℕ) (facts : List Fact) : Type 0 where

@@ -8,12 +8,13 @@ abbrev pub IsFull : List Fact → List Fact → Type 0
 IsFull part [] = Unit {0}
 IsFull part (next ∷ rest) = 16384 < length (frame_octets (part ++ next ∷ []))
 
--- The frames of a list: none of an empty one; else the first frame spells the first ones, as many as fit, and the
--- others are the frames of the rest.
+-- The frames of a list: none of an empty one; else the first frame spells the first ones, as many
+-- as fit, and the others are the frames of the rest.
 pub data IsPacked : List Fact → List (List ℕ) → Type 0 where
   none : {facts : List Fact} {frames : List (List ℕ)} → facts ≡ [] → frames ≡ []
       → IsPacked facts frames
-  more : {facts : List Fact} {frames : List (List ℕ)} (part rest : List Fact) (first : List ℕ) (others : List (List ℕ))
+  more : {facts : List Fact} {frames : List (List ℕ)} (part rest : List Fact) (first : List ℕ)
+      (others : List (List ℕ))
       → facts ≡ part ++ rest → 0 < length part → SpellsFrame first part → IsFull part rest
       → IsPacked rest others → frames ≡ first ∷ others
       → IsPacked facts frames

@@ -5,16 +5,18 @@ use Rattle.fleet_gossip.specs.Frame.{entries, frame_octets}
 use Rattle.fleet_gossip.specs.Packed.{IsPacked}
 use Rattle.fleet_gossip.specs.declared.packer.Packer.{Packer}
 
--- These finished frames, and so many entries of the one in the making, hold what was taken: whatever comes, with its
--- frames behind them they pack it all.
-pub record Hold (frames : List (List ℕ)) (octets : List ℕ) (count : ℕ) (taken : List Fact) : Type 0 where
+-- These finished frames, and so many entries of the one in the making, hold what was taken:
+-- whatever comes, with its frames behind them they pack it all.
+pub record Hold (frames : List (List ℕ)) (octets : List ℕ) (count : ℕ) (taken : List Fact)
+    : Type 0 where
   pub part : List Fact
   pub lawful : AreFacts part
   pub counted : count ≡ length part
   pub none : taken ≡ [] → part ≡ []
   pub spelled : octets ≡ entries part
   pub fits : length (frame_octets part) ≤ 16384
-  pub goes_on : (rest : List Fact) (others : List (List ℕ)) → IsPacked (part ++ rest) others → IsPacked (taken ++ rest) (frames ++ others)
+  pub goes_on : (rest : List Fact) (others : List (List ℕ)) → IsPacked (part ++ rest) others
+      → IsPacked (taken ++ rest) (frames ++ others)
 
 abbrev pub Packs : {A : Type 0} → Packer A → List Fact → Type 0
 Packs packer taken = Hold packer.frames.items packer.entries.items packer.count taken

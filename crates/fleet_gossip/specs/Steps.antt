@@ -17,7 +17,8 @@ use Rattle.fleet_gossip.specs.declared.fault.FrameFault.TheVariants.{Truncated}
 use Rattle.fleet_gossip.specs.declared.head.Head.{Head}
 
 -- a lawful number stands at the front of octets, and the rest behind it
-pub record IsField (spelled : ℕ → List ℕ) (Lawful : ℕ → Type 0) (octets : List ℕ) (number : ℕ) (rest : List ℕ) : Type 0 where
+pub record IsField (spelled : ℕ → List ℕ) (Lawful : ℕ → Type 0) (octets : List ℕ) (number : ℕ)
+    (rest : List ℕ) : Type 0 where
   pub whole : octets ≡ spelled number ++ rest
   pub lawful : Lawful number
 
@@ -45,7 +46,9 @@ pub record IsLawfulHead (head : Head) : Type 0 where
 
 -- the first numbers of an entry stand at the front, and the rest behind them
 pub record IsHead (octets : List ℕ) (head : Head) (rest : List ℕ) : Type 0 where
-  pub whole : octets ≡ octet (kind_number head.kind) ++ (octet head.rank ++ (u64_octets head.stamp ++ (u32_octets head.life ++ rest)))
+  pub whole : octets
+      ≡ octet (kind_number head.kind)
+      ++ (octet head.rank ++ (u64_octets head.stamp ++ (u32_octets head.life ++ rest)))
   pub lawful : IsLawfulHead head
 
 -- a label stands at the front, or the zero octet that ends a name, and the rest behind it
@@ -78,14 +81,15 @@ pub record IsOwnerOf (name : List (List ℕ)) (octets : List ℕ) : Type 0 where
 
 -- it stands above the last of them, if there is one
 abbrev pub IsAbove : List (List ℕ) → List ℕ → Type 0
-IsAbove rdatas rdata = (before : List (List ℕ)) (last : List ℕ) → rdatas ≡ before ++ last ∷ [] → slice_cmp nat_cmp last rdata ≡ Less
+IsAbove rdatas rdata = (before : List (List ℕ)) (last : List ℕ) → rdatas ≡ before ++ last ∷ []
+    → slice_cmp nat_cmp last rdata ≡ Less
 
 -- it is the last of them
 abbrev pub EndWith : List (List ℕ) → List ℕ → Type 0
 EndWith rdatas last = (before : List (List ℕ)) × (rdatas ≡ before ++ last ∷ [])
 
--- so many RDATAs that those of a type may begin with stand at the front, and the rest behind them; their body has
--- `long` octets
+-- so many RDATAs that those of a type may begin with stand at the front, and the rest behind them;
+-- their body has `long` octets
 pub record AreFirstOf (rtype count : ℕ) (octets : List ℕ) (long : ℕ) (rest : List ℕ) : Type 0 where
   pub rdatas : List (List ℕ)
   pub whole : octets ≡ flat_map sized rdatas ++ rest
@@ -107,10 +111,12 @@ pub record IsSoaBody (body : List ℕ) : Type 0 where
 
 -- magic, version and a count of entries stand at the front, and the rest behind them
 abbrev pub IsOpened : List ℕ → ℕ → List ℕ → Type 0
-IsOpened octets count rest = octets ≡ u16_octets magic ++ (octet version ++ (u16_octets count ++ rest))
+IsOpened octets count rest =
+    octets ≡ u16_octets magic ++ (octet version ++ (u16_octets count ++ rest))
 
 -- so many entries stand at the front, and the rest behind them
-pub record AreEntries (octets : List ℕ) (count : ℕ) (facts : List Fact) (rest : List ℕ) : Type 0 where
+pub record AreEntries (octets : List ℕ) (count : ℕ) (facts : List Fact) (rest : List ℕ)
+    : Type 0 where
   pub whole : octets ≡ entries facts ++ rest
   pub lawful : AreFacts facts
   pub counted : length facts ≡ count

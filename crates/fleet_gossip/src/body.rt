@@ -14,20 +14,23 @@ use crate::reader::Reader;
 use fleet_observe::{Kind, LONGEST_BODY, is_count_of};
 use fleet_wire::plain_rdata;
 
-// The type of the record on whose word a name or data are denied (RFC 1035 3.2.2).
+/// The type of the record on whose word a name or data are denied (RFC 1035 3.2.2).
 const SOA: u16 = 6;
 
 /// RDATA behind its length.
 pub(crate) fn read_sized<'a>(reader: &mut Reader<'a>) -> Result<&'a [u8], FrameFault>
-    ensures { MatchResult result (λ r. reader.old ≡ sized r.now ++ reader.new) (SizedFails AnyRdata reader.old) }
+    ensures { MatchResult result (λ r. reader.old ≡ sized r.now ++ reader.new)
+        (SizedFails AnyRdata reader.old) }
 {
     let size = reader.read_u16()?;
     reader.take(usize::from(size))
 }
 
-// Whether the RDATA stands above the last one, if there is one.
+/// Whether the RDATA stands above the last one, if there is one.
 fn is_above(last: Option<&[u8]>, rdata: &[u8]) -> bool
-    ensures { (before : List (List ℕ)) → MatchOption last.entry (before ≡ []) (λ r. EndWith before r.now) → (IsTrue result ↔ IsAbove before rdata.now) }
+    ensures { (before : List (List ℕ))
+        → MatchOption last.entry (before ≡ []) (λ r. EndWith before r.now)
+        → (IsTrue result ↔ IsAbove before rdata.now) }
 {
     match last {
         None => true,
@@ -35,10 +38,14 @@ fn is_above(last: Option<&[u8]>, rdata: &[u8]) -> bool
     }
 }
 
-// Whether the RDATA may stand behind others, of which that is the last and which make a body of `size` octets.
+/// Whether the RDATA may stand behind others, of which that is the last and which make a body of
+/// `size` octets.
 fn is_next(rtype: u16, last: Option<&[u8]>, size: usize, rdata: &[u8]) -> bool
     requires { size ≤ 8192 }
-    ensures { (before : List (List ℕ)) → MatchOption last.entry (before ≡ []) (λ r. EndWith before r.now) → AreFirstRdatas rtype before → size ≡ length (positive_body before) → (IsTrue result ↔ AreFirstRdatas rtype (before ++ rdata.now ∷ [])) }
+    ensures { (before : List (List ℕ))
+        → MatchOption last.entry (before ≡ []) (λ r. EndWith before r.now)
+        → AreFirstRdatas rtype before → size ≡ length (positive_body before)
+        → (IsTrue result ↔ AreFirstRdatas rtype (before ++ rdata.now ∷ [])) }
 {
     if rdata.len() > LONGEST_BODY || size + 2 + rdata.len() > LONGEST_BODY {
         return false;
@@ -49,9 +56,10 @@ fn is_next(rtype: u16, last: Option<&[u8]>, size: usize, rdata: &[u8]) -> bool
     plain_rdata(rtype, rdata)
 }
 
-// How many octets a body of so many RDATAs has, which are read next.
+/// How many octets a body of so many RDATAs has, which are read next.
 fn read_rdatas(reader: &mut Reader<'_>, rtype: u16, count: u16) -> Result<usize, FrameFault>
-    ensures { MatchResult result (λ size. AreFirstOf rtype count reader.old size reader.new) (RdatasFail rtype count reader.old) }
+    ensures { MatchResult result (λ size. AreFirstOf rtype count reader.old size reader.new)
+        (RdatasFail rtype count reader.old) }
 {
     let mut last = None;
     let mut size = 2;
@@ -66,9 +74,10 @@ fn read_rdatas(reader: &mut Reader<'_>, rtype: u16, count: u16) -> Result<usize,
     Ok(size)
 }
 
-// How many octets the positive body at the front has.
+/// How many octets the positive body at the front has.
 fn positive_size(octets: &[u8], rtype: u16) -> Result<usize, FrameFault>
-    ensures { MatchResult result (λ size. IsSizeOf (IsPositiveBody rtype) octets.now size) (PositiveFails rtype octets.now) }
+    ensures { MatchResult result (λ size. IsSizeOf (IsPositiveBody rtype) octets.now size)
+        (PositiveFails rtype octets.now) }
 {
     let mut reader = Reader::new(octets);
     let count = reader.read_u16()?;
@@ -78,7 +87,7 @@ fn positive_size(octets: &[u8], rtype: u16) -> Result<usize, FrameFault>
     read_rdatas(&mut reader, rtype, count)
 }
 
-// What a body tells of the name in it.
+/// What a body tells of the name in it.
 fn as_body(fault: FrameFault) -> FrameFault
     ensures { result ≡ told_of_body fault }
 {
@@ -88,10 +97,12 @@ fn as_body(fault: FrameFault) -> FrameFault
     }
 }
 
-// The owner of the SOA of a denial of the name.
+/// The owner of the SOA of a denial of the name.
 fn read_owner<'a>(reader: &mut Reader<'a>, name: &[u8]) -> Result<&'a [u8], FrameFault>
     requires { IsWire name.now }
-    ensures { (n : List (List ℕ)) → IsName n → name.now ≡ wire n → MatchResult result (λ r. IsPart (IsOwnerOf n) reader.old r.now reader.new) (NegativeFails n reader.old) }
+    ensures { (n : List (List ℕ)) → IsName n → name.now ≡ wire n
+        → MatchResult result (λ r. IsPart (IsOwnerOf n) reader.old r.now reader.new)
+        (NegativeFails n reader.old) }
 {
     match read_name(reader) {
         Err(fault) => Err(as_body(fault)),
@@ -104,10 +115,12 @@ fn read_owner<'a>(reader: &mut Reader<'a>, name: &[u8]) -> Result<&'a [u8], Fram
     }
 }
 
-// How many octets the body at the front has, which is that of a denial of the name.
+/// How many octets the body at the front has, which is that of a denial of the name.
 fn negative_size(octets: &[u8], name: &[u8]) -> Result<usize, FrameFault>
     requires { IsWire name.now }
-    ensures { (n : List (List ℕ)) → IsName n → name.now ≡ wire n → MatchResult result (λ size. IsSizeOf (IsNegativeBody n) octets.now size) (NegativeFails n octets.now) }
+    ensures { (n : List (List ℕ)) → IsName n → name.now ≡ wire n
+        → MatchResult result (λ size. IsSizeOf (IsNegativeBody n) octets.now size)
+        (NegativeFails n octets.now) }
 {
     let mut reader = Reader::new(octets);
     let owner = read_owner(&mut reader, name)?;
@@ -118,10 +131,13 @@ fn negative_size(octets: &[u8], name: &[u8]) -> Result<usize, FrameFault>
     Ok(owner.len() + 2 + rdata.len())
 }
 
-// How many octets the body at the front has, of an entry of that kind, name and type.
+/// How many octets the body at the front has, of an entry of that kind, name and type.
 fn body_size(octets: &[u8], kind: Kind, name: &[u8], rtype: u16) -> Result<usize, FrameFault>
     requires { IsWire name.now }
-    ensures { (n : List (List ℕ)) → IsName n → name.now ≡ wire n → MatchResult result (λ size. IsSizeOf (IsBodyOf (kind_number kind) n rtype) octets.now size) (BodyFails (kind_number kind) n rtype octets.now) }
+    ensures { (n : List (List ℕ)) → IsName n → name.now ≡ wire n
+        → MatchResult result
+        (λ size. IsSizeOf (IsBodyOf (kind_number kind) n rtype) octets.now size)
+        (BodyFails (kind_number kind) n rtype octets.now) }
 {
     match kind {
         Kind::Positive => positive_size(octets, rtype),
@@ -138,7 +154,10 @@ pub(crate) fn read_body<'a>(
     rtype: u16,
 ) -> Result<&'a [u8], FrameFault>
     requires { IsWire name.now }
-    ensures { (n : List (List ℕ)) → IsName n → name.now ≡ wire n → MatchResult result (λ r. IsPart (IsBodyOf (kind_number kind) n rtype) reader.old r.now reader.new) (BodyFails (kind_number kind) n rtype reader.old) }
+    ensures { (n : List (List ℕ)) → IsName n → name.now ≡ wire n
+        → MatchResult result
+        (λ r. IsPart (IsBodyOf (kind_number kind) n rtype) reader.old r.now reader.new)
+        (BodyFails (kind_number kind) n rtype reader.old) }
 {
     let size = body_size(reader.rest(), kind, name, rtype)?;
     reader.take(size)

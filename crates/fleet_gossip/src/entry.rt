@@ -30,7 +30,9 @@ pub(crate) struct Entry<'a> {
 
 /// The entry that is read next. This takes no memory.
 pub(crate) fn read_entry<'a>(reader: &mut Reader<'a>) -> Result<Entry<'a>, FrameFault>
-    ensures { MatchResult result (λ entry. (o : Fact) × Tells entry o × (reader.old ≡ entry_octets o ++ reader.new)) (EntryFails reader.old) }
+    ensures { MatchResult result
+        (λ entry. (o : Fact) × Tells entry o × (reader.old ≡ entry_octets o ++ reader.new))
+        (EntryFails reader.old) }
 {
     let head = read_head(reader)?;
     let name = read_name(reader)?;
@@ -44,10 +46,11 @@ pub(crate) fn read_entry<'a>(reader: &mut Reader<'a>) -> Result<Entry<'a>, Frame
     })
 }
 
-// The name of octets in full.
+/// The name of octets in full.
 fn copy_name<A: Allocator>(alloc: A, octets: &[u8]) -> Result<Name<A>, AllocError>
     requires { IsWire octets.now }
-    ensures { IfOk result (λ name. (n : List (List ℕ)) → IsName n → octets.now ≡ wire n → name ≡ n) }
+    ensures { IfOk result (λ name.
+        (n : List (List ℕ)) → IsName n → octets.now ≡ wire n → name ≡ n) }
 {
     let name = Name::copy_of(alloc, octets)?;
     // What the proof needs to know of the name.
@@ -55,7 +58,7 @@ fn copy_name<A: Allocator>(alloc: A, octets: &[u8]) -> Result<Name<A>, AllocErro
     Ok(name)
 }
 
-// The RDATAs of a positive body.
+/// The RDATAs of a positive body.
 fn copy_rdatas<A: Allocator + Copy>(alloc: A, body: &[u8]) -> Result<Vec<Octets<A>, A>, AllocError>
     requires { IsRdatasBody body.now }
     ensures { IfOk result (λ rdatas. body.now ≡ positive_body rdatas.items) }
@@ -74,10 +77,11 @@ fn copy_rdatas<A: Allocator + Copy>(alloc: A, body: &[u8]) -> Result<Vec<Octets<
     Ok(rdatas)
 }
 
-// The SOA of the body of a denial.
+/// The SOA of the body of a denial.
 fn copy_soa<A: Allocator + Copy>(alloc: A, body: &[u8]) -> Result<Soa<A>, AllocError>
     requires { IsSoaBody body.now }
-    ensures { IfOk result (λ soa. IsName soa.owner × (body.now ≡ negative_body soa.owner soa.rdata)) }
+    ensures { IfOk result (λ soa.
+        IsName soa.owner × (body.now ≡ negative_body soa.owner soa.rdata)) }
 {
     let mut reader = Reader::new(body);
     let Ok(owner) = read_name(&mut reader) else {
@@ -96,7 +100,7 @@ fn copy_soa<A: Allocator + Copy>(alloc: A, body: &[u8]) -> Result<Soa<A>, AllocE
 }
 
 impl Entry<'_> {
-    // The observation of a positive entry.
+    /// The observation of a positive entry.
     fn to_records<A: Allocator + Copy>(&self, alloc: A) -> Result<Observation<A>, AllocError>
         requires tells { (o : Fact) × Tells self.now o }
         requires kind { kind_number self.now.head.kind ≡ 3 }
@@ -113,7 +117,7 @@ impl Entry<'_> {
         Ok(observation)
     }
 
-    // The observation of a negative entry, of a type or of none.
+    /// The observation of a negative entry, of a type or of none.
     fn to_denial<A: Allocator + Copy>(
         &self,
         alloc: A,

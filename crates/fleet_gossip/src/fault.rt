@@ -6,7 +6,8 @@ ghost use Rattle.fleet_gossip.specs.declared.fault.FrameFault.TheVariants.{OutOf
 use std::alloc::{AllocError, AllocFailed};
 use thiserror::Error;
 
-/// Why a frame is refused: of several faults the first one that is met, its octets being read in order.
+/// Why a frame is refused: of several faults the first one that is met, its octets being read in
+/// order.
 #[derive(Clone, Copy, Debug, PartialEq, Eq, Error)]
 pub enum FrameFault {
     /// It doesn't begin with the octets 44 47.
@@ -21,8 +22,8 @@ pub enum FrameFault {
     /// It ends before what it says.
     #[error("truncated")]
     Truncated,
-    /// A kind other than 1, 2 or 3, or a type that the kind doesn't have: a name error has 0, the others have none of
-    /// 0, 41 and 128 to 255 (RFC 6895 3.1).
+    /// A kind other than 1, 2 or 3, or a type that the kind doesn't have: a name error has 0, the
+    /// others have none of 0, 41 and 128 to 255 (RFC 6895 3.1).
     #[error("bad kind")]
     BadKind,
     /// A rank other than 1, 2 or 3, or 2 where the observation is not positive.
@@ -31,17 +32,18 @@ pub enum FrameFault {
     /// A stamp of more than 2^40 seconds.
     #[error("bad moment")]
     BadMoment,
-    /// A life of 0 seconds, of more than 86400, or of more than 10800 where the observation is not positive.
+    /// A life of 0 seconds, of more than 86400, or of more than 10800 where the observation is not
+    /// positive.
     #[error("bad life")]
     BadLife,
-    /// A label of more than 63 octets, a name of more than 255 with its zero octet, or a capital letter in it
-    /// (RFC 1035 2.3.4).
+    /// A label of more than 63 octets, a name of more than 255 with its zero octet, or a capital
+    /// letter in it (RFC 1035 2.3.4).
     #[error("bad name")]
     BadName,
-    /// Positive: no RDATA, more than one of an alias (CNAME), a body of more than 8192 octets, RDATA that is not of its
-    /// type's shape with names in full and in lower case, or RDATA that doesn't stand above the one before it.
-    /// Negative: an owner that is no name, or neither the observation's name nor an ancestor of it, or RDATA that is
-    /// not of the shape of an SOA.
+    /// Positive: no RDATA, more than one of an alias (CNAME), a body of more than 8192 octets,
+    /// RDATA that is not of its type's shape with names in full and in lower case, or RDATA that
+    /// doesn't stand above the one before it. Negative: an owner that is no name, or neither the
+    /// observation's name nor an ancestor of it, or RDATA that is not of the shape of an SOA.
     #[error("bad body")]
     BadBody,
     /// Octets behind the last entry.

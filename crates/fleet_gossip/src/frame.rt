@@ -26,9 +26,10 @@ pub(crate) const OPENING: usize = 5;
 /// How many octets a frame has at most.
 pub(crate) const MAX_FRAME: usize = 16384;
 
-// How many octets the frame of observations has, where it may have so many.
+/// How many octets the frame of observations has, where it may have so many.
 fn frame_size<A: Allocator>(observations: &[Observation<A>]) -> Option<usize>
-    ensures { MatchOption result (16384 < length (frame_octets observations.now)) (FitsFrame observations.now) }
+    ensures { MatchOption result (16384 < length (frame_octets observations.now))
+        (FitsFrame observations.now) }
 {
     let mut size = OPENING;
     for observation in observations {
@@ -42,8 +43,8 @@ fn frame_size<A: Allocator>(observations: &[Observation<A>]) -> Option<usize>
 
 /// The frame of observations, in their order: one allocation of just its octets.
 ///
-/// `TooLong` comes exactly where it would have more than 16384 octets, before any memory is asked for. Of the other
-/// faults there is only `OutOfMemory`.
+/// `TooLong` comes exactly where it would have more than 16384 octets, before any memory is asked
+/// for. Of the other faults there is only `OutOfMemory`.
 pub fn encode<A: Allocator>(
     alloc: A,
     observations: &[Observation<A>],
@@ -63,9 +64,10 @@ pub fn encode<A: Allocator>(
     Ok(frame)
 }
 
-// How many entries the frame counts.
+/// How many entries the frame counts.
 fn read_count(reader: &mut Reader<'_>) -> Result<u16, FrameFault>
-    ensures { MatchResult result (λ count. IsOpened reader.old count reader.new) (MagicFails reader.old) }
+    ensures { MatchResult result (λ count. IsOpened reader.old count reader.new)
+        (MagicFails reader.old) }
 {
     let magic = reader.read_u16()?;
     if magic != MAGIC {
@@ -85,9 +87,10 @@ pub(crate) struct Entries<'a> {
     pub octets: &'a [u8],
 }
 
-// Whether the octets are just so many lawful entries. This takes no memory.
+/// Whether the octets are just so many lawful entries. This takes no memory.
 fn check_entries(entries: &Entries<'_>) -> Result<(), FrameFault>
-    ensures { MatchResult result (λ _. StandEntries entries.now.octets.now entries.now.count) (EntriesFail entries.now.count entries.now.octets.now) }
+    ensures { MatchResult result (λ _. StandEntries entries.now.octets.now entries.now.count)
+        (EntriesFail entries.now.count entries.now.octets.now) }
 {
     let mut reader = Reader::new(entries.octets);
     for _ in 0..entries.count {
@@ -102,9 +105,10 @@ fn check_entries(entries: &Entries<'_>) -> Result<(), FrameFault>
     Ok(())
 }
 
-// The entries of a frame, each of them lawful. This takes no memory.
+/// The entries of a frame, each of them lawful. This takes no memory.
 fn read_frame(octets: &[u8]) -> Result<Entries<'_>, FrameFault>
-    ensures { MatchResult result (λ entries. AreEntriesOf octets.now entries.count entries.octets.now) (FrameFails octets.now) }
+    ensures { MatchResult result (λ entries.
+        AreEntriesOf octets.now entries.count entries.octets.now) (FrameFails octets.now) }
 {
     if octets.len() > MAX_FRAME {
         return Err(FrameFault::TooLong);
@@ -119,13 +123,14 @@ fn read_frame(octets: &[u8]) -> Result<Entries<'_>, FrameFault>
     Ok(entries)
 }
 
-// The observations of lawful entries.
+/// The observations of lawful entries.
 fn to_observations<A: Allocator + Copy>(
     alloc: A,
     entries: &Entries<'_>,
 ) -> Result<Vec<Observation<A>, A>, AllocError>
     requires { StandEntries entries.now.octets.now entries.now.count }
-    ensures found { IfOk result (λ v. AreEntries entries.now.octets.now entries.now.count v.items []) }
+    ensures found { IfOk result (λ v.
+        AreEntries entries.now.octets.now entries.now.count v.items []) }
     ensures memory { OnErr result (0 < entries.now.count) }
 {
     let mut reader = Reader::new(entries.octets);
@@ -141,8 +146,9 @@ fn to_observations<A: Allocator + Copy>(
 
 /// The observations of a frame, in its order: what `encode` makes this frame of.
 ///
-/// All octets are checked before any memory is asked for: of several faults the first one in reading order is told, and
-/// `OutOfMemory` only where there is none and there are observations to be made. A refused frame yields nothing.
+/// All octets are checked before any memory is asked for: of several faults the first one in
+/// reading order is told, and `OutOfMemory` only where there is none and there are observations to
+/// be made. A refused frame yields nothing.
 pub fn decode<A: Allocator + Copy>(
     alloc: A,
     octets: &[u8],
@@ -150,7 +156,8 @@ pub fn decode<A: Allocator + Copy>(
     ensures found { IfOk result (λ v. SpellsFrame octets.now v.items) }
     ensures fault { IfErr result (λ f. OrMemory f (FrameFails octets.now f)) }
     // Where a list is spelled, only want of memory keeps it from being read.
-    ensures only { (facts : List Fact) → SpellsFrame octets.now facts → IfErr result (λ f. f ≡ OutOfMemory) }
+    ensures only { (facts : List Fact) → SpellsFrame octets.now facts
+        → IfErr result (λ f. f ≡ OutOfMemory) }
     // Want of memory is told only where a list is spelled that has something in it.
     ensures memory { IfErr result (λ f. f ≡ OutOfMemory → HasEntries octets.now) }
 {

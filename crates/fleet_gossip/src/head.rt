@@ -24,7 +24,8 @@ pub(crate) struct Head {
 }
 
 fn read_kind(reader: &mut Reader<'_>) -> Result<Kind, FrameFault>
-    ensures { MatchResult result (λ r. IsField octet IsKind reader.old (kind_number r) reader.new) (NoField octet 1 IsKind BadKind reader.old) }
+    ensures { MatchResult result (λ r. IsField octet IsKind reader.old (kind_number r) reader.new)
+        (NoField octet 1 IsKind BadKind reader.old) }
 {
     let number = reader.read_u8()?;
     match number {
@@ -36,7 +37,9 @@ fn read_kind(reader: &mut Reader<'_>) -> Result<Kind, FrameFault>
 }
 
 fn read_rank(reader: &mut Reader<'_>, kind: Kind) -> Result<u8, FrameFault>
-    ensures { MatchResult result (λ r. IsField octet (IsRankOf (kind_number kind)) reader.old r reader.new) (NoField octet 1 (IsRankOf (kind_number kind)) BadRank reader.old) }
+    ensures { MatchResult result
+        (λ r. IsField octet (IsRankOf (kind_number kind)) reader.old r reader.new)
+        (NoField octet 1 (IsRankOf (kind_number kind)) BadRank reader.old) }
 {
     let rank = reader.read_u8()?;
     if !is_rank_of(kind, rank) {
@@ -46,7 +49,8 @@ fn read_rank(reader: &mut Reader<'_>, kind: Kind) -> Result<u8, FrameFault>
 }
 
 fn read_stamp(reader: &mut Reader<'_>) -> Result<Moment, FrameFault>
-    ensures { MatchResult result (λ r. IsField u64_octets IsMoment reader.old r reader.new) (NoField u64_octets 8 IsMoment BadMoment reader.old) }
+    ensures { MatchResult result (λ r. IsField u64_octets IsMoment reader.old r reader.new)
+        (NoField u64_octets 8 IsMoment BadMoment reader.old) }
 {
     let seconds = reader.read_u64()?;
     match Moment::new(seconds) {
@@ -56,7 +60,9 @@ fn read_stamp(reader: &mut Reader<'_>) -> Result<Moment, FrameFault>
 }
 
 fn read_life(reader: &mut Reader<'_>, kind: Kind) -> Result<u32, FrameFault>
-    ensures { MatchResult result (λ r. IsField u32_octets (IsLifeOf (kind_number kind)) reader.old r reader.new) (NoField u32_octets 4 (IsLifeOf (kind_number kind)) BadLife reader.old) }
+    ensures { MatchResult result
+        (λ r. IsField u32_octets (IsLifeOf (kind_number kind)) reader.old r reader.new)
+        (NoField u32_octets 4 (IsLifeOf (kind_number kind)) BadLife reader.old) }
 {
     let life = reader.read_u32()?;
     if !is_life_of(kind, life) {
@@ -83,7 +89,9 @@ pub(crate) fn read_head(reader: &mut Reader<'_>) -> Result<Head, FrameFault>
 
 /// The type of an entry of the kind.
 pub(crate) fn read_type(reader: &mut Reader<'_>, kind: Kind) -> Result<u16, FrameFault>
-    ensures { MatchResult result (λ r. IsField u16_octets (IsTypeOf (kind_number kind)) reader.old r reader.new) (NoField u16_octets 2 (IsTypeOf (kind_number kind)) BadKind reader.old) }
+    ensures { MatchResult result
+        (λ r. IsField u16_octets (IsTypeOf (kind_number kind)) reader.old r reader.new)
+        (NoField u16_octets 2 (IsTypeOf (kind_number kind)) BadKind reader.old) }
 {
     let rtype = reader.read_u16()?;
     if !is_type_of(kind, rtype) {

@@ -9,22 +9,26 @@ ghost use Rattle.fleet_gossip.specs.declared.fault.FrameFault.{FrameFault};
 
 /// Octets spell one list of observations at most.
 pub fn one_list()
-    ensures { (octets : List ℕ) (a b : List Fact) → SpellsFrame octets a → SpellsFrame octets b → a ≡ b }
+    ensures { (octets : List ℕ) (a b : List Fact) → SpellsFrame octets a → SpellsFrame octets b
+        → a ≡ b }
 {}
 
 /// A list has one frame at most.
 pub fn one_spelling()
-    ensures { (facts : List Fact) (a b : List ℕ) → SpellsFrame a facts → SpellsFrame b facts → a ≡ b }
+    ensures { (facts : List Fact) (a b : List ℕ) → SpellsFrame a facts → SpellsFrame b facts
+        → a ≡ b }
 {}
 
 /// A frame that spells a list has no fault.
 pub fn list_or_fault()
-    ensures { (octets : List ℕ) (facts : List Fact) (f : FrameFault) → SpellsFrame octets facts → FrameFails octets f → ⊥ }
+    ensures { (octets : List ℕ) (facts : List Fact) (f : FrameFault) → SpellsFrame octets facts
+        → FrameFails octets f → ⊥ }
 {}
 
 /// Octets have one first fault at most.
 pub fn one_fault()
-    ensures { (octets : List ℕ) (f g : FrameFault) → FrameFails octets f → FrameFails octets g → f ≡ g }
+    ensures { (octets : List ℕ) (f g : FrameFault) → FrameFails octets f → FrameFails octets g
+        → f ≡ g }
 {}
 
 /// An observation alone always fits a frame, whatever its name and body.
@@ -34,5 +38,6 @@ pub fn entry_fits()
 
 /// A list has one packing at most: its frames are determined.
 pub fn one_packing()
-    ensures { (facts : List Fact) (a b : List (List ℕ)) → IsPacked facts a → IsPacked facts b → a ≡ b }
+    ensures { (facts : List Fact) (a b : List (List ℕ)) → IsPacked facts a → IsPacked facts b
+        → a ≡ b }
 {}

@@ -9,15 +9,18 @@ use crate::fault::FrameFault;
 use crate::reader::Reader;
 use fleet_name::is_lower;
 
-// How many octets a label, and a name with its zero octet, have at most (RFC 1035 2.3.4).
+/// How many octets a label, and a name with its zero octet, have at most (RFC 1035 2.3.4).
 const MAX_LABEL: usize = 63;
 
 const MAX_NAME: usize = 255;
 
-// The label behind others that have `used` octets with a final zero: none of octets is the end of the name.
+/// The label behind others that have `used` octets with a final zero: none of octets is the end of
+/// the name.
 fn read_label<'a>(reader: &mut Reader<'a>, used: usize) -> Result<&'a [u8], FrameFault>
     requires { used ≤ 255 }
-    ensures { (before : List (List ℕ)) → length (wire before) ≡ used → MatchResult result (λ r. IsLabelAt before reader.old r.now reader.new) (LabelFails before reader.old) }
+    ensures { (before : List (List ℕ)) → length (wire before) ≡ used
+        → MatchResult result (λ r. IsLabelAt before reader.old r.now reader.new)
+        (LabelFails before reader.old) }
 {
     let size = usize::from(reader.read_u8()?);
     if size == 0 {
@@ -33,7 +36,7 @@ fn read_label<'a>(reader: &mut Reader<'a>, used: usize) -> Result<&'a [u8], Fram
     Ok(label)
 }
 
-// How many octets the name that is read next has.
+/// How many octets the name that is read next has.
 fn name_size(octets: &[u8]) -> Result<usize, FrameFault>
     ensures { MatchResult result (λ size. IsSizeOf IsWire octets.now size) (NameFails octets.now) }
 {
@@ -50,7 +53,8 @@ fn name_size(octets: &[u8]) -> Result<usize, FrameFault>
 
 /// The octets of the name that is read next.
 pub(crate) fn read_name<'a>(reader: &mut Reader<'a>) -> Result<&'a [u8], FrameFault>
-    ensures { MatchResult result (λ r. IsPart IsWire reader.old r.now reader.new) (NameFails reader.old) }
+    ensures { MatchResult result (λ r. IsPart IsWire reader.old r.now reader.new)
+        (NameFails reader.old) }
 {
     let size = name_size(reader.rest())?;
     reader.take(size)
@@ -60,7 +64,8 @@ pub(crate) fn read_name<'a>(reader: &mut Reader<'a>) -> Result<&'a [u8], FrameFa
 pub(crate) fn is_under(name: &[u8], ancestor: &[u8]) -> bool
     requires name { IsWire name.now }
     requires ancestor { IsWire ancestor.now }
-    ensures { (n a : List (List ℕ)) → IsName n → IsName a → name.now ≡ wire n → ancestor.now ≡ wire a → (IsTrue result ↔ IsUnder n a) }
+    ensures { (n a : List (List ℕ)) → IsName n → IsName a → name.now ≡ wire n
+        → ancestor.now ≡ wire a → (IsTrue result ↔ IsUnder n a) }
 {
     let mut rest = name;
     while rest.len() > ancestor.len() {

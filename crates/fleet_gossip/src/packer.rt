@@ -40,10 +40,13 @@ impl<A: Allocator + Copy> Packer<A> {
         }
     }
 
-    // Finishes the frame in the making.
+    /// Finishes the frame in the making.
     fn close(&mut self) -> Result<(), AllocError>
         requires { length self.old.entries.items ≤ 16384 }
-        ensures frames { OnOk result (self.new.frames.items ≡ self.old.frames.items ++ (u16_octets magic ++ (octet version ++ (u16_octets self.old.count ++ self.old.entries.items))) ∷ []) }
+        ensures frames { OnOk result (self.new.frames.items
+            ≡ self.old.frames.items
+            ++ (u16_octets magic
+            ++ (octet version ++ (u16_octets self.old.count ++ self.old.entries.items))) ∷ []) }
         ensures entries { OnOk result (self.new.entries.items ≡ []) }
         ensures count { OnOk result (self.new.count ≡ 0) }
     {
@@ -59,7 +62,8 @@ impl<A: Allocator + Copy> Packer<A> {
     /// Adds an observation behind the others.
     pub fn add(&mut self, observation: &Observation<A>) -> Result<(), AllocError>
         requires { IsPacking self.old }
-        ensures { OnOk result ((taken : List Fact) → Packs self.old taken → Packs self.new (taken ++ observation.now ∷ [])) }
+        ensures { OnOk result ((taken : List Fact) → Packs self.old taken
+            → Packs self.new (taken ++ observation.now ∷ [])) }
     {
         if OPENING + self.entries.len() + entry_size(observation) > MAX_FRAME {
             self.close()?;
@@ -73,7 +77,8 @@ impl<A: Allocator + Copy> Packer<A> {
     pub fn finish(mut self) -> Result<Vec<Octets<A>, A>, AllocError>
         requires { IsPacking self }
         ensures memory { OnErr result ((taken : List Fact) → Packs self taken → taken ≢ []) }
-        ensures packed { IfOk result (λ frames. (taken : List Fact) → Packs self taken → IsPacked taken frames.items) }
+        ensures packed { IfOk result (λ frames.
+            (taken : List Fact) → Packs self taken → IsPacked taken frames.items) }
     {
         if self.count == 0 {
             return Ok(self.frames);
@@ -83,8 +88,9 @@ impl<A: Allocator + Copy> Packer<A> {
     }
 }
 
-/// The frames of observations, in their order: each observation goes into the frame of the one before it where that
-/// then has at most 16384 octets, else it begins a new frame. An empty list has none, and takes no memory.
+/// The frames of observations, in their order: each observation goes into the frame of the one
+/// before it where that then has at most 16384 octets, else it begins a new frame. An empty list
+/// has none, and takes no memory.
 pub fn pack<A: Allocator + Copy>(
     alloc: A,
     observations: &[Observation<A>],
@@ -99,7 +105,8 @@ pub fn pack<A: Allocator + Copy>(
     packer.finish()
 }
 
-/// The frames of all items of a cache, in their order: what `pack` gives of them. No items take no memory.
+/// The frames of all items of a cache, in their order: what `pack` gives of them. No items take no
+/// memory.
 pub fn sweep<A: Allocator + Copy>(
     alloc: A,
     cache: &Cache<A>,

@@ -45,7 +45,8 @@ impl<'a> Reader<'a> {
 
     /// So many octets.
     pub fn take(&mut self, count: usize) -> Result<&'a [u8], FrameFault>
-        ensures { MatchResult result (λ r. AreTaken self.old count r.now self.new) (IsCut count self.old) }
+        ensures { MatchResult result (λ r. AreTaken self.old count r.now self.new)
+            (IsCut count self.old) }
     {
         if self.rest.len() < count {
             return Err(FrameFault::Truncated);

@@ -4,15 +4,16 @@ use crate::{FrameFault, decode};
 use std::alloc::{AllocError, Global};
 use std::test::Fail;
 
-// Two entries of 37 octets, of example.com.: 192.0.2.1, then 192.0.2.2.
+/// Two entries of 37 octets, of example.com.: 192.0.2.1, then 192.0.2.2.
 const TWO: [u8; 79] =
     *b"\x44\x47\x01\x00\x02\x03\x03\x00\x00\x00\x00\x00\x00\x00\x64\x00\x00\x01\x2c\x07example\x03com\x00\x00\x01\x00\x01\x00\x04\xc0\x00\x02\x01\x03\x03\x00\x00\x00\x00\x00\x00\x00\x64\x00\x00\x01\x2c\x07example\x03com\x00\x00\x01\x00\x01\x00\x04\xc0\x00\x02\x02";
 
-// An entry of example.com., then one of 60 octets: no name b.example., on the word of the SOA of example.
+/// An entry of example.com., then one of 60 octets: no name b.example., on the word of the SOA of
+/// example.
 const DENIED: [u8; 102] =
     *b"\x44\x47\x01\x00\x02\x03\x03\x00\x00\x00\x00\x00\x00\x00\x64\x00\x00\x01\x2c\x07example\x03com\x00\x00\x01\x00\x01\x00\x04\xc0\x00\x02\x01\x01\x03\x00\x00\x00\x00\x00\x00\x00\x64\x00\x00\x01\x2c\x01b\x07example\x00\x00\x00\x07example\x00\x00\x16\x00\x00\x00\x00\x00\x01\x00\x00\x0e\x10\x00\x00\x02\x58\x00\x01\x51\x80\x00\x00\x01\x2c";
 
-// Why a frame is refused, if it is, with these octets in place of those at the places before them.
+/// Why a frame is refused, if it is, with these octets in place of those at the places before them.
 fn fault_with(
     alloc: Global,
     frame: &[u8],
@@ -27,7 +28,7 @@ fn fault_with(
     Ok(decode(alloc, &other).err())
 }
 
-// Changes of a frame's octets, each with why the frame is refused then.
+/// Changes of a frame's octets, each with why the frame is refused then.
 type Changed = (&'static [(usize, u8)], Option<FrameFault>);
 
 const FIELDS: [Changed; 19] = [
@@ -115,7 +116,7 @@ fn tells_the_faults_of_a_second_entry_that_denies(rt: HostRuntime) -> Result<(),
     Ok(())
 }
 
-// The first entry of `TWO`, and one with these octets from its name on.
+/// The first entry of `TWO`, and one with these octets from its name on.
 fn behind_first(alloc: Global, rest: &[u8]) -> Result<Vec<u8>, AllocError> {
     let mut frame = TWO[..56].to_vec(alloc)?;
     frame.extend_from_slice(rest)?;

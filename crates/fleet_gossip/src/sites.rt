@@ -6,7 +6,7 @@ use fleet_observe::Moment;
 use std::alloc::Global;
 use std::test::Fail;
 
-// The frame of one address of example.com.: its rank, its stamp, its life and its last octet.
+/// The frame of one address of example.com.: its rank, its stamp, its life and its last octet.
 fn frame_of(rank: u8, stamp: u8, life: &[u8; 2], last: u8) -> [u8; 42] {
     let mut frame =
         *b"\x44\x47\x01\x00\x01\x03\x03\x00\x00\x00\x00\x00\x00\x00\x64\x00\x00\x01\x2c\x07example\x03com\x00\x00\x01\x00\x01\x00\x04\xc0\x00\x02\x01";
@@ -18,7 +18,7 @@ fn frame_of(rank: u8, stamp: u8, life: &[u8; 2], last: u8) -> [u8; 42] {
     frame
 }
 
-// Takes what a frame holds, and says how many observations that were.
+/// Takes what a frame holds, and says how many observations that were.
 fn take(alloc: Global, cache: &mut Cache, frame: &[u8]) -> Result<usize, Fail> {
     let observations = decode(alloc, frame)?;
     let count = observations.len();

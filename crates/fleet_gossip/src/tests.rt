@@ -6,11 +6,11 @@ use fleet_observe::{Kind, Observation};
 use std::alloc::{AllocError, Global};
 use std::test::Fail;
 
-// The frame of one observation: 192.0.2.1 at example.com., rank 3, stamp 100, life 300.
+/// The frame of one observation: 192.0.2.1 at example.com., rank 3, stamp 100, life 300.
 const EXAMPLE: [u8; 42] =
     *b"\x44\x47\x01\x00\x01\x03\x03\x00\x00\x00\x00\x00\x00\x00\x64\x00\x00\x01\x2c\x07example\x03com\x00\x00\x01\x00\x01\x00\x04\xc0\x00\x02\x01";
 
-// Why the example is refused with these octets in place of those at the places before them.
+/// Why the example is refused with these octets in place of those at the places before them.
 fn changed(alloc: Global, changes: &[(usize, u8)]) -> Option<FrameFault> {
     let mut frame = EXAMPLE;
     for (at, octet) in changes {
@@ -83,7 +83,8 @@ fn refuses_by_the_first_fault(rt: HostRuntime) -> Result<(), Fail> {
     Ok(())
 }
 
-// The frame of a denial: no name b.example., rank 3, stamp 100, life 300, on the word of the SOA of example.
+/// The frame of a denial: no name b.example., rank 3, stamp 100, life 300, on the word of the SOA
+/// of example.
 const DENIAL: [u8; 65] =
     *b"\x44\x47\x01\x00\x01\x01\x03\x00\x00\x00\x00\x00\x00\x00\x64\x00\x00\x01\x2c\x01b\x07example\x00\x00\x00\x07example\x00\x00\x16\x00\x00\x00\x00\x00\x01\x00\x00\x0e\x10\x00\x00\x02\x58\x00\x01\x51\x80\x00\x00\x01\x2c";
 
@@ -128,7 +129,7 @@ fn returns_whatever_octet_changes(rt: HostRuntime) -> Result<(), Fail> {
     Ok(())
 }
 
-// TXT data of so many octets at example.com., stamp 100, life 300, rank 1.
+/// TXT data of so many octets at example.com., stamp 100, life 300, rank 1.
 fn text(alloc: Global, size: u16) -> Result<Vec<u8>, AllocError> {
     let mut frame = EXAMPLE[..32].to_vec(alloc)?;
     if frame.len() > 6 {
@@ -150,7 +151,7 @@ fn a_body_has_8192_octets_at_most(rt: HostRuntime) -> Result<(), Fail> {
     Ok(())
 }
 
-// Observations like the example's, with decimal numbers for `example`.
+/// Observations like the example's, with decimal numbers for `example`.
 fn numbered(alloc: Global, count: u32) -> Result<Vec<Observation>, Fail> {
     let mut all = Vec::new(alloc);
     for number in 0..count {

@@ -30,19 +30,24 @@ fn push_u64<A: Allocator>(out: &mut Vec<u8, A>, number: u64) -> Result<(), Alloc
 
 /// Magic, version and how many entries there are.
 pub(crate) fn push_opening<A: Allocator>(out: &mut Vec<u8, A>, count: u16) -> Result<(), AllocError>
-    ensures { OnOk result (out.new.items ≡ out.old.items ++ (u16_octets magic ++ (octet version ++ u16_octets count))) }
+    ensures { OnOk result (out.new.items
+        ≡ out.old.items ++ (u16_octets magic ++ (octet version ++ u16_octets count))) }
 {
     push_u16(out, MAGIC)?;
     out.push(VERSION)?;
     push_u16(out, count)
 }
 
-// Kind, rank, stamp and life of an observation.
+/// Kind, rank, stamp and life of an observation.
 fn push_head<A: Allocator>(
     out: &mut Vec<u8, A>,
     observation: &Observation<A>,
 ) -> Result<(), AllocError>
-    ensures { OnOk result (out.new.items ≡ out.old.items ++ (octet observation.now.kind ++ (octet observation.now.rank ++ (u64_octets observation.now.stamp ++ u32_octets observation.now.life)))) }
+    ensures { OnOk result (out.new.items
+        ≡ out.old.items
+        ++ (octet observation.now.kind
+        ++ (octet observation.now.rank
+        ++ (u64_octets observation.now.stamp ++ u32_octets observation.now.life)))) }
 {
     out.push(observation.kind().number())?;
     out.push(observation.rank())?;

@@ -14,14 +14,14 @@ use std::alloc::{AllocError, Allocator, Global};
 use std::cmp::Ordering;
 use std::marker::Model;
 
-// The most octets of a label (RFC 1035 2.3.4).
+/// The most octets of a label (RFC 1035 2.3.4).
 const LONGEST_LABEL: usize = 63;
 
-// The most octets of a name in full (RFC 1035 2.3.4).
+/// The most octets of a name in full (RFC 1035 2.3.4).
 const LONGEST_NAME: usize = 255;
 
-/// A name: its labels in lower case, each of 1 to 63 octets, at most 255 octets in full
-/// (RFC 1035 2.3.4, 3.1). Contracts see it as the list of its labels. It takes one allocation.
+/// A name: its labels in lower case, each of 1 to 63 octets, at most 255 octets in full (RFC 1035
+/// 2.3.4, 3.1). Contracts see it as the list of its labels. It takes one allocation.
 #[derive(Drop)]
 pub struct Name<A: Allocator = Global> {
     octets: Vec<u8, A>,
@@ -96,8 +96,10 @@ impl<A: Allocator> Name<A> {
     pub fn push(&mut self, label: &[u8]) -> Result<(), NameFault>
         ensures ok { OnOk result (self.new ≡ self.old ++ lower label.now ∷ []) }
         ensures named { OnOk result (IsName (self.old ++ lower label.now ∷ [])) }
-        ensures fault { MatchResult result (λ _. push_fault self.old label.now ≡ None) (λ e. IsFirst e (push_fault self.old label.now)) }
-        ensures refused { IfErr result (λ e. e ≢ OutOfMemory → IsName (self.old ++ lower label.now ∷ []) → ⊥) }
+        ensures fault { MatchResult result (λ _. push_fault self.old label.now ≡ None)
+            (λ e. IsFirst e (push_fault self.old label.now)) }
+        ensures refused { IfErr result (λ e.
+            e ≢ OutOfMemory → IsName (self.old ++ lower label.now ∷ []) → ⊥) }
         ensures err { OnErr result (self.new ≡ self.old) }
     {
         if label.is_empty() {
@@ -123,7 +125,8 @@ impl<A: Allocator> Name<A> {
 
     /// The name in full without the first `count` labels; `None` where it has fewer.
     pub fn suffix(&self, count: usize) -> Option<&[u8]>
-        ensures { MatchOption result (length self.now < count) (λ s. (count ≤ length self.now) × (s.now ≡ wire (drop count self.now))) }
+        ensures { MatchOption result (length self.now < count)
+            (λ s. (count ≤ length self.now) × (s.now ≡ wire (drop count self.now))) }
     {
         if count > self.labels {
             return None;
@@ -131,7 +134,8 @@ impl<A: Allocator> Name<A> {
         Some(after_labels(&self.octets, count))
     }
 
-    /// Whether this is the ancestor's name or one below it: the ancestor's labels are its last ones.
+    /// Whether this is the ancestor's name or one below it: the ancestor's labels are its last
+    /// ones.
     pub fn is_under(&self, ancestor: &Name<A>) -> bool
         ensures { IsTrue result ↔ IsUnder self.now ancestor.now }
     {
@@ -141,9 +145,9 @@ impl<A: Allocator> Name<A> {
         after_labels(&self.octets, self.labels - ancestor.labels) == ancestor.octets()
     }
 
-    /// The text of the name: each label followed by a dot, the root as a dot alone. In a label a dot
-    /// and a backslash have a backslash before them, and an octet outside 33 to 126 is a backslash
-    /// and three decimal digits (RFC 1035 5.1).
+    /// The text of the name: each label followed by a dot, the root as a dot alone. In a label a
+    /// dot and a backslash have a backslash before them, and an octet outside 33 to 126 is a
+    /// backslash and three decimal digits (RFC 1035 5.1).
     pub fn write_text<B: Allocator>(&self, alloc: B) -> Result<String<B>, AllocError>
         ensures { IfOk result (λ t. string_bytes t ≡ text_of self.now) }
     {
@@ -224,7 +228,8 @@ impl<A: Allocator> PartialOrd for Name<A> {
 
     ghost partial_cmp = { as_partial_cmp (on wire (slice_cmp nat_cmp)) };
 
-    ghost laws = { partial_order_from_own_ties (Prim.search (comparing, rules)) (Prim.search (comparing, rules)) };
+    ghost laws = { partial_order_from_own_ties (Prim.search (comparing, rules))
+        (Prim.search (comparing, rules)) };
 
     fn partial_cmp(&self, other: &Self) -> Option<Ordering> {
         Some(self.cmp(other))
@@ -239,11 +244,13 @@ fn lower_octets(octets: &mut [u8])
     }
 }
 
-// Adds a label in lower case before the zero that ends the octets.
+/// Adds a label in lower case before the zero that ends the octets.
 fn append_label<A: Allocator>(octets: &mut Vec<u8, A>, label: &[u8]) -> Result<(), AllocError>
     requires some { 0 < length octets.old.items }
     requires short { length label.now ≤ 63 }
-    ensures ok { OnOk result (octets.new.items ≡ take (length octets.old.items - 1) octets.old.items ++ (frame (lower label.now) ++ 0 ∷ [])) }
+    ensures ok { OnOk result (octets.new.items
+        ≡ take (length octets.old.items - 1) octets.old.items
+        ++ (frame (lower label.now) ++ 0 ∷ [])) }
     ensures err { OnErr result (octets.new.items ≡ octets.old.items) }
 {
     octets.reserve(label.len() + 1)?;
@@ -256,7 +263,7 @@ fn append_label<A: Allocator>(octets: &mut Vec<u8, A>, label: &[u8]) -> Result<(
     Ok(())
 }
 
-// The octets of a name without its first labels.
+/// The octets of a name without its first labels.
 fn after_labels(octets: &[u8], count: usize) -> &[u8]
     requires spelled { octets.now ≡ wire (labels_of octets.now) }
     requires named { IsName (labels_of octets.now) }
@@ -271,7 +278,7 @@ fn after_labels(octets: &[u8], count: usize) -> &[u8]
     rest
 }
 
-// Adds so many labels that stand at the front of a name in full.
+/// Adds so many labels that stand at the front of a name in full.
 fn push_labels<A: Allocator>(
     text: &mut String<A>,
     octets: &[u8],
@@ -279,7 +286,8 @@ fn push_labels<A: Allocator>(
 ) -> Result<(), AllocError>
     requires spelled { octets.now ≡ wire (labels_of octets.now) }
     requires counted { count ≡ length (labels_of octets.now) }
-    ensures { OnOk result (string_bytes text.new ≡ string_bytes text.old ++ flat_map label_text (labels_of octets.now)) }
+    ensures { OnOk result (string_bytes text.new
+        ≡ string_bytes text.old ++ flat_map label_text (labels_of octets.now)) }
 {
     let mut rest = octets;
     for _ in 0..count {
@@ -303,9 +311,10 @@ pub fn is_lower(octets: &[u8]) -> bool
     true
 }
 
-// How many labels the name has that these octets are in full and in lower case, if they are one.
+/// How many labels the name has that these octets are in full and in lower case, if they are one.
 fn labels_in(octets: &[u8]) -> Option<usize>
-    ensures { MatchOption result (IsWire octets.now → ⊥) (λ count. (n : List (List ℕ)) × IsName n × (octets.now ≡ wire n) × (count ≡ length n)) }
+    ensures { MatchOption result (IsWire octets.now → ⊥)
+        (λ count. (n : List (List ℕ)) × IsName n × (octets.now ≡ wire n) × (count ≡ length n)) }
 {
     if octets.len() > LONGEST_NAME {
         return None;
@@ -335,10 +344,11 @@ fn labels_in(octets: &[u8]) -> Option<usize>
     None
 }
 
-/// What `Name::suffix` gives of the name that these octets are in full and in lower case: its octets
-/// without the first `count` labels. `None` where they are no name, or one of fewer labels.
+/// What `Name::suffix` gives of the name that these octets are in full and in lower case: its
+/// octets without the first `count` labels. `None` where they are no name, or one of fewer labels.
 pub fn suffix_in(octets: &[u8], count: usize) -> Option<&[u8]>
-    ensures { MatchOption result ((rest : List ℕ) → IsSuffix octets.now count rest → ⊥) (λ s. IsSuffix octets.now count s.now) }
+    ensures { MatchOption result ((rest : List ℕ) → IsSuffix octets.now count rest → ⊥)
+        (λ s. IsSuffix octets.now count s.now) }
 {
     let labels = labels_in(octets)?;
     if count > labels {

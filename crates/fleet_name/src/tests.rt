@@ -5,7 +5,7 @@ use std::alloc::Global;
 use std::cmp::Ordering;
 use std::test::Fail;
 
-// The labels `a.b`, `\` and one octet zero.
+/// The labels `a.b`, `\` and one octet zero.
 const SPELLED: &[u8; 9] = b"\x03a.b\x01\\\x01\x00\x00";
 
 fn spelled(alloc: Global) -> Result<Name, Fail> {
@@ -79,7 +79,7 @@ fn suffixes_are_ancestors(rt: HostRuntime) -> Result<(), Fail> {
     Ok(())
 }
 
-// Octets that are no name in full and in lower case.
+/// Octets that are no name in full and in lower case.
 const NO_NAMES: [&[u8]; 7] = [
     b"",
     b"\x01",

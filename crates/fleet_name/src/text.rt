@@ -6,7 +6,7 @@ ghost use Rattle.fleet_name.specs.Text.{digits, octet_text, label_text};
 
 use std::alloc::{AllocError, Allocator};
 
-// Adds an octet as a backslash and three digits.
+/// Adds an octet as a backslash and three digits.
 fn push_digits<A: Allocator>(text: &mut String<A>, octet: u8) -> Result<(), AllocError>
     ensures { OnOk result (string_bytes text.new ≡ string_bytes text.old ++ digits octet) }
 {
@@ -16,7 +16,7 @@ fn push_digits<A: Allocator>(text: &mut String<A>, octet: u8) -> Result<(), Allo
     text.push(char::from(b'0' + octet % 10))
 }
 
-// Adds an octet of a label.
+/// Adds an octet of a label.
 fn push_octet<A: Allocator>(text: &mut String<A>, octet: u8) -> Result<(), AllocError>
     ensures { OnOk result (string_bytes text.new ≡ string_bytes text.old ++ octet_text octet) }
 {

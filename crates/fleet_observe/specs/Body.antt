@@ -1,4 +1,5 @@
--- The octets of bodies, and which of them are lawful. All numbers have two octets, the high one first.
+-- The octets of bodies, and which of them are lawful. All numbers have two octets, the high one
+-- first.
 use Rattle.std.specs.Prelude.{◌≡◌, ◌≢◌, ℕ, ◌≤◌, List, [], ◌++◌, length}
 use Rattle.std.specs.List.{flat_map}
 use Rattle.fleet_name.specs.Name.{wire, IsName, IsUnder}
@@ -18,8 +19,9 @@ positive_body rdatas = u16_octets (length rdatas) ++ flat_map sized rdatas
 abbrev pub negative_body : List (List ℕ) → List ℕ → List ℕ
 negative_body owner rdata = wire owner ++ sized rdata
 
--- RDATAs that an observation may hold: at least one, ascending, each of the type's shape with its names in full and in
--- lower case, one alone for an alias (CNAME, 5; RFC 2181 10.1), and of at most 8192 octets together
+-- RDATAs that an observation may hold: at least one, ascending, each of the type's shape with its
+-- names in full and in lower case, one alone for an alias (CNAME, 5; RFC 2181 10.1), and of at most
+-- 8192 octets together
 pub record AreRdatas (rtype : ℕ) (rdatas : List (List ℕ)) : Type 0 where
   pub some : rdatas ≢ []
   pub ascending : IsAscending rdatas
@@ -27,7 +29,8 @@ pub record AreRdatas (rtype : ℕ) (rdatas : List (List ℕ)) : Type 0 where
   pub alone : rtype ≡ 5 → length rdatas ≡ 1
   pub short : length (positive_body rdatas) ≤ 8192
 
--- the SOA record (6) that stands for a denial of the name: its owner is the name or an ancestor (RFC 2308 5)
+-- the SOA record (6) that stands for a denial of the name: its owner is the name or an ancestor
+-- (RFC 2308 5)
 pub record IsDenial (name owner : List (List ℕ)) (rdata : List ℕ) : Type 0 where
   pub named : IsName owner
   pub under : IsUnder name owner

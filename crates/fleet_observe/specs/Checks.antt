@@ -15,7 +15,8 @@ IsLifeOf kind life = IsLife 86400 life × (IsNegativeKind kind → IsLife 10800 
 
 -- a type that a kind has: a name error has none, the others one that data can have
 abbrev pub IsTypeOf : ℕ → ℕ → Type 0
-IsTypeOf kind rtype = (kind ≡ 1 → rtype ≡ 0) × (kind ≡ 2 → IsDataType rtype) × (kind ≡ 3 → IsDataType rtype)
+IsTypeOf kind rtype =
+    (kind ≡ 1 → rtype ≡ 0) × (kind ≡ 2 → IsDataType rtype) × (kind ≡ 3 → IsDataType rtype)
 
 -- how many RDATAs a type has: at least one, and an alias (CNAME, 5) one alone (RFC 2181 10.1)
 abbrev pub IsCountOf : ℕ → ℕ → Type 0
@@ -48,14 +49,18 @@ pub record MakesPositive (rtype rank life : ℕ) (rdatas : List (List ℕ)) : Ty
   pub body : AreRdatas rtype rdatas
 
 abbrev pub IsPositiveFault : ℕ → ℕ → ℕ → List (List ℕ) → ObservationFault → Type 0
-IsPositiveFault rtype rank life rdatas = IsFirstToFail (IsRank rank) (IsLife 86400 life) (IsDataType rtype) (AreRdatas rtype rdatas)
+IsPositiveFault rtype rank life rdatas =
+    IsFirstToFail (IsRank rank) (IsLife 86400 life) (IsDataType rtype) (AreRdatas rtype rdatas)
 
 -- these values make a negative one
-pub record MakesNegative (name : List (List ℕ)) (rtype : Option ℕ) (rank life : ℕ) (owner : List (List ℕ)) (rdata : List ℕ) : Type 0 where
+pub record MakesNegative (name : List (List ℕ)) (rtype : Option ℕ) (rank life : ℕ)
+    (owner : List (List ℕ)) (rdata : List ℕ) : Type 0 where
   pub ranked : IsNegativeRank rank
   pub lasts : IsLife 10800 life
   pub typed : IsDeniedType rtype
   pub body : IsDenial name owner rdata
 
-abbrev pub IsNegativeFault : List (List ℕ) → Option ℕ → ℕ → ℕ → List (List ℕ) → List ℕ → ObservationFault → Type 0
-IsNegativeFault name rtype rank life owner rdata = IsFirstToFail (IsNegativeRank rank) (IsLife 10800 life) (IsDeniedType rtype) (IsDenial name owner rdata)
+abbrev pub IsNegativeFault : List (List ℕ) → Option ℕ → ℕ → ℕ → List (List ℕ) → List ℕ
+    → ObservationFault → Type 0
+IsNegativeFault name rtype rank life owner rdata = IsFirstToFail (IsNegativeRank rank)
+    (IsLife 10800 life) (IsDeniedType rtype) (IsDenial name owner rdata)

@@ -7,8 +7,8 @@ use Rattle.fleet_observe.specs.Body.{IsPositiveBody, IsNegativeBody}
 use Rattle.fleet_observe.specs.declared.kind.Kind.{Kind}
 use Rattle.fleet_observe.specs.declared.kind.Kind.TheVariants.{NameError, NoData, Positive}
 
--- what was observed of a name: the kind, the name as its labels, the type, the body's octets, the rank, the moment and
--- the life in seconds
+-- what was observed of a name: the kind, the name as its labels, the type, the body's octets, the
+-- rank, the moment and the life in seconds
 pub record Fact : Type 0 where
   pub kind : ℕ
   pub name : List (List ℕ)
@@ -41,7 +41,8 @@ key_of o = key_at o.name o.kind o.rtype
 
 -- a key is of one name, one kind and one type
 abbrev pub OneKey : Type 0
-OneKey = (n m : List (List ℕ)) (k j r q : ℕ) → key_at n k r ≡ key_at m j q → (n ≡ m) × (k ≡ j) × (r ≡ q)
+OneKey =
+    (n m : List (List ℕ)) (k j r q : ℕ) → key_at n k r ≡ key_at m j q → (n ≡ m) × (k ≡ j) × (r ≡ q)
 
 -- a rank
 abbrev pub IsRank : ℕ → Type 0

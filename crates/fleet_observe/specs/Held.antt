@@ -33,4 +33,5 @@ abbrev pub AreSameParts : {A : Type 0} → Body A → Body A → Type 0
 AreSameParts (Records rdatas) (Records others) = rdatas.items ≡ others.items
 AreSameParts (Records rdatas) (Authority owner rdata) = ⊥
 AreSameParts (Authority owner rdata) (Records others) = ⊥
-AreSameParts (Authority owner rdata) (Authority other_owner other_rdata) = (owner ≡ other_owner) × (rdata ≡ other_rdata)
+AreSameParts (Authority owner rdata) (Authority other_owner other_rdata) =
+    (owner ≡ other_owner) × (rdata ≡ other_rdata)

@@ -28,11 +28,13 @@ pub record AsksWalk (r : Reply) : Type 0 where
 abbrev pub IsWalkable : Reply → Type 0
 IsWalkable r = HasWalk r.answer r.question.rtype r.question.name
 
--- nothing is wrong with the reply: its question is served, and where it asks for a walk there is one
+-- nothing is wrong with the reply: its question is served, and where it asks for a walk there is
+-- one
 abbrev pub IsSound : Reply → Type 0
 IsSound r = IsServed r × (AsksWalk r → IsWalkable r)
 
--- why there is no digest, the first reason: want of memory only where nothing is wrong with the reply
+-- why there is no digest, the first reason: want of memory only where nothing is wrong with the
+-- reply
 abbrev pub IsFault : Reply → DigestFault → Type 0
 IsFault r NotReply = ¬ IsServed r
 IsFault r BadChain = IsServed r × AsksWalk r × (¬ IsWalkable r)
@@ -81,8 +83,10 @@ IsSoa s n (Some x) = IsSoaOf s n x
 -- how a walk ends at name n
 abbrev pub IsEnd : Reply → List (List ℕ) → Ending → Type 0
 IsEnd r n (WithRecords x) = IsRrSet r.answer n r.question.rtype x
-IsEnd r n (WithoutData soa) = EndsBare r.answer r.question.rtype n × (r.header.rcode ≡ 0) × IsSoa r.authority n soa
-IsEnd r n (WithoutName soa) = EndsBare r.answer r.question.rtype n × (r.header.rcode ≡ 3) × IsSoa r.authority n soa
+IsEnd r n (WithoutData soa) =
+    EndsBare r.answer r.question.rtype n × (r.header.rcode ≡ 0) × IsSoa r.authority n soa
+IsEnd r n (WithoutName soa) =
+    EndsBare r.answer r.question.rtype n × (r.header.rcode ≡ 3) × IsSoa r.authority n soa
 IsEnd r n (WithCode c) = ⊥
 IsEnd r n CutOff = ⊥
 
@@ -97,7 +101,8 @@ pub record TellsWalk (r : Reply) (chain : List Set) (e : Ending) : Type 0 where
 -- the chain and the end of a reply
 abbrev pub Tells : Reply → List Set → Ending → Type 0
 Tells r chain CutOff = (r.header.tc ≡ true) × (chain ≡ [])
-Tells r chain (WithCode c) = (r.header.tc ≡ false) × (¬ (r.header.rcode ≡ 0)) × (¬ (r.header.rcode ≡ 3)) × (c ≡ r.header.rcode) × (chain ≡ [])
+Tells r chain (WithCode c) = (r.header.tc ≡ false) × (¬ (r.header.rcode ≡ 0))
+    × (¬ (r.header.rcode ≡ 3)) × (c ≡ r.header.rcode) × (chain ≡ [])
 Tells r chain (WithRecords x) = TellsWalk r chain (WithRecords x)
 Tells r chain (WithoutData soa) = TellsWalk r chain (WithoutData soa)
 Tells r chain (WithoutName soa) = TellsWalk r chain (WithoutName soa)
@@ -123,14 +128,17 @@ pub record IsRepeated (q : List (List ℕ)) (before : List Told) (r : Told) : Ty
 abbrev pub AreOwners : List (List ℕ) → List Told → List Told → List (List (List ℕ)) → Type 0
 AreOwners q before [] os = os ≡ []
 AreOwners q before (r ∷ rs) os =
-    (IsNs q r × (¬ IsRepeated q before r) × ((rest : List (List (List ℕ))) × (os ≡ r.name ∷ rest) × AreOwners q (before ++ r ∷ []) rs rest))
+    (IsNs q r × (¬ IsRepeated q before r)
+    × ((rest : List (List (List ℕ))) × (os ≡ r.name ∷ rest)
+    × AreOwners q (before ++ r ∷ []) rs rest))
     ⊎ (((¬ IsNs q r) ⊎ IsRepeated q before r) × AreOwners q (before ++ r ∷ []) rs os)
 
 abbrev pub owners_of : List Set → List (List (List ℕ))
 owners_of [] = []
 owners_of (x ∷ xs) = x.name ∷ owners_of xs
 
--- the NS RRsets of the authority section at the name q and its ancestors, in order of first appearance
+-- the NS RRsets of the authority section at the name q and its ancestors, in order of first
+-- appearance
 pub record AreNsSets (q : List (List ℕ)) (s : List Told) (sets : List Set) : Type 0 where
   pub owners : AreOwners q [] s (owners_of sets)
   pub each : (x : Set) → Has sets x → IsRrSet s x.name 2 x
@@ -143,7 +151,8 @@ pub record HasAuthority (r : Reply) : Type 0 where
 
 -- the NS RRsets that the reply is an authority for
 abbrev pub IsAuthority : Reply → List Set → Type 0
-IsAuthority r sets = (HasAuthority r × AreNsSets r.question.name r.authority sets) ⊎ ((¬ HasAuthority r) × (sets ≡ []))
+IsAuthority r sets = (HasAuthority r × AreNsSets r.question.name r.authority sets)
+    ⊎ ((¬ HasAuthority r) × (sets ≡ []))
 
 -- d is what the reply means
 pub record IsMeaning (r : Reply) (d : Summary) : Type 0 where
@@ -156,7 +165,8 @@ pub record IsMeaning (r : Reply) (d : Summary) : Type 0 where
 
 -- nothing is wrong with a reply that means something, so none of its faults is told
 abbrev pub MeaningOrFault : Type 0
-MeaningOrFault = (r : Reply) (d : Summary) (f : DigestFault) → IsMeaning r d → IsFault r f → f ≡ OutOfMemory
+MeaningOrFault =
+    (r : Reply) (d : Summary) (f : DigestFault) → IsMeaning r d → IsFault r f → f ≡ OutOfMemory
 
 abbrev pub MeaningIsSound : Type 0
 MeaningIsSound = (r : Reply) (d : Summary) → IsMeaning r d → IsSound r

@@ -20,14 +20,30 @@ short f = cond (nat_lt 8192 (length f.body)) [] (alive f)
 
 -- the observation of an RRset
 abbrev pub set_fact : Set → ℕ → ℕ → Fact
-set_fact x rank stamp = record { kind = 3; name = x.name; rtype = x.rtype; body = positive_body x.rdatas; rank = rank; stamp = stamp; life = x.ttl }
+set_fact x rank stamp = record {
+  kind = 3;
+  name = x.name;
+  rtype = x.rtype;
+  body = positive_body x.rdatas;
+  rank = rank;
+  stamp = stamp;
+  life = x.ttl;
+}
 
 abbrev pub positive_facts : Set → ℕ → ℕ → List Fact
 positive_facts x rank stamp = short (set_fact x rank stamp)
 
 -- the observation of a denial
 abbrev pub soa_fact : ℕ → List (List ℕ) → ℕ → ℕ → ℕ → SoaSet → Fact
-soa_fact kind n t rank stamp x = record { kind = kind; name = n; rtype = t; body = negative_body x.owner x.rdata; rank = rank; stamp = stamp; life = x.ttl }
+soa_fact kind n t rank stamp x = record {
+  kind = kind;
+  name = n;
+  rtype = t;
+  body = negative_body x.owner x.rdata;
+  rank = rank;
+  stamp = stamp;
+  life = x.ttl;
+}
 
 -- none without an SOA
 abbrev pub negative_facts : ℕ → List (List ℕ) → ℕ → ℕ → ℕ → Option SoaSet → List Fact
@@ -45,12 +61,15 @@ negative_rank aa (x ∷ xs) = 1
 
 abbrev pub link_facts : Bool → List (List ℕ) → ℕ → List Set → List Fact
 link_facts aa q stamp [] = []
-link_facts aa q stamp (x ∷ xs) = positive_facts x (answer_rank aa q x.name) stamp ++ link_facts aa q stamp xs
+link_facts aa q stamp (x ∷ xs) =
+    positive_facts x (answer_rank aa q x.name) stamp ++ link_facts aa q stamp xs
 
 abbrev pub end_facts : Summary → ℕ → Ending → List Fact
 end_facts d stamp (WithRecords x) = positive_facts x (answer_rank d.aa d.name x.name) stamp
-end_facts d stamp (WithoutData soa) = negative_facts 2 (denied_by d.name d.chain) d.rtype (negative_rank d.aa d.chain) stamp soa
-end_facts d stamp (WithoutName soa) = negative_facts 1 (denied_by d.name d.chain) 0 (negative_rank d.aa d.chain) stamp soa
+end_facts d stamp (WithoutData soa) =
+    negative_facts 2 (denied_by d.name d.chain) d.rtype (negative_rank d.aa d.chain) stamp soa
+end_facts d stamp (WithoutName soa) =
+    negative_facts 1 (denied_by d.name d.chain) 0 (negative_rank d.aa d.chain) stamp soa
 end_facts d stamp (WithCode c) = []
 end_facts d stamp CutOff = []
 
@@ -61,7 +80,8 @@ ns_facts stamp (x ∷ xs) = positive_facts x 2 stamp ++ ns_facts stamp xs
 
 -- the links, the records or the denial, and the NS RRsets
 abbrev pub observed_facts : Summary → ℕ → List Fact
-observed_facts d stamp = link_facts d.aa d.name stamp d.chain ++ (end_facts d stamp d.end ++ ns_facts stamp d.ns)
+observed_facts d stamp =
+    link_facts d.aa d.name stamp d.chain ++ (end_facts d stamp d.end ++ ns_facts stamp d.ns)
 
 -- these are the observations of the reply at the moment, in order
 pub record IsObserved (r : Reply) (stamp : ℕ) (facts : List Fact) : Type 0 where
@@ -75,8 +95,10 @@ OneMeaning = (r : Reply) (a b : Summary) → IsMeaning r a → IsMeaning r b →
 
 -- and one list of observations is its list at a moment
 abbrev pub OneObserved : Type 0
-OneObserved = (r : Reply) (stamp : ℕ) (a b : List Fact) → IsObserved r stamp a → IsObserved r stamp b → a ≡ b
+OneObserved =
+    (r : Reply) (stamp : ℕ) (a b : List Fact) → IsObserved r stamp a → IsObserved r stamp b → a ≡ b
 
 -- and in that list each observation stands once
 abbrev pub EachOnce : Type 0
-EachOnce = (r : Reply) (stamp : ℕ) (facts : List Fact) → IsObserved r stamp facts → AllDistinct facts
+EachOnce =
+    (r : Reply) (stamp : ℕ) (facts : List Fact) → IsObserved r stamp facts → AllDistinct facts

@@ -16,7 +16,8 @@ octets_cmp = slice_cmp nat_cmp
 abbrev pub name_cmp : List (List ℕ) → List (List ℕ) → Ordering
 name_cmp a b = octets_cmp (wire a) (wire b)
 
--- by rank, stamp, end, kind, type, name octets and body octets, one after the other: the greater is preferred
+-- by rank, stamp, end, kind, type, name octets and body octets, one after the other: the greater is
+-- preferred
 abbrev pub preference : Fact → Fact → Ordering
 preference x y =
     ordering_then (nat_cmp x.rank y.rank)

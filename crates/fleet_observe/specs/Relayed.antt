@@ -68,4 +68,5 @@ abbrev pub with_authorities : Sketch → List Told → Sketch
 with_authorities o rs = record o { authority = o.authority ++ rs }
 
 abbrev pub with_end : Sketch → Ending → Sketch
-with_end o e = record o { answer = o.answer ++ answer_lines e; authority = o.authority ++ authority_lines e }
+with_end o e =
+    record o { answer = o.answer ++ answer_lines e; authority = o.authority ++ authority_lines e }

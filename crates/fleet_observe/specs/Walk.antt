@@ -10,7 +10,8 @@ use Rattle.fleet_observe.specs.declared.walk.Found.TheVariants.{Nothing, One, Se
 use Rattle.fleet_observe.specs.declared.walk.Step.{Step}
 use Rattle.fleet_observe.specs.declared.walk.Step.TheVariants.{Records, Alias, Bare, Fork}
 
--- at name n the walk goes on to name m: no RRset of the type wanted, and an alias with this target alone
+-- at name n the walk goes on to name m: no RRset of the type wanted, and an alias with this target
+-- alone
 pub record GoesOn (s : List Told) (t : ℕ) (n m : List (List ℕ)) : Type 0 where
   pub without : IsEmpty s n t
   pub target : IsOnly s n 5 (wire m)
@@ -40,7 +41,8 @@ last n [] = n
 last n (m ∷ later) = last m later
 
 -- the walk: from n over the later names, at most 8 links
-pub record IsWalk (s : List Told) (t : ℕ) (n : List (List ℕ)) (later : List (List (List ℕ))) : Type 0 where
+pub record IsWalk (s : List Told) (t : ℕ) (n : List (List ℕ)) (later : List (List (List ℕ)))
+    : Type 0 where
   pub path : IsPath s t n later
   pub ends : Ends s t (last n later)
   pub short : length later ≤ 8
@@ -49,7 +51,8 @@ abbrev pub HasWalk : List Told → ℕ → List (List ℕ) → Type 0
 HasWalk s t n = (later : List (List (List ℕ))) × IsWalk s t n later
 
 abbrev pub OneWalk : Type 0
-OneWalk = (s : List Told) (t : ℕ) (n : List (List ℕ)) (a b : List (List (List ℕ))) → IsWalk s t n a → IsWalk s t n b → a ≡ b
+OneWalk = (s : List Told) (t : ℕ) (n : List (List ℕ)) (a b : List (List (List ℕ))) → IsWalk s t n a
+    → IsWalk s t n b → a ≡ b
 
 -- the links' RRsets, in order
 abbrev pub AreLinks : List Told → List (List ℕ) → List (List (List ℕ)) → List Set → Type 0
@@ -67,7 +70,8 @@ pub record IsOf (s : List Told) (n : List (List ℕ)) (t : ℕ) (r : Told) : Typ
 abbrev pub IsFound : {A : Type 0} → List Told → List (List ℕ) → ℕ → Found A → Type 0
 IsFound s n t Nothing = IsEmpty s n t
 IsFound s n t (One r) = IsOf s n t (told r.now) × IsOnly s n t (told r.now).rdata
-IsFound s n t (Several r) = IsOf s n t (told r.now) × ((d : List ℕ) × (e : List ℕ) × InSet s n t d × InSet s n t e × (¬ (d ≡ e)))
+IsFound s n t (Several r) = IsOf s n t (told r.now)
+    × ((d : List ℕ) × (e : List ℕ) × InSet s n t d × InSet s n t e × (¬ (d ≡ e)))
 
 -- no walk ends at n or goes on from there
 pub record IsFork (s : List Told) (t : ℕ) (n : List (List ℕ)) : Type 0 where
@@ -88,7 +92,8 @@ IsStep s t n Bare = EndsBare s t n
 IsStep s t n Fork = IsFork s t n
 
 -- the walk was followed to its end
-pub record IsFollowed {A : Type 0} (s : List Told) (t : ℕ) (n : List (List ℕ)) (f : Followed A) : Type 0 where
+pub record IsFollowed {A : Type 0} (s : List Told) (t : ℕ) (n : List (List ℕ)) (f : Followed A)
+    : Type 0 where
   pub later : List (List (List ℕ))
   pub walk : IsWalk s t n later
   pub links : AreLinks s n later (sets_of f.chain.items)

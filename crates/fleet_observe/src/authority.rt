@@ -12,10 +12,10 @@ use fleet_name::Name;
 use fleet_wire::{Header, Message, Record};
 use std::alloc::{AllocError, Allocator};
 
-// The type of a name server.
+/// The type of a name server.
 const NS: u16 = 2;
 
-// Whether the record is an NS record at the name or an ancestor of it.
+/// Whether the record is an NS record at the name or an ancestor of it.
 fn is_ns<A: Allocator>(candidate: &Record<A>, name: &Name<A>) -> bool
     ensures { IsTrue result ↔ IsNs name.now (told candidate.now) }
 {
@@ -28,7 +28,7 @@ fn is_ns<A: Allocator>(candidate: &Record<A>, name: &Name<A>) -> bool
     name.is_under(&candidate.name)
 }
 
-// Whether one of the RRsets has this owner.
+/// Whether one of the RRsets has this owner.
 fn owns<A: Allocator>(sets: &[RrSet<A>], owner: &Name<A>) -> bool
     ensures { IsTrue result ↔ Has (owners_of (sets_of sets.now)) owner.now }
 {
@@ -40,13 +40,14 @@ fn owns<A: Allocator>(sets: &[RrSet<A>], owner: &Name<A>) -> bool
     false
 }
 
-// The NS RRsets at the name and its ancestors, in order of first appearance.
+/// The NS RRsets at the name and its ancestors, in order of first appearance.
 fn ns_sets<A: Allocator + Copy>(
     alloc: A,
     authority: &[Record<A>],
     name: &Name<A>,
 ) -> Result<Vec<RrSet<A>, A>, AllocError>
-    ensures sets { IfOk result (λ v. AreNsSets name.now (all_told authority.now) (sets_of v.items)) }
+    ensures sets { IfOk result (λ v.
+        AreNsSets name.now (all_told authority.now) (sets_of v.items)) }
     ensures memory { IfErr result (λ _. HasNs name.now (all_told authority.now)) }
 {
     let mut sets = Vec::new(alloc);
@@ -65,7 +66,8 @@ pub(crate) fn authority_sets<A: Allocator + Copy>(
     message: &Message<A>,
 ) -> Result<Vec<RrSet<A>, A>, AllocError>
     ensures sets { IfOk result (λ v. IsAuthority message.now (sets_of v.items)) }
-    ensures memory { IfErr result (λ _. HasAuthority message.now × HasNs message.now.question.name message.now.authority) }
+    ensures memory { IfErr result (λ _.
+        HasAuthority message.now × HasNs message.now.question.name message.now.authority) }
 {
     let header = message.header();
     if header.tc || !header.aa || header.rcode != 0 {

@@ -64,7 +64,7 @@ impl<A: Allocator> Body<A> {
     }
 }
 
-// How many octets a positive body has.
+/// How many octets a positive body has.
 fn rdatas_len<A: Allocator>(rdatas: &[Octets<A>]) -> usize
     requires { length (positive_body rdatas.now) ≤ 8192 }
     ensures { result ≡ length (positive_body rdatas.now) }
@@ -76,7 +76,7 @@ fn rdatas_len<A: Allocator>(rdatas: &[Octets<A>]) -> usize
     len
 }
 
-// Adds a number of two octets.
+/// Adds a number of two octets.
 fn push_short<B: Allocator>(octets: &mut Vec<u8, B>, number: usize) -> Result<(), AllocError>
     requires { number < 65536 }
     ensures { OnOk result (octets.new.items ≡ octets.old.items ++ u16_octets number) }
@@ -84,7 +84,7 @@ fn push_short<B: Allocator>(octets: &mut Vec<u8, B>, number: usize) -> Result<()
     octets.extend_from_slice(&(number as u16).to_be_bytes())
 }
 
-// Adds octets behind their number.
+/// Adds octets behind their number.
 fn push_sized<B: Allocator>(octets: &mut Vec<u8, B>, part: &[u8]) -> Result<(), AllocError>
     requires { length part.now < 65536 }
     ensures { OnOk result (octets.new.items ≡ octets.old.items ++ sized part.now) }
@@ -93,7 +93,7 @@ fn push_sized<B: Allocator>(octets: &mut Vec<u8, B>, part: &[u8]) -> Result<(), 
     octets.extend_from_slice(part)
 }
 
-// Adds a positive body.
+/// Adds a positive body.
 fn push_rdatas<A: Allocator, B: Allocator>(
     octets: &mut Vec<u8, B>,
     rdatas: &[Octets<A>],
@@ -108,7 +108,7 @@ fn push_rdatas<A: Allocator, B: Allocator>(
     Ok(())
 }
 
-// A copy of RDATAs.
+/// A copy of RDATAs.
 fn copy_of<A: Allocator + Copy>(rdatas: &Vec<Octets<A>, A>) -> Result<Vec<Octets<A>, A>, AllocError>
     ensures { IfOk result (λ v. v.items ≡ rdatas.now.items) }
 {

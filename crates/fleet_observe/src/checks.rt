@@ -13,7 +13,7 @@ use fleet_name::{Name, Octets};
 use fleet_wire::plain_rdata;
 use std::alloc::Allocator;
 
-// The types that have rules of their own (RFC 1035 3.2.2).
+/// The types that have rules of their own (RFC 1035 3.2.2).
 pub(crate) const CNAME: u16 = 5;
 
 pub(crate) const SOA: u16 = 6;
@@ -27,21 +27,21 @@ pub const LONGEST_DENIAL: u32 = 10800;
 /// How many octets the body of a positive observation has at most.
 pub const LONGEST_BODY: usize = 8192;
 
-// Whether it is a rank.
+/// Whether it is a rank.
 pub(crate) fn is_rank(rank: u8) -> bool
     ensures { IsTrue result ↔ IsRank rank }
 {
     (1..=3).contains(&rank)
 }
 
-// Whether a denial can have the rank.
+/// Whether a denial can have the rank.
 pub(crate) fn is_negative_rank(rank: u8) -> bool
     ensures { IsTrue result ↔ IsNegativeRank rank }
 {
     rank == 1 || rank == 3
 }
 
-// Whether it is a life, where `most` is the longest.
+/// Whether it is a life, where `most` is the longest.
 pub(crate) fn is_life(most: u32, life: u32) -> bool
     ensures { IsTrue result ↔ IsLife most life }
 {
@@ -55,7 +55,7 @@ pub fn is_data_type(rtype: u16) -> bool
     !matches!(rtype, 0 | 41 | 128..=255)
 }
 
-// Whether each stands after the one before it.
+/// Whether each stands after the one before it.
 fn are_ascending<A: Allocator>(rdatas: &[Octets<A>]) -> bool
     ensures { IsTrue result ↔ IsAscending rdatas.now }
 {
@@ -67,7 +67,7 @@ fn are_ascending<A: Allocator>(rdatas: &[Octets<A>]) -> bool
     true
 }
 
-// Whether each has its type's shape.
+/// Whether each has its type's shape.
 fn are_plain<A: Allocator>(rtype: u16, rdatas: &[Octets<A>]) -> bool
     ensures { IsTrue result ↔ ((rdata : List ℕ) → Has rdatas.now rdata → IsPlain rtype rdata) }
 {
@@ -79,7 +79,7 @@ fn are_plain<A: Allocator>(rtype: u16, rdatas: &[Octets<A>]) -> bool
     true
 }
 
-// Whether their body has at most 8192 octets.
+/// Whether their body has at most 8192 octets.
 pub(crate) fn are_short<A: Allocator>(rdatas: &[Octets<A>]) -> bool
     ensures { IsTrue result ↔ (length (positive_body rdatas.now) ≤ 8192) }
 {
@@ -94,7 +94,8 @@ pub(crate) fn are_short<A: Allocator>(rdatas: &[Octets<A>]) -> bool
     true
 }
 
-/// Whether an observation of the kind can have the rank: 1, 2 or 3 where it is positive, 1 or 3 where it is a denial.
+/// Whether an observation of the kind can have the rank: 1, 2 or 3 where it is positive, 1 or 3
+/// where it is a denial.
 pub fn is_rank_of(kind: Kind, rank: u8) -> bool
     ensures { IsTrue result ↔ IsRankOf (kind_number kind) rank }
 {
@@ -105,7 +106,8 @@ pub fn is_rank_of(kind: Kind, rank: u8) -> bool
     }
 }
 
-/// Whether an observation of the kind can have the life, in seconds: 1 to 86400, of a denial at most 10800.
+/// Whether an observation of the kind can have the life, in seconds: 1 to 86400, of a denial at
+/// most 10800.
 pub fn is_life_of(kind: Kind, life: u32) -> bool
     ensures { IsTrue result ↔ IsLifeOf (kind_number kind) life }
 {
@@ -116,7 +118,8 @@ pub fn is_life_of(kind: Kind, life: u32) -> bool
     }
 }
 
-/// Whether an observation of the kind can have the type: 0 where it is a name error, else one that data can have.
+/// Whether an observation of the kind can have the type: 0 where it is a name error, else one that
+/// data can have.
 pub fn is_type_of(kind: Kind, rtype: u16) -> bool
     ensures { IsTrue result ↔ IsTypeOf (kind_number kind) rtype }
 {
@@ -127,8 +130,8 @@ pub fn is_type_of(kind: Kind, rtype: u16) -> bool
     }
 }
 
-/// Whether a positive observation of the type can have so many RDATAs: at least one, and of an alias (CNAME) one alone
-/// (RFC 2181 10.1).
+/// Whether a positive observation of the type can have so many RDATAs: at least one, and of an
+/// alias (CNAME) one alone (RFC 2181 10.1).
 pub fn is_count_of(rtype: u16, count: usize) -> bool
     ensures { IsTrue result ↔ IsCountOf rtype count }
 {
@@ -138,7 +141,7 @@ pub fn is_count_of(rtype: u16, count: usize) -> bool
     rtype != CNAME || count == 1
 }
 
-// Whether an observation of the type may hold these RDATAs.
+/// Whether an observation of the type may hold these RDATAs.
 pub(crate) fn are_rdatas<A: Allocator>(rtype: u16, rdatas: &[Octets<A>]) -> bool
     ensures { IsTrue result ↔ AreRdatas rtype rdatas.now }
 {
@@ -148,7 +151,7 @@ pub(crate) fn are_rdatas<A: Allocator>(rtype: u16, rdatas: &[Octets<A>]) -> bool
     are_short(rdatas) && are_ascending(rdatas) && are_plain(rtype, rdatas)
 }
 
-// Whether a denial may be of this type, or of none.
+/// Whether a denial may be of this type, or of none.
 pub(crate) fn is_denied_type(rtype: Option<u16>) -> bool
     ensures { IsTrue result ↔ IsDeniedType rtype }
 {
@@ -158,7 +161,7 @@ pub(crate) fn is_denied_type(rtype: Option<u16>) -> bool
     }
 }
 
-// Whether an SOA with this owner and RDATA stands for a denial of the name.
+/// Whether an SOA with this owner and RDATA stands for a denial of the name.
 pub(crate) fn is_denial<A: Allocator>(name: &Name<A>, owner: &Name<A>, rdata: &[u8]) -> bool
     ensures { IsTrue result ↔ IsDenial name.now owner.now rdata.now }
 {

@@ -14,9 +14,10 @@ use fleet_name::Name;
 use fleet_wire::Record;
 use std::alloc::{AllocError, Allocator};
 
-// The first SOA of a section.
+/// The first SOA of a section.
 fn first_soa<A: Allocator>(authority: &[Record<A>]) -> Option<&Record<A>>
-    ensures { MatchOption result ((r : Told) → Has (all_told authority.now) r → ¬ IsSoaRecord r) (λ r. IsFirstSoa (all_told authority.now) (told r.now)) }
+    ensures { MatchOption result ((r : Told) → Has (all_told authority.now) r → ¬ IsSoaRecord r)
+        (λ r. IsFirstSoa (all_told authority.now) (told r.now)) }
 {
     for record in authority {
         if record.class == 1 && record.rtype == SOA {
@@ -26,7 +27,7 @@ fn first_soa<A: Allocator>(authority: &[Record<A>]) -> Option<&Record<A>>
     None
 }
 
-// The last number of an SOA.
+/// The last number of an SOA.
 fn minimum(rdata: &[u8]) -> u32
     requires { 4 ≤ length rdata.now }
     ensures { result ≡ minimum_of rdata.now }

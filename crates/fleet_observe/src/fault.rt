@@ -5,7 +5,8 @@ use thiserror::Error;
 /// Why values make no observation: of several reasons the first one in this order.
 #[derive(Clone, Copy, Debug, PartialEq, Eq, Error)]
 pub enum ObservationFault {
-    /// The rank is not one of the kind: 1, 2 or 3 for a positive observation, 1 or 3 for a negative one.
+    /// The rank is not one of the kind: 1, 2 or 3 for a positive observation, 1 or 3 for a negative
+    /// one.
     #[error("bad rank")]
     BadRank,
     /// The life is zero, or over 86400 seconds, of a negative observation over 10800 seconds.
@@ -14,9 +15,10 @@ pub enum ObservationFault {
     /// The type is none that data can have: 0, 41 (OPT), or one of 128 to 255 (RFC 6895 3.1).
     #[error("bad kind")]
     BadKind,
-    /// Positive: no RDATA, more than one of an alias (CNAME), RDATA that is not of its type's shape with names in full
-    /// and in lower case, RDATAs out of ascending order, or a body over 8192 octets. Negative: an owner that is neither
-    /// the name nor an ancestor of it, or RDATA that is not of the shape of an SOA.
+    /// Positive: no RDATA, more than one of an alias (CNAME), RDATA that is not of its type's shape
+    /// with names in full and in lower case, RDATAs out of ascending order, or a body over 8192
+    /// octets. Negative: an owner that is neither the name nor an ancestor of it, or RDATA that is
+    /// not of the shape of an SOA.
     #[error("bad body")]
     BadBody,
 }

@@ -21,7 +21,8 @@ pub fn one_meaning()
     ensures observed { OneObserved }
 {}
 
-/// Nothing is wrong with a reply that means something: a reply has a meaning or a fault, and not both.
+/// Nothing is wrong with a reply that means something: a reply has a meaning or a fault, and not
+/// both.
 pub fn meaning_or_fault()
     ensures sound { MeaningIsSound }
     ensures fault { MeaningOrFault }

@@ -1,5 +1,5 @@
-//! What replies tell: the walk along aliases, how it ends, and observations of names, their order, and the octets of
-//! their bodies.
+//! What replies tell: the walk along aliases, how it ends, and observations of names, their order,
+//! and the octets of their bodies.
 #![tactic(auto)]
 
 mod authority;

@@ -38,15 +38,16 @@ impl<A: Allocator> Model for Observation<A> {
 
     ghost view = { λ o. fact_held o.kind o.name o.rtype o.rank o.stamp o.life o.body };
 
-    ghost invariant = { λ o. IsFact (fact_held o.kind o.name o.rtype o.rank o.stamp o.life o.body) × IsBodyOf (kind_number o.kind) o.name o.rtype o.body };
+    ghost invariant = { λ o. IsFact (fact_held o.kind o.name o.rtype o.rank o.stamp o.life o.body)
+        × IsBodyOf (kind_number o.kind) o.name o.rtype o.body };
 }
 
 impl<A: Allocator> Observation<A> {
     /// The RDATAs that a name has of a type.
     ///
-    /// The rank is 1, 2 or 3, the life 1 to 86400 seconds, and the RDATAs stand in strictly ascending order, as octets, a
-    /// proper prefix first. The errors come in the order of `ObservationFault`, and what was handed in is then dropped.
-    /// This takes no memory.
+    /// The rank is 1, 2 or 3, the life 1 to 86400 seconds, and the RDATAs stand in strictly
+    /// ascending order, as octets, a proper prefix first. The errors come in the order of
+    /// `ObservationFault`, and what was handed in is then dropped. This takes no memory.
     pub fn positive(
         name: Name<A>,
         rtype: u16,
@@ -94,10 +95,12 @@ impl<A: Allocator> Observation<A> {
         })
     }
 
-    /// That a name has no data of a type, or for `None` that there is no such name, on the word of an SOA.
+    /// That a name has no data of a type, or for `None` that there is no such name, on the word of
+    /// an SOA.
     ///
-    /// The rank is 1 or 3 and the life 1 to 10800 seconds (RFC 2308 5). The SOA's TTL is not kept. The errors come in the
-    /// order of `ObservationFault`, and what was handed in is then dropped. This takes no memory.
+    /// The rank is 1 or 3 and the life 1 to 10800 seconds (RFC 2308 5). The SOA's TTL is not kept.
+    /// The errors come in the order of `ObservationFault`, and what was handed in is then dropped.
+    /// This takes no memory.
     pub fn negative(
         name: Name<A>,
         rtype: Option<u16>,
@@ -215,7 +218,8 @@ impl<A: Allocator> Observation<A> {
         }
     }
 
-    /// The owner and the RDATA of the SOA that a negative observation rests on; `None` of a positive one.
+    /// The owner and the RDATA of the SOA that a negative observation rests on; `None` of a
+    /// positive one.
     pub fn soa(&self) -> Option<(&Name<A>, &[u8])>
         ensures cases { MatchOption result (self.now.kind ≡ 3) (λ p. IsNegativeKind self.now.kind) }
         ensures body { IfSome result (λ p. self.now.body ≡ negative_body p.0.now p.1.now) }
@@ -236,17 +240,17 @@ impl<A: Allocator> Observation<A> {
         self.body.len()
     }
 
-    /// Adds the octets of its body to others: those that `write_body` writes. Where there is no memory for them, some may
-    /// have been added.
+    /// Adds the octets of its body to others: those that `write_body` writes. Where there is no
+    /// memory for them, some may have been added.
     pub fn append_body<B: Allocator>(&self, octets: &mut Vec<u8, B>) -> Result<(), AllocError>
         ensures { OnOk result (octets.new.items ≡ octets.old.items ++ self.now.body) }
     {
         self.body.push_to(octets)
     }
 
-    /// The octets of its body, of a positive observation the RDATAs: their count, then each behind its length; of a
-    /// negative one the SOA: its owner in full, then its RDATA behind its length. Counts and lengths have two octets, the
-    /// high one first.
+    /// The octets of its body, of a positive observation the RDATAs: their count, then each behind
+    /// its length; of a negative one the SOA: its owner in full, then its RDATA behind its length.
+    /// Counts and lengths have two octets, the high one first.
     pub fn write_body<B: Allocator>(&self, alloc: B) -> Result<Vec<u8, B>, AllocError>
         ensures { IfOk result (λ v. v.items ≡ self.now.body) }
     {
@@ -275,7 +279,7 @@ impl<A: Allocator> Observation<A> {
     }
 }
 
-// The kind of a denial of a type, or of all of them.
+/// The kind of a denial of a type, or of all of them.
 fn kind_of_denial(rtype: Option<u16>) -> Kind
     ensures { kind_number result ≡ denied_kind rtype }
 {

@@ -21,7 +21,7 @@ use crate::told::End;
 use fleet_name::{Name, Octets};
 use std::alloc::{AllocError, Allocator};
 
-// Copies of the RDATAs.
+/// Copies of the RDATAs.
 fn copies<A: Allocator + Copy>(
     alloc: A,
     rdatas: &[Octets<A>],
@@ -35,7 +35,7 @@ fn copies<A: Allocator + Copy>(
     Ok(all)
 }
 
-// Whether an RRset is observed: its TTL is not zero and its body not too long.
+/// Whether an RRset is observed: its TTL is not zero and its body not too long.
 fn is_observed<A: Allocator>(set: &RrSet<A>) -> bool
     ensures { IsTrue result ↔ ((1 ≤ set.now.ttl) × (length (positive_body set.now.rdatas) ≤ 8192)) }
 {
@@ -45,7 +45,7 @@ fn is_observed<A: Allocator>(set: &RrSet<A>) -> bool
     are_short(set.rdatas.as_slice())
 }
 
-// Adds the observation of an RRset, unless its TTL is zero or its body too long.
+/// Adds the observation of an RRset, unless its TTL is zero or its body too long.
 fn put_set<A: Allocator + Copy>(
     alloc: A,
     set: &RrSet<A>,
@@ -55,7 +55,8 @@ fn put_set<A: Allocator + Copy>(
 ) -> Result<(), AllocError>
     requires lawful { IsLawfulSet (set_of set.now) }
     requires ranked { IsRank rank }
-    ensures added { OnOk result (out.new.items ≡ out.old.items ++ positive_facts (set_of set.now) rank stamp) }
+    ensures added { OnOk result (out.new.items
+        ≡ out.old.items ++ positive_facts (set_of set.now) rank stamp) }
     ensures memory { IfErr result (λ _. positive_facts (set_of set.now) rank stamp ≢ []) }
 {
     if !is_observed(set) {
@@ -71,7 +72,7 @@ fn put_set<A: Allocator + Copy>(
     Ok(())
 }
 
-// Adds the observation of a denial, unless the SOA's TTL is zero.
+/// Adds the observation of a denial, unless the SOA's TTL is zero.
 fn put_denial<A: Allocator + Copy>(
     alloc: A,
     denied: &[u8],
@@ -85,8 +86,12 @@ fn put_denial<A: Allocator + Copy>(
     requires typed { IsDeniedType rtype }
     requires ranked { IsNegativeRank rank }
     requires lawful { IsLawfulSoa (labels_of denied.now) (soa_of soa.now) }
-    ensures added { OnOk result (out.new.items ≡ out.old.items ++ negative_facts (denied_kind rtype) (labels_of denied.now) (denied_type rtype) rank stamp (Some (soa_of soa.now))) }
-    ensures memory { IfErr result (λ _. negative_facts (denied_kind rtype) (labels_of denied.now) (denied_type rtype) rank stamp (Some (soa_of soa.now)) ≢ []) }
+    ensures added { OnOk result (out.new.items
+        ≡ out.old.items
+        ++ negative_facts (denied_kind rtype) (labels_of denied.now) (denied_type rtype) rank stamp
+        (Some (soa_of soa.now))) }
+    ensures memory { IfErr result (λ _. negative_facts (denied_kind rtype) (labels_of denied.now)
+        (denied_type rtype) rank stamp (Some (soa_of soa.now)) ≢ []) }
 {
     if soa.ttl == 0 {
         return Ok(());
@@ -105,7 +110,7 @@ fn put_denial<A: Allocator + Copy>(
     Ok(())
 }
 
-// The rank of an answer RRset.
+/// The rank of an answer RRset.
 fn rank_of<A: Allocator>(aa: bool, name: &Name<A>, owner: &Name<A>) -> u8
     ensures rank { result ≡ answer_rank aa name.now owner.now }
     ensures ranked { IsRank result }
@@ -117,7 +122,7 @@ fn rank_of<A: Allocator>(aa: bool, name: &Name<A>, owner: &Name<A>) -> u8
     }
 }
 
-// The rank of a denial.
+/// The rank of a denial.
 fn rank_denied<A: Allocator>(aa: bool, chain: &[RrSet<A>]) -> u8
     ensures rank { result ≡ negative_rank aa (sets_of chain.now) }
     ensures ranked { IsNegativeRank result }
@@ -128,7 +133,7 @@ fn rank_denied<A: Allocator>(aa: bool, chain: &[RrSet<A>]) -> u8
     }
 }
 
-// The first of the RDATAs, or else these octets.
+/// The first of the RDATAs, or else these octets.
 fn first_of<'a, A: Allocator>(octets: &'a [u8], rdatas: &'a [Octets<A>]) -> &'a [u8]
     ensures { result.now ≡ first_or octets.now rdatas.now }
 {
@@ -138,7 +143,7 @@ fn first_of<'a, A: Allocator>(octets: &'a [u8], rdatas: &'a [Octets<A>]) -> &'a 
     }
 }
 
-// The name where the walk ended, in full.
+/// The name where the walk ended, in full.
 fn denied_at<'a, A: Allocator>(name: &'a Name<A>, chain: &'a [RrSet<A>]) -> &'a [u8]
     requires { (x : Set) → Has (sets_of chain.now) x → IsLawfulLink x }
     ensures name { labels_of result.now ≡ denied_by name.now (sets_of chain.now) }
@@ -151,15 +156,17 @@ fn denied_at<'a, A: Allocator>(name: &'a Name<A>, chain: &'a [RrSet<A>]) -> &'a 
     at
 }
 
-// Adds the observations of the links.
+/// Adds the observations of the links.
 fn put_links<A: Allocator + Copy>(
     alloc: A,
     digest: &Digest<A>,
     stamp: Moment,
     out: &mut Vec<Observation<A>, A>,
 ) -> Result<(), AllocError>
-    ensures added { OnOk result (out.new.items ≡ out.old.items ++ link_facts digest.now.aa digest.now.name stamp digest.now.chain) }
-    ensures memory { IfErr result (λ _. link_facts digest.now.aa digest.now.name stamp digest.now.chain ≢ []) }
+    ensures added { OnOk result (out.new.items
+        ≡ out.old.items ++ link_facts digest.now.aa digest.now.name stamp digest.now.chain) }
+    ensures memory { IfErr result (λ _.
+        link_facts digest.now.aa digest.now.name stamp digest.now.chain ≢ []) }
 {
     let name = digest.name();
     let aa = digest.aa();
@@ -170,14 +177,15 @@ fn put_links<A: Allocator + Copy>(
     Ok(())
 }
 
-// Adds the observation of the end.
+/// Adds the observation of the end.
 fn put_end<A: Allocator + Copy>(
     alloc: A,
     digest: &Digest<A>,
     stamp: Moment,
     out: &mut Vec<Observation<A>, A>,
 ) -> Result<(), AllocError>
-    ensures added { OnOk result (out.new.items ≡ out.old.items ++ end_facts digest.now stamp digest.now.end) }
+    ensures added { OnOk result (out.new.items
+        ≡ out.old.items ++ end_facts digest.now stamp digest.now.end) }
     ensures memory { IfErr result (λ _. end_facts digest.now stamp digest.now.end ≢ []) }
 {
     let name = digest.name();
@@ -196,7 +204,7 @@ fn put_end<A: Allocator + Copy>(
     }
 }
 
-// Adds the observations of the NS RRsets.
+/// Adds the observations of the NS RRsets.
 fn put_ns<A: Allocator + Copy>(
     alloc: A,
     digest: &Digest<A>,
@@ -213,9 +221,9 @@ fn put_ns<A: Allocator + Copy>(
     Ok(())
 }
 
-/// The observations of a reply at a moment, in this order: the links, the records or the denial with its SOA, the NS
-/// RRsets. Left out are those of a TTL of zero, RRsets whose body has more than 8192 octets, and a denial without SOA.
-/// Only where there are any is memory wanted.
+/// The observations of a reply at a moment, in this order: the links, the records or the denial
+/// with its SOA, the NS RRsets. Left out are those of a TTL of zero, RRsets whose body has more
+/// than 8192 octets, and a denial without SOA. Only where there are any is memory wanted.
 pub fn observations<A: Allocator + Copy>(
     alloc: A,
     digest: &Digest<A>,

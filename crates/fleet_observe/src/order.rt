@@ -13,14 +13,14 @@ use fleet_name::Octets;
 use std::alloc::Allocator;
 use std::cmp::Ordering;
 
-// How octets behind their number compare.
+/// How octets behind their number compare.
 fn sized_order(octets: &[u8], others: &[u8]) -> Ordering
     ensures { result ≡ octets_cmp (sized octets.now) (sized others.now) }
 {
     octets.len().cmp(&others.len()).then(octets.cmp(others))
 }
 
-// How the bodies of two lists of RDATAs compare.
+/// How the bodies of two lists of RDATAs compare.
 fn rdatas_order<A: Allocator>(rdatas: &[Octets<A>], others: &[Octets<A>]) -> Ordering
     ensures { result ≡ octets_cmp (positive_body rdatas.now) (positive_body others.now) }
 {
@@ -37,7 +37,7 @@ fn rdatas_order<A: Allocator>(rdatas: &[Octets<A>], others: &[Octets<A>]) -> Ord
     Ordering::Equal
 }
 
-// How the bodies of two observations of one kind compare, octet by octet.
+/// How the bodies of two observations of one kind compare, octet by octet.
 fn body_order<A: Allocator>(observation: &Observation<A>, other: &Observation<A>) -> Ordering
     requires { observation.now.kind ≡ other.now.kind }
     ensures { result ≡ octets_cmp observation.now.body other.now.body }
@@ -48,10 +48,12 @@ fn body_order<A: Allocator>(observation: &Observation<A>, other: &Observation<A>
     soa.0.cmp(other_soa.0).then(sized_order(soa.1, other_soa.1))
 }
 
-// How the names of two observations of one kind compare, and then the bodies.
+/// How the names of two observations of one kind compare, and then the bodies.
 fn octets_order<A: Allocator>(observation: &Observation<A>, other: &Observation<A>) -> Ordering
     requires { observation.now.kind ≡ other.now.kind }
-    ensures { result ≡ ordering_then (name_cmp observation.now.name other.now.name) (octets_cmp observation.now.body other.now.body) }
+    ensures { result
+        ≡ ordering_then (name_cmp observation.now.name other.now.name)
+        (octets_cmp observation.now.body other.now.body) }
 {
     let names = observation.name().cmp(other.name());
     if names.is_ne() {
@@ -123,7 +125,8 @@ impl<A: Allocator> PartialOrd for Observation<A> {
     }
 }
 
-/// The laws of the preference: it is a total order, and equal only on equal observations. This does nothing when run.
+/// The laws of the preference: it is a total order, and equal only on equal observations. This does
+/// nothing when run.
 pub fn preference_laws()
     ensures total { IsTotalOrder preference }
     ensures exact { (x y : Fact) → preference x y ≡ Equal → x ≡ y }

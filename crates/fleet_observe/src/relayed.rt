@@ -13,7 +13,7 @@ use crate::told::End;
 use fleet_wire::{Outline, Question, write_reply};
 use std::alloc::{AllocError, Allocator};
 
-// The RCODE of an end.
+/// The RCODE of an end.
 fn code_of_end<A: Allocator>(end: &End<A>) -> u8
     ensures { result ≡ code_of (ending_of end.now) }
 {
@@ -26,7 +26,7 @@ fn code_of_end<A: Allocator>(end: &End<A>) -> u8
     }
 }
 
-// Whether a reply with this end is cut off.
+/// Whether a reply with this end is cut off.
 fn is_cut_off<A: Allocator>(end: &End<A>) -> bool
     ensures { result ≡ is_cut (ending_of end.now) }
 {
@@ -39,12 +39,13 @@ fn is_cut_off<A: Allocator>(end: &End<A>) -> bool
     }
 }
 
-// Adds an SOA, if there is one, to the authority section.
+/// Adds an SOA, if there is one, to the authority section.
 fn put_soa<'a, A: Allocator + Copy>(
     outline: &mut Outline<'a, A>,
     soa: &'a Option<Soa<A>>,
 ) -> Result<(), AllocError>
-    ensures { OnOk result (outline.new ≡ with_authorities outline.old (soa_lines (soa_in soa.entry.now))) }
+    ensures { OnOk result (outline.new
+        ≡ with_authorities outline.old (soa_lines (soa_in soa.entry.now))) }
 {
     match soa {
         None => Ok(()),
@@ -52,7 +53,7 @@ fn put_soa<'a, A: Allocator + Copy>(
     }
 }
 
-// Adds the records of an end.
+/// Adds the records of an end.
 fn put_end<'a, A: Allocator + Copy>(
     outline: &mut Outline<'a, A>,
     end: &'a End<A>,
@@ -68,7 +69,7 @@ fn put_end<'a, A: Allocator + Copy>(
     }
 }
 
-// An outline that says what the digest says.
+/// An outline that says what the digest says.
 fn outline_of<'a, A: Allocator + Copy>(
     alloc: A,
     digest: &'a Digest<A>,
@@ -89,10 +90,11 @@ fn outline_of<'a, A: Allocator + Copy>(
     Ok(outline)
 }
 
-/// The reply that tells a client with this question, identifier and RD what the digest tells: the question in its own
-/// spelling, the links, and then the records, or the SOA of a denial in the authority section (RFC 1035 4.1). TTLs are
-/// the digest's. A reply of another RCODE has that code and the question alone, one that was cut off RCODE 0, TC and
-/// the question. Where all of it would have more than 512 octets, it is header and question with TC.
+/// The reply that tells a client with this question, identifier and RD what the digest tells: the
+/// question in its own spelling, the links, and then the records, or the SOA of a denial in the
+/// authority section (RFC 1035 4.1). TTLs are the digest's. A reply of another RCODE has that code
+/// and the question alone, one that was cut off RCODE 0, TC and the question. Where all of it would
+/// have more than 512 octets, it is header and question with TC.
 pub fn relay<A: Allocator + Copy>(
     alloc: A,
     digest: &Digest<A>,
@@ -100,7 +102,8 @@ pub fn relay<A: Allocator + Copy>(
     id: u16,
     rd: bool,
 ) -> Result<Vec<u8, A>, AllocError>
-    ensures { IfOk result (λ v. v.items ≡ octets_of_outline (relayed digest.now (asked question.now) id rd)) }
+    ensures { IfOk result (λ v.
+        v.items ≡ octets_of_outline (relayed digest.now (asked question.now) id rd)) }
 {
     let outline = outline_of(alloc, digest, question, id, rd)?;
     write_reply(alloc, &outline)

@@ -5,11 +5,11 @@ use fleet_wire::{read_query, read_reply};
 use std::alloc::Global;
 use std::test::Fail;
 
-// www.example. is an alias of a.example., and this one of b.example., which is not there.
+/// www.example. is an alias of a.example., and this one of b.example., which is not there.
 const TWO_ALIASES: [u8; 99] =
     *b"\0\x02\x81\x83\0\x01\0\x02\0\x01\0\0\x03www\x07example\0\0\x01\0\x01\xc0\x0c\0\x05\0\x01\0\0\0\x3c\0\x04\x01a\xc0\x10\xc0\x29\0\x05\0\x01\0\0\0\x3c\0\x04\x01b\xc0\x10\xc0\x10\0\x06\0\x01\0\0\x0e\x10\0\x1a\x02ns\xc0\x10\0\0\0\0\x01\0\0\x0e\x10\0\0\x02\x58\0\x01\x51\x80\0\0\x01\x2c";
 
-// The observations of a message at second 100.
+/// The observations of a message at second 100.
 fn seen(alloc: Global, message: &[u8]) -> Result<Vec<Observation>, Fail> {
     let stamp = Moment::new(100).ok_or("a moment")?;
     let reply = read_reply(alloc, message)?;
@@ -17,7 +17,7 @@ fn seen(alloc: Global, message: &[u8]) -> Result<Vec<Observation>, Fail> {
     Ok(observations(alloc, &told, stamp)?)
 }
 
-// What a client that asked so, with identifier 7 and RD, is told of a message.
+/// What a client that asked so, with identifier 7 and RD, is told of a message.
 fn relayed(alloc: Global, asked: &[u8], message: &[u8]) -> Result<Vec<u8>, Fail> {
     let head = b"\0\x07\x01\0\0\x01\0\0\0\0\0\0";
     let query = joined(alloc, head.as_slice(), asked)?;
@@ -27,7 +27,7 @@ fn relayed(alloc: Global, asked: &[u8], message: &[u8]) -> Result<Vec<u8>, Fail>
     Ok(relay(alloc, &told, &question, header.id, header.rd)?)
 }
 
-// One after the other.
+/// One after the other.
 fn joined(alloc: Global, front: &[u8], back: &[u8]) -> Result<Vec<u8>, Fail> {
     let mut all = Vec::from_slice(alloc, front)?;
     all.extend_from_slice(back)?;
@@ -165,8 +165,8 @@ fn relays_a_large_ttl_and_a_denial(rt: HostRuntime) -> Result<(), Fail> {
     Ok(())
 }
 
-// The flags of a reply with an NS record, and those of what its client is told: RCODE 0 and TC where TC is set, else its
-// own RCODE.
+/// The flags of a reply with an NS record, and those of what its client is told: RCODE 0 and TC
+/// where TC is set, else its own RCODE.
 #[test]
 fn relays_what_was_cut_off_and_other_codes(rt: HostRuntime) -> Result<(), Fail> {
     let alloc = rt.alloc();
@@ -192,7 +192,7 @@ fn relays_what_was_cut_off_and_other_codes(rt: HostRuntime) -> Result<(), Fail> 
     Ok(())
 }
 
-// The same flags: what the digest holds.
+/// The same flags: what the digest holds.
 #[test]
 fn digests_what_was_cut_off_and_other_codes(rt: HostRuntime) -> Result<(), Fail> {
     let alloc = rt.alloc();
@@ -243,7 +243,8 @@ fn no_data_behind_an_alias(rt: HostRuntime) -> Result<(), Fail> {
     Ok(())
 }
 
-// com. first, with TTLs of 600 and 700, then example.com.; net. is no ancestor of the question's name.
+/// com. first, with TTLs of 600 and 700, then example.com.; net. is no ancestor of the question's
+/// name.
 #[test]
 fn two_sets_of_name_servers(rt: HostRuntime) -> Result<(), Fail> {
     let message =

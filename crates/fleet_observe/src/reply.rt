@@ -11,7 +11,7 @@ use crate::walk::has_walk;
 use fleet_wire::Message;
 use std::alloc::Allocator;
 
-// Whether the message is a reply to a question that is served.
+/// Whether the message is a reply to a question that is served.
 fn is_served<A: Allocator>(message: &Message<A>) -> bool
     ensures { MatchBool result (IsServed message.now) (¬ IsServed message.now) }
 {
@@ -29,7 +29,7 @@ fn is_served<A: Allocator>(message: &Message<A>) -> bool
     is_data_type(question.rtype)
 }
 
-// Whether the code leaves the answer to the walk.
+/// Whether the code leaves the answer to the walk.
 fn is_answered(rcode: u8) -> bool
     ensures { MatchBool result ((rcode ≡ 0) ⊎ (rcode ≡ 3)) ((¬ (rcode ≡ 0)) × (¬ (rcode ≡ 3))) }
 {
@@ -39,14 +39,16 @@ fn is_answered(rcode: u8) -> bool
     rcode == 3
 }
 
-/// What a reply tells (RFC 1034 3.6.2, RFC 2308 2): the walk from the question's name along aliases in the answer
-/// section, how it ends, the SOA of a denial, and the NS RRsets that the reply is an authority for.
+/// What a reply tells (RFC 1034 3.6.2, RFC 2308 2): the walk from the question's name along aliases
+/// in the answer section, how it ends, the SOA of a denial, and the NS RRsets that the reply is an
+/// authority for.
 ///
 /// # Errors
 ///
-/// In this order: `NotReply` where it is no reply or one to a question that is not served; `BadChain` where a walk is
-/// asked for (TC clear, RCODE 0 or 3) and there is none: aliases that fork or loop, or a ninth link; `OutOfMemory`, of a
-/// reply with neither of these faults. Each digest copies the question's name.
+/// In this order: `NotReply` where it is no reply or one to a question that is not served;
+/// `BadChain` where a walk is asked for (TC clear, RCODE 0 or 3) and there is none: aliases that
+/// fork or loop, or a ninth link; `OutOfMemory`, of a reply with neither of these faults. Each
+/// digest copies the question's name.
 pub fn digest<A: Allocator + Copy>(alloc: A, message: &Message<A>) -> Result<Digest<A>, DigestFault>
     ensures { MatchResult result (IsMeaning message.now) (IsFault message.now) }
 {

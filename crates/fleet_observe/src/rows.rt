@@ -23,13 +23,15 @@ pub struct Rows<'a, A: Allocator = Global> {
     pub rdatas: &'a [Octets<A>],
 }
 
-/// Adds records at the end of the answer section of a reply, in the order of their RDATAs: a link of a chain, or the
-/// records that it leads to. Where there is no memory for all of them, some may have been added.
+/// Adds records at the end of the answer section of a reply, in the order of their RDATAs: a link
+/// of a chain, or the records that it leads to. Where there is no memory for all of them, some may
+/// have been added.
 pub fn add_rows<'a, A: Allocator + Copy>(
     outline: &mut Outline<'a, A>,
     rows: Rows<'a, A>,
 ) -> Result<(), AllocError>
-    ensures { OnOk result (outline.new ≡ with_answers outline.old (set_lines (set_lent rows.entry))) }
+    ensures { OnOk result (outline.new
+        ≡ with_answers outline.old (set_lines (set_lent rows.entry))) }
 {
     for rdata in rows.rdatas {
         outline.answer(rows.name, rows.rtype, rows.ttl, rdata.as_slice())?;
@@ -37,15 +39,17 @@ pub fn add_rows<'a, A: Allocator + Copy>(
     Ok(())
 }
 
-/// Adds an SOA record at the end of the authority section of a reply: its owner, its TTL in seconds and its RDATA, with
-/// every name in full (RFC 2308 3). Where there is no memory for it, the outline stays as it was.
+/// Adds an SOA record at the end of the authority section of a reply: its owner, its TTL in seconds
+/// and its RDATA, with every name in full (RFC 2308 3). Where there is no memory for it, the
+/// outline stays as it was.
 pub fn add_soa<'a, A: Allocator + Copy>(
     outline: &mut Outline<'a, A>,
     owner: &'a Name<A>,
     ttl: u32,
     rdata: &'a [u8],
 ) -> Result<(), AllocError>
-    ensures ok { OnOk result (outline.new ≡ with_authority outline.old (line owner.entry.now 6 ttl rdata.entry.now)) }
+    ensures ok { OnOk result (outline.new
+        ≡ with_authority outline.old (line owner.entry.now 6 ttl rdata.entry.now)) }
     ensures err { OnErr result (outline.new ≡ outline.old) }
 {
     outline.authority(owner, SOA, ttl, rdata)

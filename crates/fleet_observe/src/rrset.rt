@@ -68,7 +68,7 @@ pub(crate) fn bounded(ttl: u32) -> u32
     }
 }
 
-// The least TTL of an RRset.
+/// The least TTL of an RRset.
 fn least_ttl<A: Allocator>(section: &[Record<A>], name: &[u8], rtype: u16) -> u32
     requires spelled { SpellsName name.now }
     requires some { (d : List ℕ) × InSet (all_told section.now) (labels_of name.now) rtype d }
@@ -83,7 +83,7 @@ fn least_ttl<A: Allocator>(section: &[Record<A>], name: &[u8], rtype: u16) -> u3
     least
 }
 
-// Whether these octets are among the RDATAs.
+/// Whether these octets are among the RDATAs.
 fn holds<A: Allocator>(rdatas: &[Octets<A>], rdata: &[u8]) -> bool
     ensures { IsTrue result ↔ Has rdatas.now rdata.now }
 {
@@ -95,7 +95,7 @@ fn holds<A: Allocator>(rdatas: &[Octets<A>], rdata: &[u8]) -> bool
     false
 }
 
-// How many RDATAs at the front are less.
+/// How many RDATAs at the front are less.
 fn place<A: Allocator>(rdatas: &[Octets<A>], rdata: &[u8]) -> usize
     ensures count { result ≡ count_below rdata.now rdatas.now }
     ensures within { result ≤ length rdatas.now }
@@ -107,7 +107,7 @@ fn place<A: Allocator>(rdatas: &[Octets<A>], rdata: &[u8]) -> usize
     at
 }
 
-// Adds an RDATA at its place, if it is not there.
+/// Adds an RDATA at its place, if it is not there.
 fn add<A: Allocator + Copy>(
     alloc: A,
     rdatas: &mut Vec<Octets<A>, A>,
@@ -115,7 +115,8 @@ fn add<A: Allocator + Copy>(
 ) -> Result<(), AllocError>
     requires { IsAscending rdatas.old.items }
     ensures ascending { OnOk result (IsAscending rdatas.new.items) }
-    ensures members { OnOk result ((d : List ℕ) → Has rdatas.new.items d ↔ (Has rdatas.old.items d ⊎ (rdata.now ≡ d))) }
+    ensures members { OnOk result ((d : List ℕ)
+        → Has rdatas.new.items d ↔ (Has rdatas.old.items d ⊎ (rdata.now ≡ d))) }
 {
     if holds(rdatas, rdata) {
         return Ok(());

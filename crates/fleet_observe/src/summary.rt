@@ -21,8 +21,8 @@ use fleet_wire::{Message, Record};
 use std::alloc::{AllocError, Allocator, Global};
 use std::marker::Model;
 
-/// What a reply tells: the links of the walk from the question's name along aliases, how it ends, and the NS RRsets
-/// that it is an authority for. `digest` alone makes one.
+/// What a reply tells: the links of the walk from the question's name along aliases, how it ends,
+/// and the NS RRsets that it is an authority for. `digest` alone makes one.
 #[derive(Drop)]
 pub struct Digest<A: Allocator = Global> {
     name: Name<A>,
@@ -39,9 +39,23 @@ impl<A: Allocator> Model for Digest<A> {
 
     ghost Value = { Summary };
 
-    ghost view = { λ d. record { name = d.name; rtype = d.rtype; aa = d.aa; chain = sets_of d.chain.items; end = ending_of d.end; ns = sets_of d.ns.items } };
+    ghost view = { λ d. record {
+      name = d.name;
+      rtype = d.rtype;
+      aa = d.aa;
+      chain = sets_of d.chain.items;
+      end = ending_of d.end;
+      ns = sets_of d.ns.items;
+    } };
 
-    ghost invariant = { λ d. IsLawful (record { name = d.name; rtype = d.rtype; aa = d.aa; chain = sets_of d.chain.items; end = ending_of d.end; ns = sets_of d.ns.items }) };
+    ghost invariant = { λ d. IsLawful (record {
+      name = d.name;
+      rtype = d.rtype;
+      aa = d.aa;
+      chain = sets_of d.chain.items;
+      end = ending_of d.end;
+      ns = sets_of d.ns.items;
+    }) };
 }
 
 impl<A: Allocator> Digest<A> {
@@ -85,7 +99,8 @@ impl<A: Allocator> Digest<A> {
         &self.end
     }
 
-    /// The NS RRsets of the authority section that the reply is an authority for, in order of first appearance.
+    /// The NS RRsets of the authority section that the reply is an authority for, in order of first
+    /// appearance.
     pub fn ns(&self) -> &[RrSet<A>]
         ensures ns { sets_of result.now ≡ self.now.ns }
         ensures lawful { IsLawful self.now }
@@ -94,13 +109,13 @@ impl<A: Allocator> Digest<A> {
     }
 }
 
-// The links of a walk, and the name where it ends, in full.
+/// The links of a walk, and the name where it ends, in full.
 struct Followed<'a, A: Allocator> {
     chain: Vec<RrSet<A>, A>,
     at: &'a [u8],
 }
 
-// Follows the walk.
+/// Follows the walk.
 fn follow<'a, A: Allocator + Copy>(
     alloc: A,
     answer: &'a [Record<A>],
@@ -122,7 +137,7 @@ fn follow<'a, A: Allocator + Copy>(
     Ok(Followed { chain, at })
 }
 
-// How a walk ends.
+/// How a walk ends.
 fn end_of<A: Allocator + Copy>(
     alloc: A,
     message: &Message<A>,
@@ -148,7 +163,8 @@ fn end_of<A: Allocator + Copy>(
     Ok(End::NxDomain(soa))
 }
 
-/// What a reply that asks for no walk tells, with a copy of the question's name. This takes no memory.
+/// What a reply that asks for no walk tells, with a copy of the question's name. This takes no
+/// memory.
 pub(crate) fn short<A: Allocator + Copy>(
     alloc: A,
     message: &Message<A>,

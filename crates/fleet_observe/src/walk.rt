@@ -11,7 +11,7 @@ use crate::rrset::belongs;
 use fleet_wire::Record;
 use std::alloc::Allocator;
 
-// What an RRset has: its first record, where there is one.
+/// What an RRset has: its first record, where there is one.
 #[derive(Drop)]
 pub(crate) enum Found<'a, A: Allocator> {
     Nothing,
@@ -19,7 +19,7 @@ pub(crate) enum Found<'a, A: Allocator> {
     Several(&'a Record<A>),
 }
 
-// What the walk does at a name: with a record of the RRset that decides it.
+/// What the walk does at a name: with a record of the RRset that decides it.
 #[derive(Drop)]
 pub(crate) enum Step<'a, A: Allocator> {
     Records(&'a Record<A>),
@@ -28,7 +28,7 @@ pub(crate) enum Step<'a, A: Allocator> {
     Fork,
 }
 
-// Whether the RRset at this name and type has none, one or several RDATAs.
+/// Whether the RRset at this name and type has none, one or several RDATAs.
 fn look<'a, A: Allocator>(section: &'a [Record<A>], name: &[u8], rtype: u16) -> Found<'a, A>
     requires { SpellsName name.now }
     ensures { IsFound (all_told section.now) (labels_of name.now) rtype result }
@@ -106,7 +106,8 @@ pub(crate) fn found_at<'a, A: Allocator>(
     requires spelled { SpellsName name.now }
     requires plain { ArePlainRecords (all_told answer.now) }
     requires ends { Ends (all_told answer.now) rtype (labels_of name.now) }
-    ensures { MatchOption result (EndsBare (all_told answer.now) rtype (labels_of name.now)) (λ r. IsOf (all_told answer.now) (labels_of name.now) rtype (told r.now)) }
+    ensures { MatchOption result (EndsBare (all_told answer.now) rtype (labels_of name.now))
+        (λ r. IsOf (all_told answer.now) (labels_of name.now) rtype (told r.now)) }
 {
     match step_at(answer, name, rtype) {
         Step::Records(record) => Some(record),

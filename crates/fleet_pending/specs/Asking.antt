@@ -21,7 +21,14 @@ with_waiter e w = record e { waiters = e.waiters ++ w ∷ [] }
 
 -- two seconds are the time of a try
 abbrev pub new_entry : Asker → ℕ → ℕ → Open
-new_entry w moment id = record { name = w.question.name; rtype = w.question.rtype; id = id; upstream = 0; deadline = moment + 2; waiters = w ∷ [] }
+new_entry w moment id = record {
+  name = w.question.name;
+  rtype = w.question.rtype;
+  id = id;
+  upstream = 0;
+  deadline = moment + 2;
+  waiters = w ∷ [];
+}
 
 abbrev pub moved_on : Open → ℕ → Open
 moved_on e moment = record e { upstream = e.upstream + 1; deadline = moment + 2 }
@@ -39,23 +46,32 @@ Joins e w (Err OutOfMemory) f = (Waits w e.waiters → ⊥) × (length e.waiters
 abbrev pub Opens : List Open → Asker → ℕ → ℕ → Result Asked PendingFault → List Open → Type 0
 Opens es w moment word (Ok Again) fs = ⊥
 Opens es w moment word (Ok Joined) fs = ⊥
-Opens es w moment word (Ok (Send upstream id)) fs = (length es < 256) × (upstream ≡ 0) × IsFirstFree word es id × (fs ≡ es ++ new_entry w moment id ∷ [])
+Opens es w moment word (Ok (Send upstream id)) fs = (length es < 256) × (upstream ≡ 0)
+    × IsFirstFree word es id × (fs ≡ es ++ new_entry w moment id ∷ [])
 Opens es w moment word (Err Full) fs = (256 ≤ length es) × (fs ≡ es)
 Opens es w moment word (Err WaitersFull) fs = ⊥
 Opens es w moment word (Err OutOfMemory) fs = (length es < 256) × (fs ≡ es)
 
 -- a waiter asks: there is an entry for its question, or it is new
-pub data Asks (o : Outstanding) (w : Asker) (moment word : ℕ) (r : Result Asked PendingFault) (n : Outstanding) : Type 0 where
-  joins : (i : ℕ) (e f : Open) → At o.entries i e → AsksFor w.question e → Joins e w r f → n ≡ record o { entries = slice_set o.entries i f } → Asks o w moment word r n
-  opens : (fs : List Open) → NoneIs (AsksFor w.question) o.entries → Opens o.entries w moment word r fs → n ≡ record o { entries = fs } → Asks o w moment word r n
+pub data Asks (o : Outstanding) (w : Asker) (moment word : ℕ) (r : Result Asked PendingFault)
+    (n : Outstanding) : Type 0 where
+  joins : (i : ℕ) (e f : Open) → At o.entries i e → AsksFor w.question e → Joins e w r f
+      → n ≡ record o { entries = slice_set o.entries i f } → Asks o w moment word r n
+  opens : (fs : List Open) → NoneIs (AsksFor w.question) o.entries
+      → Opens o.entries w moment word r fs → n ≡ record o { entries = fs }
+      → Asks o w moment word r n
 
 -- the entry with this id is given back
 abbrev pub Settles : Outstanding → ℕ → Option Open → Outstanding → Type 0
 Settles o id None n = NoneIs (UsesId id) o.entries × (n ≡ o)
-Settles o id (Some e) n = (i : ℕ) × At o.entries i e × UsesId id e × (n ≡ record o { entries = remove o.entries i })
+Settles o id (Some e) n =
+    (i : ℕ) × At o.entries i e × UsesId id e × (n ≡ record o { entries = remove o.entries i })
 
 -- the entry with this id goes on to the next upstream, if there is one
 abbrev pub Advances : Outstanding → ℕ → ℕ → Bool → Outstanding → Type 0
 Advances o id moment true n =
-    (i : ℕ) × ((e : Open) × At o.entries i e × UsesId id e × (e.upstream + 1 < o.upstreams) × (n ≡ record o { entries = slice_set o.entries i (moved_on e moment) }))
-Advances o id moment false n = NoneIs (λ e. UsesId id e × (e.upstream + 1 < o.upstreams)) o.entries × (n ≡ o)
+    (i : ℕ)
+    × ((e : Open) × At o.entries i e × UsesId id e × (e.upstream + 1 < o.upstreams)
+    × (n ≡ record o { entries = slice_set o.entries i (moved_on e moment) }))
+Advances o id moment false n =
+    NoneIs (λ e. UsesId id e × (e.upstream + 1 < o.upstreams)) o.entries × (n ≡ o)

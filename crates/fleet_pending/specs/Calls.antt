@@ -53,8 +53,10 @@ cleared (settle id r) = []
 cleared (advance id moment r) = []
 cleared (clear ws) = ws
 
--- the waiters accepted are those given back, those cleared away and those still open, each as often: by every test as many
+-- the waiters accepted are those given back, those cleared away and those still open, each as
+-- often: by every test as many
 abbrev pub EachAsOften : Type 0
 EachAsOften =
     (o n : Outstanding) (calls : List Call) → Run o calls n → (test : Asker → Bool)
-    → count_by test (open_waiters o ++ flat_map accepted calls) ≡ count_by test (flat_map given_back calls ++ (flat_map cleared calls ++ open_waiters n))
+    → count_by test (open_waiters o ++ flat_map accepted calls)
+    ≡ count_by test (flat_map given_back calls ++ (flat_map cleared calls ++ open_waiters n))

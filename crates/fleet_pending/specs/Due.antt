@@ -23,8 +23,10 @@ NoneDue es moment = NoneIs (λ e. e.deadline ≤ moment) es
 -- nothing, the next upstream for the first due entry, or its failure after the last
 abbrev pub Dues : {A : Type 0} → Outstanding → ℕ → Option (Due A) → Type 0
 Dues o moment None = NoneDue o.entries moment
-Dues o moment (Some (Retry upstream id e)) = IsFirstDue o.entries moment (opened e.now) × (id ≡ e.now.id) × (upstream ≡ e.now.upstream + 1) × (upstream < o.upstreams)
-Dues o moment (Some (Failed id e)) = IsFirstDue o.entries moment (opened e.now) × (id ≡ e.now.id) × (o.upstreams ≤ e.now.upstream + 1)
+Dues o moment (Some (Retry upstream id e)) = IsFirstDue o.entries moment (opened e.now)
+    × (id ≡ e.now.id) × (upstream ≡ e.now.upstream + 1) × (upstream < o.upstreams)
+Dues o moment (Some (Failed id e)) = IsFirstDue o.entries moment (opened e.now) × (id ≡ e.now.id)
+    × (o.upstreams ≤ e.now.upstream + 1)
 
 -- the entry that is due
 abbrev pub opened_due : {A : Type 0} → Due A → Open

@@ -4,7 +4,14 @@ use Rattle.fleet_pending.specs.declared.entry.Entry.{Entry}
 use Rattle.fleet_pending.specs.Outstanding.{Open, Outstanding}
 
 abbrev pub opened : {A : Type 0} → Entry A → Open
-opened e = record { name = e.name; rtype = e.rtype; id = e.id; upstream = e.upstream; deadline = e.deadline; waiters = e.waiters }
+opened e = record {
+  name = e.name;
+  rtype = e.rtype;
+  id = e.id;
+  upstream = e.upstream;
+  deadline = e.deadline;
+  waiters = e.waiters;
+}
 
 abbrev pub opened_in : {A : Type 0} → Option (Entry A) → Option Open
 opened_in None = None

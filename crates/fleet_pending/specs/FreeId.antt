@@ -5,12 +5,15 @@ use Rattle.fleet_name.specs.Places.{At, NoneIs}
 
 -- each of the first n ids from this word upwards, modulo 65536, has an entry
 abbrev pub TakenTo : ℕ → List Open → ℕ → Type 0
-TakenTo word es n = (k : ℕ) → k < n → (i : ℕ) × ((e : Open) × At es i e × UsesId ((word + k) % 65536) e)
+TakenTo word es n =
+    (k : ℕ) → k < n → (i : ℕ) × ((e : Open) × At es i e × UsesId ((word + k) % 65536) e)
 
 -- which of the 256 ids from this word upwards, modulo 65536, have an entry
 pub record AreTaken (word : ℕ) (es : List Open) (taken : List Bool) : Type 0 where
-  pub taken_ids : (k : ℕ) → k < 256 → slice_index_or taken k false ≡ true → (i : ℕ) × ((e : Open) × At es i e × UsesId ((word + k) % 65536) e)
-  pub free_ids : (k : ℕ) → k < 256 → slice_index_or taken k false ≡ false → NoneIs (UsesId ((word + k) % 65536)) es
+  pub taken_ids : (k : ℕ) → k < 256 → slice_index_or taken k false ≡ true
+      → (i : ℕ) × ((e : Open) × At es i e × UsesId ((word + k) % 65536) e)
+  pub free_ids : (k : ℕ) → k < 256 → slice_index_or taken k false ≡ false
+      → NoneIs (UsesId ((word + k) % 65536)) es
 
 -- the first id that no entry has, from this word upwards modulo 65536
 pub record IsFirstFree (word : ℕ) (es : List Open) (id : ℕ) : Type 0 where

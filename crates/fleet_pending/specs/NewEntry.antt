@@ -13,7 +13,8 @@ pub record IsNew (o n : Outstanding) (w : Asker) (moment upstream id : ℕ) : Ty
   pub last : n ≡ record o { entries = o.entries ++ new_entry w moment id ∷ [] }
   pub there : At n.entries (length o.entries) (new_entry w moment id)
   pub alone : (i : ℕ) (e : Open) → At n.entries i e → UsesId id e → e ≡ new_entry w moment id
-  pub waiter : (i : ℕ) (e : Open) (v : Asker) → At n.entries i e → UsesId id e → At e.waiters 0 v → v ≡ w
+  pub waiter : (i : ℕ) (e : Open) (v : Asker) → At n.entries i e → UsesId id e → At e.waiters 0 v
+      → v ≡ w
 
 abbrev pub OpensLast : Type 0
 OpensLast =

@@ -14,7 +14,9 @@ NoRoom o w = NoneIs (AsksFor w.question) o.entries × (256 ≤ length o.entries)
 
 -- 32 wait for the question, and this asker is none of them
 abbrev pub NoPlace : Outstanding → Asker → Type 0
-NoPlace o w = (i : ℕ) × ((e : Open) × At o.entries i e × AsksFor w.question e × (Waits w e.waiters → ⊥) × (32 ≤ length e.waiters))
+NoPlace o w = (i : ℕ)
+    × ((e : Open) × At o.entries i e × AsksFor w.question e × (Waits w e.waiters → ⊥)
+    × (32 ≤ length e.waiters))
 
 -- the two refusals, each with its place
 pub record RefusesWhere (o : Outstanding) (w : Asker) (r : Result Asked PendingFault) : Type 0 where

@@ -9,4 +9,5 @@ use Rattle.fleet_name.specs.Places.{At}
 abbrev pub SettlesItsEntry : Type 0
 SettlesItsEntry =
     (o n : Outstanding) (i id : ℕ) (e : Open) (r : Option Open)
-    → IsOutstanding o → At o.entries i e → UsesId id e → Settles o id r n → (r ≡ Some e) × (n ≡ record o { entries = remove o.entries i })
+    → IsOutstanding o → At o.entries i e → UsesId id e → Settles o id r n
+    → (r ≡ Some e) × (n ≡ record o { entries = remove o.entries i })

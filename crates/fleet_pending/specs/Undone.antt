@@ -9,4 +9,5 @@ use Rattle.fleet_pending.specs.declared.answer.Asked.TheVariants.{Send}
 abbrev pub IsUndone : Type 0
 IsUndone =
     (o n m : Outstanding) (w : Asker) (moment word upstream id : ℕ) (r : Option Open)
-    → Asks o w moment word (Ok (Send upstream id)) n → Settles n id r m → (r ≡ Some (new_entry w moment id)) × (m ≡ o)
+    → Asks o w moment word (Ok (Send upstream id)) n → Settles n id r m
+    → (r ≡ Some (new_entry w moment id)) × (m ≡ o)

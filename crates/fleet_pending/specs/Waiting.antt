@@ -17,6 +17,9 @@ pub record IsWaiting (o : Outstanding) (w : Asker) : Type 0 where
 
 -- who waits afterwards waited before, or is the one who asked
 pub record WaitersStay : Type 0 where
-  pub asking : (o n : Outstanding) (w v : Asker) (moment word : ℕ) (r : Result Asked PendingFault) → Asks o w moment word r n → IsWaiting n v → IsWaiting o v ⊎ (v ≡ w)
-  pub settling : (o n : Outstanding) (v : Asker) (id : ℕ) (r : Option Open) → Settles o id r n → IsWaiting n v → IsWaiting o v
-  pub advancing : (o n : Outstanding) (v : Asker) (id moment : ℕ) (r : Bool) → Advances o id moment r n → IsWaiting n v → IsWaiting o v
+  pub asking : (o n : Outstanding) (w v : Asker) (moment word : ℕ) (r : Result Asked PendingFault)
+      → Asks o w moment word r n → IsWaiting n v → IsWaiting o v ⊎ (v ≡ w)
+  pub settling : (o n : Outstanding) (v : Asker) (id : ℕ) (r : Option Open) → Settles o id r n
+      → IsWaiting n v → IsWaiting o v
+  pub advancing : (o n : Outstanding) (v : Asker) (id moment : ℕ) (r : Bool)
+      → Advances o id moment r n → IsWaiting n v → IsWaiting o v

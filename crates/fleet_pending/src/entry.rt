@@ -42,7 +42,8 @@ pub(crate) fn make_entry<A: Allocator + Copy>(
     id: u16,
 ) -> Result<Entry<A>, Waiter<A>>
     requires { moment ≤ 2 ^ 40 }
-    ensures { MatchResult result (λ e. opened e ≡ new_entry (asker waiter) moment id) (λ w. w ≡ waiter) }
+    ensures { MatchResult result (λ e. opened e ≡ new_entry (asker waiter) moment id)
+        (λ w. w ≡ waiter) }
 {
     let name = match waiter.question.name.try_clone() {
         Ok(name) => name,
@@ -67,7 +68,8 @@ pub(crate) fn join<A: Allocator>(
     entry: &mut Entry<A>,
     waiter: Waiter<A>,
 ) -> Result<Asked, Unasked<A>>
-    ensures joins { Joins (opened entry.old) (asker waiter) (asked_or_fault result) (opened entry.new) }
+    ensures joins { Joins (opened entry.old) (asker waiter) (asked_or_fault result)
+        (opened entry.new) }
     ensures back { IfErr result (λ u. u.waiter ≡ waiter) }
 {
     if entry.waiters.has(&waiter) {

@@ -54,14 +54,16 @@ impl<A: Allocator> Pending<A> {
         }
     }
 
-    /// A waiter asks, at a moment; `word` is where the search for an id begins. The question's class
-    /// is not looked at: where each question was of one class, so is each waiter's (`waiters_stay`).
+    /// A waiter asks, at a moment; `word` is where the search for an id begins. The question's
+    /// class is not looked at: where each question was of one class, so is each waiter's
+    /// (`waiters_stay`).
     ///
     /// An entry with the same name and type, where the same address waits under the same id:
     /// `Again`; where 32 others wait: `WaitersFull`; else `Joined`. No such entry: where 256 are
     /// open, `Full`; else a new one at the first upstream, whose time is over 2 seconds later, with
     /// the first id that no entry has, from `word` upwards modulo 65536: `Send`. Where a new entry
-    /// or waiter finds no memory: `OutOfMemory`. A fault changes nothing, and hands the waiter back.
+    /// or waiter finds no memory: `OutOfMemory`. A fault changes nothing, and hands the waiter
+    /// back.
     pub fn ask(&mut self, waiter: Waiter<A>, moment: Moment, word: u16) -> Result<Asked, Unasked<A>>
     where
         A: Copy,
@@ -129,7 +131,8 @@ impl<A: Allocator> Pending<A> {
     pub fn due(&self, moment: Moment) -> Option<Due<'_, A>>
         ensures dues { Dues self.now moment result }
         ensures is_open { IfSome result (λ d. IsOpen (opened_due d)) }
-        ensures count { MatchOption result (due_at self.now moment ≡ 0) (λ _. 0 < due_at self.now moment) }
+        ensures count { MatchOption result (due_at self.now moment ≡ 0)
+            (λ _. 0 < due_at self.now moment) }
         ensures outstanding { IsOutstanding self.now }
     {
         let entry = first_due(self.entries.as_slice(), moment.value())?;
@@ -146,8 +149,8 @@ impl<A: Allocator> Pending<A> {
         }
     }
 
-    /// Moves the entry with an id to the next upstream; its time is over 2 seconds after the moment.
-    /// False, where there is no such entry or no further upstream: then nothing changes.
+    /// Moves the entry with an id to the next upstream; its time is over 2 seconds after the
+    /// moment. False, where there is no such entry or no further upstream: then nothing changes.
     pub fn advance(&mut self, id: u16, moment: Moment) -> bool
         ensures advances { Advances self.old id moment result self.new }
         ensures upstreams { self.new.upstreams ≡ self.old.upstreams }
@@ -194,7 +197,8 @@ fn add_entry<A: Allocator + Copy>(
     moment: Moment,
     word: u16,
 ) -> Result<Asked, Unasked<A>>
-    ensures opens { Opens (map opened entries.old.items) (asker waiter) moment word (asked_or_fault result)
+    ensures opens { Opens (map opened entries.old.items) (asker waiter) moment word
+        (asked_or_fault result)
         (map opened entries.new.items) }
     ensures back { IfErr result (λ u. u.waiter ≡ waiter) }
 {

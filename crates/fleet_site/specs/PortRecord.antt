@@ -15,7 +15,8 @@ pub data PortCall : Type 0 where
 -- where the port still tells its record, it told it before, and these calls are the last ones
 abbrev pub NotesAll : Option (List PortCall) → List PortCall → Option (List PortCall) → Type 0
 NotesAll old calls None = Unit {0}
-NotesAll old calls (Some now) = (before : List PortCall) × (old ≡ Some before) × (now ≡ before ++ calls)
+NotesAll old calls (Some now) =
+    (before : List PortCall) × (old ≡ Some before) × (now ≡ before ++ calls)
 
 -- the same of one call
 abbrev pub Notes : Option (List PortCall) → PortCall → Option (List PortCall) → Type 0

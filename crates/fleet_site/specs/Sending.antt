@@ -76,7 +76,8 @@ pub record Sends (old new : PortState) (ss : List Sent) (r q : Report) : Type 0 
   pub report : q ≡ counting_all calls r
 
 -- a step was counted, and what it gave was sent or lost, and counted
-pub record CarriesOut (old new : PortState) (peers : List Addr) (a : Result Effect SiteFault) (r q : Report) : Type 0 where
+pub record CarriesOut (old new : PortState) (peers : List Addr) (a : Result Effect SiteFault)
+    (r q : Report) : Type 0 where
   pub calls : List PortCall
   pub made : Made old new calls
   pub sent : AreSent (outgoing peers a) calls

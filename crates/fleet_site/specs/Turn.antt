@@ -31,7 +31,8 @@ abbrev pub Deals : SiteModel → Deal → Result Effect SiteFault → SiteModel 
 Deals m (calling c) a n = Says m c a n
 Deals m sweeping a n = SweepSays m a n
 
--- for each model that the site stood for this is a step, and the site stands for the model afterwards
+-- for each model that the site stood for this is a step, and the site stands for the model
+-- afterwards
 pub record Stepped (x : Deal) (a : Result Effect SiteFault) (old new : State) : Type 0 where
   pub step : (m : SiteModel) → StandsFor old m → (n : SiteModel) × Deals m x a n × StandsFor new n
   pub setting : new.setting ≡ old.setting
@@ -70,7 +71,8 @@ pub record Acted (old new : State) (acts : List Act) : Type 0 where
 
 -- what was received is given to the site, and nothing where nothing was
 abbrev pub Given : ℕ → ℕ → PortCall → List Act → Type 0
-Given t word (Received from octets) acts = (a : Act) × (acts ≡ a ∷ []) × (a.deal ≡ calling (datagram t from octets word))
+Given t word (Received from octets) acts =
+    (a : Act) × (acts ≡ a ∷ []) × (a.deal ≡ calling (datagram t from octets word))
 Given t word NoDatagram acts = acts ≡ []
 Given t word Fault acts = acts ≡ []
 Given t word (PacketSent s) acts = ⊥
@@ -79,7 +81,8 @@ Given t word (PacketLost s) acts = ⊥
 -- ticks at a moment, each but the last with another one to follow, and whether one follows the last
 pub data Ticks (t : ℕ) : List Act → Bool → Type 0 where
   no_tick : Ticks t [] true
-  next_tick : {acts : List Act} (a : Act) → Ticks t acts true → a.deal ≡ calling (tick t) → Ticks t (acts ++ a ∷ []) (goes_on a.answer)
+  next_tick : {acts : List Act} (a : Act) → Ticks t acts true → a.deal ≡ calling (tick t)
+      → Ticks t (acts ++ a ∷ []) (goes_on a.answer)
 
 -- whether it is time to sweep: so many seconds after a moment, where they are not 0
 abbrev pub sweeps : ℕ → ℕ → ℕ → Bool
@@ -90,15 +93,16 @@ abbrev pub Sweeps : Bool → ℕ → ℕ → List Act → ℕ → Type 0
 Sweeps true t since acts last = (a : Act) × (acts ≡ a ∷ []) × (a.deal ≡ sweeping) × (last ≡ t)
 Sweeps false t since acts last = (acts ≡ []) × (last ≡ since)
 
--- what stands between two turns: the site, the calls of the port so far, the moment that the next sweep is counted
--- from, and the report
+-- what stands between two turns: the site, the calls of the port so far, the moment that the next
+-- sweep is counted from, and the report
 pub record Between : Type 0 where
   pub site : State
   pub calls : List PortCall
   pub swept : Option ℕ
   pub report : Report
 
--- one turn at a moment with a word: a receive, and the sends of the datagram, of the ticks, and of the sweep
+-- one turn at a moment with a word: a receive, and the sends of the datagram, of the ticks, and of
+-- the sweep
 pub record Turn (t word every : ℕ) (a b : Between) : Type 0 where
   pub arrival : PortCall
   pub given : List Act
@@ -107,10 +111,14 @@ pub record Turn (t word every : ℕ) (a b : Between) : Type 0 where
   pub is_given : Given t word arrival given
   pub are_ticks : Ticks t ticks false
   pub few : length ticks ≤ 256
-  pub is_swept : (last : ℕ) × Sweeps (sweeps every (unwrap_or a.swept t) t) t (unwrap_or a.swept t) sweep last × (b.swept ≡ Some last)
+  pub is_swept : (last : ℕ)
+      × Sweeps (sweeps every (unwrap_or a.swept t) t) t (unwrap_or a.swept t) sweep last
+      × (b.swept ≡ Some last)
   pub acted : Acted a.site b.site (given ++ (ticks ++ sweep))
   pub calls : b.calls ≡ a.calls ++ arrival ∷ calls_of (given ++ (ticks ++ sweep))
-  pub report : b.report ≡ counting_acts (given ++ (ticks ++ sweep)) (counting arrival (record a.report { turns = one_more a.report.turns }))
+  pub report : b.report
+      ≡ counting_acts (given ++ (ticks ++ sweep))
+      (counting arrival (record a.report { turns = one_more a.report.turns }))
 
 -- what a generator has left after n words
 abbrev pub left_after : ℕ → Stream → Stream
@@ -129,7 +137,8 @@ IsMoment (Some moments) n t = t ≡ moments n
 -- so many turns in a row, each with its moment and its word
 abbrev pub Turns : Option (ℕ → ℕ) → Stream → ℕ → ℕ → Between → Between → Type 0
 Turns moments s every zero a b = b ≡ a
-Turns moments s every (suc n) a b = (mid : Between) × (t : ℕ) × Turns moments s every n a mid × IsMoment moments n t × Turn t (word_of s n) every mid b
+Turns moments s every (suc n) a b = (mid : Between) × (t : ℕ) × Turns moments s every n a mid
+    × IsMoment moments n t × Turn t (word_of s n) every mid b
 
 -- nothing was counted yet
 abbrev pub blank : Report

@@ -21,7 +21,8 @@ pub(crate) fn take_frame<A: Allocator + Copy>(
     cache: &mut Cache<A>,
     octets: &[u8],
 ) -> Result<Outcome<A>, SiteFault>
-    ensures framed { (o : Outstanding) (s : List Fact) → IsCached s cache.old.floor cache.old.items → Carries (Framed o octets.now) (HasEntries octets.now) s o result cache.new o }
+    ensures framed { (o : Outstanding) (s : List Fact) → IsCached s cache.old.floor cache.old.items
+        → Carries (Framed o octets.now) (HasEntries octets.now) s o result cache.new o }
     ensures floor { cache.new.floor ≡ cache.old.floor }
 {
     match decode(alloc, octets) {
@@ -41,7 +42,8 @@ pub(crate) fn take_all<A: Allocator + Copy>(
     cache: &mut Cache<A>,
     observations: Vec<Observation<A>, A>,
 ) -> Result<Outcome<A>, SiteFault>
-    ensures taken { (s : List Fact) → IsCached s cache.old.floor cache.old.items → Takes s observations.items result cache.new }
+    ensures taken { (s : List Fact) → IsCached s cache.old.floor cache.old.items
+        → Takes s observations.items result cache.new }
     ensures floor { cache.new.floor ≡ cache.old.floor }
 {
     let taken = observations.len();

@@ -7,7 +7,8 @@ use crate::port::Clock;
 use fleet_observe::Moment;
 use std::alloc::{Allocator, Global};
 
-/// Gives the moments of a list in order, then the last one again, or 0 where the list is empty. For tests.
+/// Gives the moments of a list in order, then the last one again, or 0 where the list is empty. For
+/// tests.
 #[derive(Drop)]
 pub struct ListClock<A: Allocator = Global> {
     moments: Vec<Moment, A>,

@@ -23,8 +23,8 @@ pub enum Note<A: Allocator = Global> {
     Lost(Addr, Octets<A>),
 }
 
-/// A port over memory, for tests: it gives one arrival for each receive, and keeps a record of its calls. A call for
-/// which it finds no memory to note fails, and from then on it tells no record.
+/// A port over memory, for tests: it gives one arrival for each receive, and keeps a record of its
+/// calls. A call for which it finds no memory to note fails, and from then on it tells no record.
 #[derive(Drop)]
 pub struct MemoryPort<A: Allocator = Global> {
     alloc: A,
@@ -41,8 +41,8 @@ impl<A: Allocator + Copy> MemoryPort<A> {
     ghost use Rattle.fleet_site.specs.PortRecord.{NotesAll, one_more};
     ghost use Rattle.fleet_site.specs.MemoryPort.{record_of};
 
-    /// A port that gives these arrivals in order, `None` for no datagram, and then none. It fails at its call with the
-    /// number `fail_at`, counted from 1, without using up an arrival.
+    /// A port that gives these arrivals in order, `None` for no datagram, and then none. It fails
+    /// at its call with the number `fail_at`, counted from 1, without using up an arrival.
     pub fn new(
         alloc: A,
         arrivals: Vec<Option<(Addr, Octets<A>)>, A>,
@@ -67,7 +67,8 @@ impl<A: Allocator + Copy> MemoryPort<A> {
 
     /// Its record, while it tells it.
     pub fn notes(&self) -> Option<&[Note<A>]>
-        ensures { MatchOption result (record_of self.now ≡ None) (λ notes. record_of self.now ≡ Some (map call_of notes.now)) }
+        ensures { MatchOption result (record_of self.now ≡ None)
+            (λ notes. record_of self.now ≡ Some (map call_of notes.now)) }
     {
         if self.tells {
             Some(self.notes.as_slice())

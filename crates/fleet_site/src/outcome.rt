@@ -145,8 +145,8 @@ pub struct Outcome<A: Allocator = Global> {
 /// Why a step was stopped.
 #[derive(Clone, Copy, Debug, PartialEq, Eq, Error)]
 pub enum SiteFault {
-    /// There was no memory for it. The clock has risen, where the call has a moment, and a tick has purged. Nothing is
-    /// to be sent, and the open questions are as before.
+    /// There was no memory for it. The clock has risen, where the call has a moment, and a tick has
+    /// purged. Nothing is to be sent, and the open questions are as before.
     #[error("out of memory after {taken} observations")]
     OutOfMemory {
         /// How many observations were given to the cache: just the first ones, in their order.
@@ -191,7 +191,8 @@ impl<A: Allocator + Copy> Outcome<A> {
         taken: usize,
         refused: Option<Refusal>,
     ) -> Outcome<A>
-        ensures { effect result ≡ record nothing { packets = packets; taken = taken; refused = refused } }
+        ensures { effect result
+            ≡ record nothing { packets = packets; taken = taken; refused = refused } }
     {
         let frames = Frames::new(Vec::new(alloc));
         Outcome {

@@ -51,7 +51,10 @@ pub(crate) fn take_question<A: Allocator + Copy>(
 ) -> Result<Outcome<A>, SiteFault>
     requires reached { cache.now.floor ≤ arrival.clock }
     requires table { IsTableOf upstreams.now pending.old }
-    ensures questioned { (s : List Fact) → IsCached s cache.now.floor cache.now.items → Keeps (Questioned s upstreams.now pending.old arrival.clock arrival.from arrival.word octets.now) (IsAsking octets.now) pending.old result pending.new }
+    ensures questioned { (s : List Fact) → IsCached s cache.now.floor cache.now.items
+        → Keeps
+        (Questioned s upstreams.now pending.old arrival.clock arrival.from arrival.word octets.now)
+        (IsAsking octets.now) pending.old result pending.new }
     ensures table { KeepsTable pending.old pending.new }
 {
     match decide(alloc, cache, arrival.clock, octets) {
@@ -70,7 +73,8 @@ fn react<A: Allocator + Copy>(
 ) -> Result<Outcome<A>, SiteFault>
     requires askable { IsAskable decision }
     requires table { IsTableOf upstreams.now pending.old }
-    ensures reacts { Keeps (Reacts upstreams.now pending.old arrival.clock arrival.from arrival.word (verdict decision)) (IsAnswered decision) pending.old result pending.new }
+    ensures reacts { Keeps (Reacts upstreams.now pending.old arrival.clock arrival.from arrival.word
+        (verdict decision)) (IsAnswered decision) pending.old result pending.new }
     ensures table { KeepsTable pending.old pending.new }
 {
     match decision {
@@ -103,7 +107,8 @@ fn forward<A: Allocator + Copy>(
     requires opcode { header.opcode < 16 }
     requires class { question.class ≡ 1 }
     requires table { IsTableOf upstreams.now pending.old }
-    ensures forwards { Keeps (Forwards upstreams.now pending.old arrival.clock arrival.from arrival.word header (asked question)) ⊤ pending.old result pending.new }
+    ensures forwards { Keeps (Forwards upstreams.now pending.old arrival.clock arrival.from
+        arrival.word header (asked question)) ⊤ pending.old result pending.new }
     ensures table { KeepsTable pending.old pending.new }
 {
     let from = arrival.from;
@@ -138,7 +143,8 @@ fn enter<A: Allocator + Copy>(
     arrival: Arrival,
 ) -> Result<Asked, Unasked<A>>
     requires { waiter.question.class ≡ 1 }
-    ensures asks { Asks pending.old (asker waiter) arrival.clock arrival.word (asked_or_fault result) pending.new }
+    ensures asks { Asks pending.old (asker waiter) arrival.clock arrival.word
+        (asked_or_fault result) pending.new }
     ensures back { IfErr result (λ u. u.waiter ≡ waiter) }
     ensures unchanged { OnErr result (pending.new ≡ pending.old) }
     ensures table { KeepsTable pending.old pending.new }

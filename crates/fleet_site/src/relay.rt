@@ -1,5 +1,5 @@
-//! What a site does with a reply: one from an upstream is relayed to those who wait for it, one that it is handed is
-//! learnt.
+//! What a site does with a reply: one from an upstream is relayed to those who wait for it, one
+//! that it is handed is learnt.
 
 ghost use Rattle.std.specs.Prelude.{◌≡◌, ◌<◌, ◌≤◌, ◌++◌, ℕ, List, IfOk, IfErr, OnOk, map, length, take};
 ghost use Rattle.fleet_wire.specs.Message.{Reply, HasReply};
@@ -102,7 +102,8 @@ fn hear<A: Allocator + Copy>(
     octets: &[u8],
 ) -> Result<Relay<A>, Unheard>
     ensures relayed { IfOk result (λ r. Hears pending.now clock upstream octets.now r) }
-    ensures refused { IfErr result (λ e. Unlearns (Replied pending.now clock upstream octets.now) (IsReplying octets.now) pending.now e) }
+    ensures refused { IfErr result (λ e. Unlearns (Replied pending.now clock upstream octets.now)
+        (IsReplying octets.now) pending.now e) }
 {
     let header = match read_header(octets) {
         Some(header) => header,
@@ -125,7 +126,8 @@ fn hear_reply<A: Allocator + Copy>(
 ) -> Result<Relay<A>, Unheard>
     requires { IsAnswering octets.now }
     ensures relayed { IfOk result (λ r. Hears pending.now clock upstream octets.now r) }
-    ensures refused { IfErr result (λ e. Unlearns (Replied pending.now clock upstream octets.now) (IsReplying octets.now) pending.now e) }
+    ensures refused { IfErr result (λ e. Unlearns (Replied pending.now clock upstream octets.now)
+        (IsReplying octets.now) pending.now e) }
 {
     let message = match message_in(alloc, octets) {
         Ok(message) => message,
@@ -148,8 +150,8 @@ fn hear_reply<A: Allocator + Copy>(
     }
 }
 
-/// A reply from an upstream: it is relayed to every waiter of its entry in order of joining, its observations go out
-/// and are taken, and the entry is settled.
+/// A reply from an upstream: it is relayed to every waiter of its entry in order of joining, its
+/// observations go out and are taken, and the entry is settled.
 pub(crate) fn take_reply<A: Allocator + Copy>(
     alloc: A,
     cache: &mut Cache<A>,
@@ -158,7 +160,9 @@ pub(crate) fn take_reply<A: Allocator + Copy>(
     clock: Moment,
     octets: &[u8],
 ) -> Result<Outcome<A>, SiteFault>
-    ensures replied { (s : List Fact) → IsCached s cache.old.floor cache.old.items → Carries (Replied pending.old clock upstream octets.now) (IsReplying octets.now) s pending.old result cache.new pending.new }
+    ensures replied { (s : List Fact) → IsCached s cache.old.floor cache.old.items
+        → Carries (Replied pending.old clock upstream octets.now)
+        (IsReplying octets.now) s pending.old result cache.new pending.new }
     ensures floor { cache.new.floor ≡ cache.old.floor }
     ensures table { KeepsTable pending.old pending.new }
 {
@@ -174,7 +178,8 @@ fn carry_out<A: Allocator + Copy>(
     pending: &mut Pending<A>,
     relay: Relay<A>,
 ) -> Result<Outcome<A>, SiteFault>
-    ensures taken { (s : List Fact) → IsCached s cache.old.floor cache.old.items → IsRelayFor relay s pending.old result cache.new pending.new }
+    ensures taken { (s : List Fact) → IsCached s cache.old.floor cache.old.items
+        → IsRelayFor relay s pending.old result cache.new pending.new }
     ensures floor { cache.new.floor ≡ cache.old.floor }
     ensures table { KeepsTable pending.old pending.new }
 {
@@ -209,8 +214,10 @@ fn observed_in<A: Allocator + Copy>(
     clock: Moment,
     octets: &[u8],
 ) -> Result<Vec<Observation<A>, A>, Unheard>
-    ensures learnt { IfOk result (λ v. (o : Outstanding) → Learnt o clock octets.now (takes v.items o)) }
-    ensures refused { IfErr result (λ e. (o : Outstanding) → Unlearns (Learnt o clock octets.now) (HasReply octets.now) o e) }
+    ensures learnt { IfOk result (λ v.
+        (o : Outstanding) → Learnt o clock octets.now (takes v.items o)) }
+    ensures refused { IfErr result (λ e.
+        (o : Outstanding) → Unlearns (Learnt o clock octets.now) (HasReply octets.now) o e) }
 {
     let message = match message_in(alloc, octets) {
         Ok(message) => message,
@@ -244,7 +251,8 @@ pub(crate) fn learn_reply<A: Allocator + Copy>(
     clock: Moment,
     octets: &[u8],
 ) -> Result<Outcome<A>, SiteFault>
-    ensures learnt { (o : Outstanding) (s : List Fact) → IsCached s cache.old.floor cache.old.items → Carries (Learnt o clock octets.now) (HasReply octets.now) s o result cache.new o }
+    ensures learnt { (o : Outstanding) (s : List Fact) → IsCached s cache.old.floor cache.old.items
+        → Carries (Learnt o clock octets.now) (HasReply octets.now) s o result cache.new o }
     ensures floor { cache.new.floor ≡ cache.old.floor }
 {
     match observed_in(alloc, clock, octets) {

@@ -22,7 +22,8 @@ const BUFFER: usize = 16385;
 
 /// Sends octets, and counts them.
 fn send<P: Port>(port: &mut P, to: Addr, bytes: &[u8], report: &mut Report)
-    ensures { Sends (P.tells port.old) (P.tells port.new) (record { to = to; octets = bytes.now } ∷ []) report.old report.new }
+    ensures { Sends (P.tells port.old) (P.tells port.new)
+        (record { to = to; octets = bytes.now } ∷ []) report.old report.new }
 {
     match port.send(to, bytes) {
         Ok(()) => report.count_sent(),
@@ -32,7 +33,8 @@ fn send<P: Port>(port: &mut P, to: Addr, bytes: &[u8], report: &mut Report)
 
 /// Sends packets in their order.
 fn send_packets<P: Port, A: Allocator>(port: &mut P, packets: &[Packet<A>], report: &mut Report)
-    ensures { Sends (P.tells port.old) (P.tells port.new) (map sent packets.now) report.old report.new }
+    ensures { Sends (P.tells port.old) (P.tells port.new)
+        (map sent packets.now) report.old report.new }
 {
     for packet in packets {
         send(port, packet.to, packet.bytes.as_slice(), report);
@@ -41,7 +43,8 @@ fn send_packets<P: Port, A: Allocator>(port: &mut P, packets: &[Packet<A>], repo
 
 /// Sends a frame to each peer.
 fn send_to_each<P: Port>(port: &mut P, frame: &[u8], peers: &[Addr], report: &mut Report)
-    ensures { Sends (P.tells port.old) (P.tells port.new) (to_each frame.now peers.now) report.old report.new }
+    ensures { Sends (P.tells port.old) (P.tells port.new)
+        (to_each frame.now peers.now) report.old report.new }
 {
     for peer in peers {
         send(port, *peer, frame, report);
@@ -55,7 +58,8 @@ fn send_frames<P: Port, A: Allocator>(
     peers: &[Addr],
     report: &mut Report,
 )
-    ensures { Sends (P.tells port.old) (P.tells port.new) (to_peers peers.now frames.now) report.old report.new }
+    ensures { Sends (P.tells port.old) (P.tells port.new)
+        (to_peers peers.now frames.now) report.old report.new }
 {
     for frame in frames {
         send_to_each(port, frame.as_slice(), peers, report);
@@ -78,7 +82,8 @@ fn carry_out<P: Port, A: Allocator>(
     answer: Result<Outcome<A>, SiteFault>,
     report: &mut Report,
 ) -> bool
-    ensures carried { CarriesOut (P.tells port.old) (P.tells port.new) peers.now (plain answer) report.old report.new }
+    ensures carried { CarriesOut (P.tells port.old) (P.tells port.new) peers.now
+        (plain answer) report.old report.new }
     ensures more { result ≡ goes_on (plain answer) }
 {
     match answer {
@@ -102,7 +107,8 @@ fn carry_out_sweep<P: Port, A: Allocator>(
     frames: Result<Vec<Octets<A>, A>, AllocError>,
     report: &mut Report,
 )
-    ensures { CarriesOut (P.tells port.old) (P.tells port.new) peers.now (swept frames) report.old report.new }
+    ensures { CarriesOut (P.tells port.old) (P.tells port.new) peers.now
+        (swept frames) report.old report.new }
 {
     match frames {
         Ok(frames) => send_frames(port, &frames, peers, report),
@@ -119,7 +125,8 @@ fn receive<P: Port, A: Allocator + Copy>(
     word: u16,
     report: &mut Report,
 )
-    ensures { Heard (P.tells port.old) (P.tells port.new) now word site.old site.new report.old report.new }
+    ensures { Heard (P.tells port.old) (P.tells port.new) now word site.old site.new report.old
+        report.new }
 {
     match port.recv(buffer) {
         Ok(None) => {}
@@ -139,7 +146,8 @@ fn tick_all<P: Port, A: Allocator + Copy>(
     now: Moment,
     report: &mut Report,
 )
-    ensures { TickedAll (P.tells port.old) (P.tells port.new) now site.old site.new report.old report.new }
+    ensures { TickedAll (P.tells port.old) (P.tells port.new) now site.old site.new report.old
+        report.new }
 {
     // At most 256 are due, so there is an end.
     serving_leaves_fewer_due();
@@ -167,7 +175,8 @@ fn sweep_if_due<P: Port, A: Allocator + Copy>(
     every: u32,
     report: &mut Report,
 ) -> Moment
-    ensures { SweptOnce (P.tells port.old) (P.tells port.new) (sweeps every since now) now since result site.now site.now report.old report.new }
+    ensures { SweptOnce (P.tells port.old) (P.tells port.new)
+        (sweeps every since now) now since result site.now site.now report.old report.new }
 {
     if is_sweep_due(now, since, every) {
         carry_out_sweep(port, site.peers(), site.sweep(), report);
@@ -188,7 +197,8 @@ fn turn<P: Port, A: Allocator + Copy>(
     since: Option<Moment>,
     report: &mut Report,
 ) -> Moment
-    ensures { Turned (P.tells port.old) (P.tells port.new) now word every site.old site.new since result report.old report.new }
+    ensures { Turned (P.tells port.old) (P.tells port.new) now word every site.old site.new since
+        result report.old report.new }
 {
     report.count_turns();
     receive(port, site, buffer, now, word, report);
@@ -198,10 +208,11 @@ fn turn<P: Port, A: Allocator + Copy>(
 
 /// Serves a site over a port for so many turns, and tells what it counted.
 ///
-/// A turn reads the clock once and draws one word; receives at most one datagram and gives it to the site with the low
-/// 16 bits of that word; sends its packets, then its frames, each to the peers in their order; ticks, sending after each
-/// tick, until no other entry is due or a tick finds no memory; and sweeps where `sweep_every` (seconds) is not 0 and
-/// the moment is at least that many seconds after that of the last sweep, or of the first turn. A send that fails counts
+/// A turn reads the clock once and draws one word; receives at most one datagram and gives it to
+/// the site with the low 16 bits of that word; sends its packets, then its frames, each to the
+/// peers in their order; ticks, sending after each tick, until no other entry is due or a tick
+/// finds no memory; and sweeps where `sweep_every` (seconds) is not 0 and the moment is at least
+/// that many seconds after that of the last sweep, or of the first turn. A send that fails counts
 /// as lost, a receive that fails as a fault, a step without memory as short, and the loop goes on.
 pub fn serve<P: Port, C: Clock, R: Rng, A: Allocator + Copy>(
     port: &mut P,
@@ -211,9 +222,12 @@ pub fn serve<P: Port, C: Clock, R: Rng, A: Allocator + Copy>(
     turns: u32,
     sweep_every: u32,
 ) -> Report
-    ensures run { Served (P.tells port.old) (P.tells port.new) (C.moments clock.old) (R.stream rng.old) turns sweep_every site.old site.new result }
+    ensures run { Served (P.tells port.old) (P.tells port.new) (C.moments clock.old)
+        (R.stream rng.old) turns sweep_every site.old site.new result }
     ensures follows { FollowsSteps site.old site.new }
-    ensures failures { result.lost < 18446744073709551615 → result.faults < 18446744073709551615 → (P.tells port.new).failed < 18446744073709551615 → (P.tells port.new).failed ≡ (P.tells port.old).failed + (result.lost + result.faults) }
+    ensures failures { result.lost < 18446744073709551615 → result.faults < 18446744073709551615
+        → (P.tells port.new).failed < 18446744073709551615
+        → (P.tells port.new).failed ≡ (P.tells port.old).failed + (result.lost + result.faults) }
 {
     let mut report = Report::new();
     let mut buffer = [0u8; BUFFER];

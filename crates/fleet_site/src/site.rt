@@ -31,10 +31,12 @@ use fleet_pending::{Addr, Pending};
 use std::alloc::{AllocError, Allocator, Global};
 use std::marker::Model;
 
-/// A site: what it holds of the observations that it took in, and the questions that wait for an upstream.
+/// A site: what it holds of the observations that it took in, and the questions that wait for an
+/// upstream.
 ///
-/// Each call with a moment first raises the clock to it, if that is later, and takes the clock for stamps, answers and
-/// deadlines. What a call sends is made before the cache or the open questions change.
+/// Each call with a moment first raises the clock to it, if that is later, and takes the clock for
+/// stamps, answers and deadlines. What a call sends is made before the cache or the open questions
+/// change.
 #[derive(Drop)]
 pub struct Site<A: Allocator = Global> {
     alloc: A,
@@ -107,7 +109,8 @@ impl<A: Allocator + Copy> Site<A> {
 
     /// Forgets what it took in and what it asks, and begins at the moment 0 again.
     pub fn restart(&mut self)
-        ensures opens { (m : SiteModel) → StandsFor self.old m → StandsFor self.new (opening m.upstreams m.peers) }
+        ensures opens { (m : SiteModel) → StandsFor self.old m
+            → StandsFor self.new (opening m.upstreams m.peers) }
         ensures setting { self.new.setting ≡ self.old.setting }
     {
         self.cache.clear();
@@ -138,21 +141,24 @@ impl<A: Allocator + Copy> Site<A> {
         self.config.peers()
     }
 
-    /// A datagram: from an upstream's address a reply, from a peer's a frame, from any other a question. `word` is where
-    /// the search for the id of a new query begins.
+    /// A datagram: from an upstream's address a reply, from a peer's a frame, from any other a
+    /// question. `word` is where the search for the id of a new query begins.
     ///
-    /// A question, in this order. Under 12 octets or with QR set: `Dropped`. Another Opcode than 0: RCODE 4, the header
-    /// alone. What can't be read: RCODE 1, the header alone, and `Read`. Another class than 1 (IN) or a type that no data
-    /// has: RCODE 4. What the cache answers: the reply. With RD clear: RCODE 5. Else it joins the open questions: a new
-    /// one's query goes to the first upstream, one that is open already gets nothing yet, and where there are too many,
+    /// A question, in this order. Under 12 octets or with QR set: `Dropped`. Another Opcode than 0:
+    /// RCODE 4, the header alone. What can't be read: RCODE 1, the header alone, and `Read`.
+    /// Another class than 1 (IN) or a type that no data has: RCODE 4. What the cache answers: the
+    /// reply. With RD clear: RCODE 5. Else it joins the open questions: a new one's query goes to
+    /// the first upstream, one that is open already gets nothing yet, and where there are too many,
     /// RCODE 2 and `Full`.
     ///
-    /// A reply, in this order. Under 12 octets or with QR clear: `Dropped`. What can't be read: `Read`. What no open
-    /// question waits for at this upstream: `Unmatched`. What means nothing: `Digest`. Else it is relayed to all who wait,
-    /// in order of joining, each with its own id and spelling and with RD set; its observations go out as frames and
-    /// into the cache, and the question is settled.
+    /// A reply, in this order. Under 12 octets or with QR clear: `Dropped`. What can't be read:
+    /// `Read`. What no open question waits for at this upstream: `Unmatched`. What means nothing:
+    /// `Digest`. Else it is relayed to all who wait, in order of joining, each with its own id and
+    /// spelling and with RD set; its observations go out as frames and into the cache, and the
+    /// question is settled.
     ///
-    /// A frame: `Frame`, or its observations go into the cache; they are not sent on before the next sweep.
+    /// A frame: `Frame`, or its observations go into the cache; they are not sent on before the
+    /// next sweep.
     pub fn datagram(
         &mut self,
         now: Moment,
@@ -160,7 +166,8 @@ impl<A: Allocator + Copy> Site<A> {
         bytes: &[u8],
         word: u16,
     ) -> Result<Outcome<A>, SiteFault>
-        ensures follows { (m : SiteModel) → StandsFor self.old m → Follows m (a_datagram now from bytes.now word) result self.new }
+        ensures follows { (m : SiteModel) → StandsFor self.old m
+            → Follows m (a_datagram now from bytes.now word) result self.new }
         ensures setting { self.new.setting ≡ self.old.setting }
     {
         self.clock = later(self.clock, now);
@@ -194,14 +201,16 @@ impl<A: Allocator + Copy> Site<A> {
         }
     }
 
-    /// Drops what has ended, and then serves the first open question whose time is over: its query goes to the next
-    /// upstream under the same id, or after the last all who wait get RCODE 2 and it is settled. `more` says whether
-    /// another one is due.
+    /// Drops what has ended, and then serves the first open question whose time is over: its query
+    /// goes to the next upstream under the same id, or after the last all who wait get RCODE 2 and
+    /// it is settled. `more` says whether another one is due.
     pub fn tick(&mut self, now: Moment) -> Result<Outcome<A>, SiteFault>
-        ensures follows { (m : SiteModel) → StandsFor self.old m → Follows m (a_tick now) result self.new }
+        ensures follows { (m : SiteModel) → StandsFor self.old m
+            → Follows m (a_tick now) result self.new }
         ensures setting { self.new.setting ≡ self.old.setting }
         ensures clock { self.new.clock ≡ max self.old.clock now }
-        ensures fewer { IfOk result (λ o. IsTrue o.more → LeavesFewer self.old.outstanding self.new.outstanding self.new.clock) }
+        ensures fewer { IfOk result (λ o.
+            IsTrue o.more → LeavesFewer self.old.outstanding self.new.outstanding self.new.clock) }
     {
         self.clock = later(self.clock, now);
         self.cache.purge(self.clock);
@@ -215,27 +224,30 @@ impl<A: Allocator + Copy> Site<A> {
 
     /// Takes the observations of a frame in; `Frame` where it is none.
     pub fn frame(&mut self, now: Moment, bytes: &[u8]) -> Result<Outcome<A>, SiteFault>
-        ensures follows { (m : SiteModel) → StandsFor self.old m → Follows m (a_frame now bytes.now) result self.new }
+        ensures follows { (m : SiteModel) → StandsFor self.old m
+            → Follows m (a_frame now bytes.now) result self.new }
         ensures setting { self.new.setting ≡ self.old.setting }
     {
         self.clock = later(self.clock, now);
         take_frame(self.alloc, &mut self.cache, bytes)
     }
 
-    /// Takes the observations of a reply in, whoever it is from: `Read` or `Digest` where it has none to tell. It matches
-    /// no open question and sends nothing.
+    /// Takes the observations of a reply in, whoever it is from: `Read` or `Digest` where it has
+    /// none to tell. It matches no open question and sends nothing.
     pub fn learn(&mut self, now: Moment, bytes: &[u8]) -> Result<Outcome<A>, SiteFault>
-        ensures follows { (m : SiteModel) → StandsFor self.old m → Follows m (a_reply now bytes.now) result self.new }
+        ensures follows { (m : SiteModel) → StandsFor self.old m
+            → Follows m (a_reply now bytes.now) result self.new }
         ensures setting { self.new.setting ≡ self.old.setting }
     {
         self.clock = later(self.clock, now);
         learn_reply(self.alloc, &mut self.cache, self.clock, bytes)
     }
 
-    /// What it answers to a question, in the order of a datagram's, without the open questions: where the cache has no
-    /// answer it is a miss, whatever RD is. Nothing changes but the clock.
+    /// What it answers to a question, in the order of a datagram's, without the open questions:
+    /// where the cache has no answer it is a miss, whatever RD is. Nothing changes but the clock.
     pub fn ask(&mut self, now: Moment, bytes: &[u8]) -> Result<Looked<A>, SiteFault>
-        ensures answers { (m : SiteModel) → StandsFor self.old m → Answers m now bytes.now result self.new }
+        ensures answers { (m : SiteModel) → StandsFor self.old m
+            → Answers m now bytes.now result self.new }
         ensures stopped { IfErr result (λ f. f ≡ OutOfMemory 0) }
         ensures memory { IfErr result (λ _. IsAsking bytes.now) }
         ensures setting { self.new.setting ≡ self.old.setting }
@@ -251,16 +263,19 @@ impl<A: Allocator + Copy> Site<A> {
 
     /// The frames of all that it holds, for its peers.
     pub fn sweep(&self) -> Result<Vec<Octets<A>, A>, AllocError>
-        ensures sweeps { (m : SiteModel) → StandsFor self.now m → IfOk result (λ frames. IsSweep m frames.items) }
+        ensures sweeps { (m : SiteModel) → StandsFor self.now m
+            → IfOk result (λ frames. IsSweep m frames.items) }
         ensures memory { OnErr result (self.now.cache.items ≢ []) }
     {
         sweep(self.alloc, &self.cache)
     }
 
-    /// Takes in all that another site holds, and purges to its floor, which the clock then reaches too; says how many
-    /// observations were given. Where memory runs short for one, those before it were taken, and floor and clock stay.
+    /// Takes in all that another site holds, and purges to its floor, which the clock then reaches
+    /// too; says how many observations were given. Where memory runs short for one, those before it
+    /// were taken, and floor and clock stay.
     pub fn merge(&mut self, other: &Site<A>) -> Result<usize, SiteFault>
-        ensures gathers { (m : SiteModel) → StandsFor self.old m → (from : SiteModel) → StandsFor other.now from → Gathers m from result self.new }
+        ensures gathers { (m : SiteModel) → StandsFor self.old m
+            → (from : SiteModel) → StandsFor other.now from → Gathers m from result self.new }
         ensures setting { self.new.setting ≡ self.old.setting }
     {
         let count = other.cache.len();

@@ -115,7 +115,8 @@ fn plan_due<A: Allocator + Copy>(
     }
 }
 
-/// Serves the first due entry: its query goes to the next upstream, or after the last all waiters are told so.
+/// Serves the first due entry: its query goes to the next upstream, or after the last all waiters
+/// are told so.
 pub(crate) fn serve_due<A: Allocator + Copy>(
     alloc: A,
     pending: &mut Pending<A>,
@@ -123,7 +124,8 @@ pub(crate) fn serve_due<A: Allocator + Copy>(
     clock: Moment,
 ) -> Result<Outcome<A>, SiteFault>
     requires { IsTableOf upstreams.now pending.old }
-    ensures ticked { Keeps (Ticked upstreams.now pending.old clock) (¬ NoneDue pending.old.entries clock) pending.old result pending.new }
+    ensures ticked { Keeps (Ticked upstreams.now pending.old clock)
+        (¬ NoneDue pending.old.entries clock) pending.old result pending.new }
     ensures fewer { IfOk result (λ o. IsTrue o.more → LeavesFewer pending.old pending.new clock) }
     ensures table { KeepsTable pending.old pending.new }
 {

@@ -31,9 +31,9 @@ pub(crate) enum Decision<A: Allocator> {
 
 /// What is made of octets at a moment that is not before the cache's floor.
 ///
-/// In this order: octets without a header and those of a reply are dropped, another Opcode is not implemented (4), what
-/// cannot be read is a format error (1), a question of another class or of a type that data cannot have is not
-/// implemented (4), and then the cache answers.
+/// In this order: octets without a header and those of a reply are dropped, another Opcode is not
+/// implemented (4), what cannot be read is a format error (1), a question of another class or of a
+/// type that data cannot have is not implemented (4), and then the cache answers.
 pub(crate) fn decide<A: Allocator + Copy>(
     alloc: A,
     cache: &Cache<A>,
@@ -41,7 +41,8 @@ pub(crate) fn decide<A: Allocator + Copy>(
     octets: &[u8],
 ) -> Result<Decision<A>, AllocError>
     requires { cache.now.floor ≤ clock }
-    ensures decides { (s : List Fact) → IsCached s cache.now.floor cache.now.items → IfOk result (λ d. Decides s clock octets.now (verdict d)) }
+    ensures decides { (s : List Fact) → IsCached s cache.now.floor cache.now.items
+        → IfOk result (λ d. Decides s clock octets.now (verdict d)) }
     ensures askable { IfOk result (λ d. IsAskable d) }
     ensures answered { IfOk result (λ d. IsAnswered d → IsAsking octets.now) }
     ensures memory { IfErr result (λ _. IsAsking octets.now) }
@@ -90,7 +91,8 @@ fn decide_question<A: Allocator + Copy>(
 ) -> Result<Decision<A>, AllocError>
     requires opcode { header.opcode < 16 }
     requires reached { cache.now.floor ≤ clock }
-    ensures decides { (s : List Fact) → IsCached s cache.now.floor cache.now.items → IfOk result (λ d. DecidesQuestion s clock header (asked question) (verdict d)) }
+    ensures decides { (s : List Fact) → IsCached s cache.now.floor cache.now.items
+        → IfOk result (λ d. DecidesQuestion s clock header (asked question) (verdict d)) }
     ensures askable { IfOk result (λ d. IsAskable d) }
 {
     if !is_served(&question) {
@@ -118,7 +120,8 @@ fn decide_answer<A: Allocator + Copy>(
     requires opcode { header.opcode < 16 }
     requires served { question.class ≡ 1 }
     requires kinds { HasKinds (told answer.now) }
-    ensures decides { IfOk result (λ d. DecidesAnswer header (asked question) (told answer.now) (verdict d)) }
+    ensures decides { IfOk result (λ d.
+        DecidesAnswer header (asked question) (told answer.now) (verdict d)) }
     ensures askable { IfOk result (λ d. IsAskable d) }
 {
     match answer {

@@ -24,7 +24,8 @@ pub(crate) fn tell<A: Allocator + Copy>(
     requires opcode { header.opcode < 16 }
     requires links { ArePositiveParts (parts_of chain.now.items) }
     requires positive { IsPositivePart (part_of set) }
-    ensures { IfOk result (Tells header (asked question.now) (parts_of chain.now.items) (part_of set.entry)) }
+    ensures { IfOk result (Tells header (asked question.now) (parts_of chain.now.items)
+        (part_of set.entry)) }
 {
     let mut outline = begin(alloc, header, 0, Some(question));
     add_chain(&mut outline, chain.as_slice())?;
@@ -45,7 +46,8 @@ pub(crate) fn deny<A: Allocator + Copy>(
     requires rcode { rcode < 16 }
     requires links { ArePositiveParts (parts_of chain.now.items) }
     requires negative { IsNegativePart (part_of soa) }
-    ensures { IfOk result (Denies header rcode (asked question.now) (parts_of chain.now.items) (part_of soa.entry)) }
+    ensures { IfOk result (Denies header rcode (asked question.now) (parts_of chain.now.items)
+        (part_of soa.entry)) }
 {
     let mut outline = begin(alloc, header, rcode, Some(question));
     add_chain(&mut outline, chain.as_slice())?;
@@ -58,7 +60,8 @@ fn add_chain<'a, A: Allocator + Copy>(
     outline: &mut Outline<'a, A>,
     chain: &[Option<Shown<'a, A>>],
 ) -> Result<(), AllocError>
-    ensures { ArePositiveParts (parts_of chain.now) → OnOk result (AddsChainRows (parts_of chain.now) outline.old outline.new) }
+    ensures { ArePositiveParts (parts_of chain.now)
+        → OnOk result (AddsChainRows (parts_of chain.now) outline.old outline.new) }
 {
     for link in chain {
         if let Some(part) = link {
@@ -73,7 +76,8 @@ fn add_set<'a, A: Allocator + Copy>(
     outline: &mut Outline<'a, A>,
     part: Shown<'a, A>,
 ) -> Result<(), AllocError>
-    ensures { IsPositivePart (part_of part.entry) → OnOk result (AddsRows (part_of part.entry) outline.old outline.new) }
+    ensures { IsPositivePart (part_of part.entry)
+        → OnOk result (AddsRows (part_of part.entry) outline.old outline.new) }
 {
     let observation = part.observation;
     let rows = Rows {
@@ -90,7 +94,8 @@ fn add_denial<'a, A: Allocator + Copy>(
     outline: &mut Outline<'a, A>,
     part: Shown<'a, A>,
 ) -> Result<(), AllocError>
-    ensures { IsNegativePart (part_of part.entry) → OnOk result (AddsSoaRow (part_of part.entry) outline.old outline.new) }
+    ensures { IsNegativePart (part_of part.entry)
+        → OnOk result (AddsSoaRow (part_of part.entry) outline.old outline.new) }
 {
     match part.observation.soa() {
         Some((owner, rdata)) => add_soa(outline, owner, part.ttl, rdata),
@@ -107,7 +112,8 @@ fn begin<'a, A: Allocator + Copy>(
 ) -> Outline<'a, A>
     requires opcode { header.opcode < 16 }
     requires rcode { rcode < 16 }
-    ensures { MatchOption question.entry (result ≡ started header rcode None) (λ q. result ≡ started header rcode (Some (asked q.now))) }
+    ensures { MatchOption question.entry (result ≡ started header rcode None)
+        (λ q. result ≡ started header rcode (Some (asked q.now))) }
 {
     Outline::new(
         alloc,
@@ -152,7 +158,8 @@ pub(crate) fn reply_without<A: Allocator + Copy>(
 ) -> Result<Octets<A>, AllocError>
     requires opcode { header.opcode < 16 }
     requires rcode { rcode < 16 }
-    ensures { IfOk result (λ octets. octets ≡ started_octets header rcode (Some (asked question.now))) }
+    ensures { IfOk result (λ octets.
+        octets ≡ started_octets header rcode (Some (asked question.now))) }
 {
     let outline = begin(alloc, header, rcode, Some(question));
     finish(alloc, &outline)

@@ -66,9 +66,11 @@ pub record Reply : Type 0 where
   pub authority : List Told
 
 abbrev pub reply_with : Header → Asked → List Told → List Told → Reply
-reply_with header question answer authority = record { header = header; question = question; answer = answer; authority = authority }
+reply_with header question answer authority =
+    record { header = header; question = question; answer = answer; authority = authority }
 
--- What every reply that was read meets: a lawful header and question, plain records whatever their class, and none of them where it was cut off.
+-- What every reply that was read meets: a lawful header and question, plain records whatever their
+-- class, and none of them where it was cut off.
 pub record IsRead (r : Reply) : Type 0 where
   pub header : IsHeader r.header
   pub question : IsAsked r.question
@@ -79,11 +81,14 @@ pub record IsRead (r : Reply) : Type 0 where
 -- the sections behind the question: where the message says that it was cut off, none is read
 abbrev pub SectionsAt : List ℕ → ℕ → Bool → List Told → List Told → Type 0
 SectionsAt m past true a b = (a ≡ []) × (b ≡ [])
-SectionsAt m past false a b = (middle : ℕ) × (end : ℕ) × RecordsAt m past a middle × (length a ≡ u16_at m 6) × RecordsAt m middle b end × (length b ≡ u16_at m 8)
+SectionsAt m past false a b = (middle : ℕ) × (end : ℕ) × RecordsAt m past a middle
+    × (length a ≡ u16_at m 6) × RecordsAt m middle b end × (length b ≡ u16_at m 8)
 
 abbrev pub SectionsFail : List ℕ → ℕ → Bool → ReadFault → Type 0
 SectionsFail m past true f = ⊥
-SectionsFail m past false f = RecordsFail m past (u16_at m 6) f ⊎ ((a : List Told) × (middle : ℕ) × RecordsAt m past a middle × (length a ≡ u16_at m 6) × RecordsFail m middle (u16_at m 8) f)
+SectionsFail m past false f = RecordsFail m past (u16_at m 6) f
+    ⊎ ((a : List Told) × (middle : ℕ) × RecordsAt m past a middle × (length a ≡ u16_at m 6)
+    × RecordsFail m middle (u16_at m 8) f)
 
 -- m is this reply; whatever follows its last part is free
 pub record IsReply (m : List ℕ) (r : Reply) : Type 0 where
@@ -97,4 +102,6 @@ HasReply m = (r : Reply) × IsReply m r
 
 -- the first fault of a reply
 abbrev pub ReplyFails : List ℕ → ReadFault → Type 0
-ReplyFails m f = QueryFails m f ⊎ ((q : Asked) × (past : ℕ) × IsQuery m (header_of m) q past × SectionsFail m past (header_of m).tc f)
+ReplyFails m f = QueryFails m f
+    ⊎ ((q : Asked) × (past : ℕ) × IsQuery m (header_of m) q past
+    × SectionsFail m past (header_of m).tc f)

@@ -22,12 +22,15 @@ pub record PointerAt (m : List ℕ) (p q : ℕ) : Type 0 where
   pub marked : 192 ≤ slice_index m p
   pub target : q ≡ (slice_index m p - 192) * 256 + slice_index m (p + 1)
 
--- In message m, in a run of labels begun at s, the labels of n stand at p in their own case, and end before e.
--- A pointer leads to a place before the run that holds it, where a run begins.
+-- In message m, in a run of labels begun at s, the labels of n stand at p in their own case, and
+-- end before e. A pointer leads to a place before the run that holds it, where a run begins.
 pub data NameAt (m : List ℕ) : ℕ → ℕ → List (List ℕ) → ℕ → Type 0 where
   ends : {s p : ℕ} {n : List (List ℕ)} {e : ℕ} → EndAt m p → n ≡ [] → e ≡ p + 1 → NameAt m s p n e
-  goes_on : {s p : ℕ} {n : List (List ℕ)} {e : ℕ} (label : List ℕ) (rest : List (List ℕ)) → LabelAt m p label → NameAt m s (p + 1 + length label) rest e → n ≡ label ∷ rest → NameAt m s p n e
-  points : {s p : ℕ} {n : List (List ℕ)} {e : ℕ} (q past : ℕ) → PointerAt m p q → q < s → NameAt m q q n past → e ≡ p + 2 → NameAt m s p n e
+  goes_on : {s p : ℕ} {n : List (List ℕ)} {e : ℕ} (label : List ℕ) (rest : List (List ℕ))
+      → LabelAt m p label → NameAt m s (p + 1 + length label) rest e → n ≡ label ∷ rest
+      → NameAt m s p n e
+  points : {s p : ℕ} {n : List (List ℕ)} {e : ℕ} (q past : ℕ) → PointerAt m p q → q < s
+      → NameAt m q q n past → e ≡ p + 2 → NameAt m s p n e
 
 -- in message m the name n, in lower case, stands at p, and ends before e
 pub record ReadsName (m : List ℕ) (p : ℕ) (n : List (List ℕ)) (e : ℕ) : Type 0 where

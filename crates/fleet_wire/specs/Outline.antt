@@ -20,7 +20,16 @@ pub record Sketch : Type 0 where
   pub authority : List Told
 
 abbrev pub sketch : ℕ → ℕ → Bool → ℕ → Bool → Option Asked → List Told → List Told → Sketch
-sketch id opcode rd rcode tc question answer authority = record { id = id; opcode = opcode; rd = rd; rcode = rcode; tc = tc; question = question; answer = answer; authority = authority }
+sketch id opcode rd rcode tc question answer authority = record {
+  id = id;
+  opcode = opcode;
+  rd = rd;
+  rcode = rcode;
+  tc = tc;
+  question = question;
+  answer = answer;
+  authority = authority;
+}
 
 -- the bit of a flag
 abbrev pub flag : Bool → ℕ → ℕ
@@ -28,7 +37,9 @@ flag b n = if b then n else 0
 
 -- a record: its name in full, ten octets, and its RDATA
 abbrev pub record_octets : Told → List ℕ
-record_octets r = wire r.name ++ (u16_octets r.rtype ++ (u16_octets r.class ++ (u32_octets r.ttl ++ (u16_octets (length r.rdata) ++ r.rdata))))
+record_octets r = wire r.name
+    ++ (u16_octets r.rtype
+    ++ (u16_octets r.class ++ (u32_octets r.ttl ++ (u16_octets (length r.rdata) ++ r.rdata))))
 
 -- a question in its own spelling
 abbrev pub asked_octets : Asked → List ℕ
@@ -45,11 +56,15 @@ question_count (Some q) = 1
 -- the twelve octets of a header: a reply, recursion available, and no authority of its own
 abbrev pub header_octets : Sketch → Bool → ℕ → ℕ → List ℕ
 header_octets o tc an ns =
-    u16_octets o.id ++ ((128 + o.opcode * 8 + flag tc 2 + flag o.rd 1) ∷ (128 + o.rcode) ∷ (u16_octets (question_count o.question) ++ (u16_octets an ++ (u16_octets ns ++ 0 ∷ 0 ∷ []))))
+    u16_octets o.id
+    ++ ((128 + o.opcode * 8 + flag tc 2 + flag o.rd 1) ∷ (128 + o.rcode)
+    ∷ (u16_octets (question_count o.question) ++ (u16_octets an ++ (u16_octets ns ++ 0 ∷ 0 ∷ []))))
 
 -- all of it
 abbrev pub whole_octets : Sketch → List ℕ
-whole_octets o = header_octets o o.tc (length o.answer) (length o.authority) ++ (question_octets o.question ++ (flat_map record_octets o.answer ++ flat_map record_octets o.authority))
+whole_octets o = header_octets o o.tc (length o.answer) (length o.authority)
+    ++ (question_octets o.question
+    ++ (flat_map record_octets o.answer ++ flat_map record_octets o.authority))
 
 -- header and question alone, cut off
 abbrev pub cut_octets : Sketch → List ℕ
@@ -65,7 +80,8 @@ body_size q a b = length (question_octets q) + (length (rows a) + length (rows b
 
 -- a record of the class IN
 abbrev pub line : List (List ℕ) → ℕ → ℕ → List ℕ → Told
-line name rtype ttl rdata = record { name = name; rtype = rtype; class = 1; ttl = ttl; rdata = rdata }
+line name rtype ttl rdata =
+    record { name = name; rtype = rtype; class = 1; ttl = ttl; rdata = rdata }
 
 -- one more record at the end of a section
 abbrev pub with_answer : Sketch → Told → Sketch

@@ -12,7 +12,8 @@ lowered q = record { spelled = wire q.name; name = q.name; rtype = q.rtype; clas
 
 -- a header that wants recursion alone and counts one question
 abbrev pub query_head : ℕ → List ℕ
-query_head id = u16_octets id ++ (u16_octets 256 ++ (u16_octets 1 ++ (u16_octets 0 ++ (u16_octets 0 ++ u16_octets 0))))
+query_head id = u16_octets id
+    ++ (u16_octets 256 ++ (u16_octets 1 ++ (u16_octets 0 ++ (u16_octets 0 ++ u16_octets 0))))
 
 -- the query's octets
 abbrev pub query_octets : ℕ → Asked → List ℕ
@@ -20,4 +21,13 @@ query_octets id q = query_head id ++ asked_octets (lowered q)
 
 -- the header that is read again
 abbrev pub query_header : ℕ → Header
-query_header id = record { id = id; response = false; opcode = 0; aa = false; tc = false; rd = true; rcode = 0; counts = 1 ∷ 0 ∷ 0 ∷ 0 ∷ [] }
+query_header id = record {
+  id = id;
+  response = false;
+  opcode = 0;
+  aa = false;
+  tc = false;
+  rd = true;
+  rcode = 0;
+  counts = 1 ∷ 0 ∷ 0 ∷ 0 ∷ [];
+}

@@ -22,7 +22,12 @@ asked q = record { spelled = q.spelled; name = q.name; rtype = q.rtype; class = 
 
 -- a question that has taken no memory yet
 abbrev pub asked_spelled : SpelledQuestion → Asked
-asked_spelled q = record { spelled = q.name.octets.items; name = lower_all (labels_of q.name.octets.items); rtype = q.rtype; class = q.class }
+asked_spelled q = record {
+  spelled = q.name.octets.items;
+  name = lower_all (labels_of q.name.octets.items);
+  rtype = q.rtype;
+  class = q.class;
+}
 
 -- a question that is lent, if there is one
 abbrev pub asked_lent : {A : Type 0} → Option (Bor (Question A)) → Option Asked
@@ -44,7 +49,9 @@ pub record IsQuestion (m : List ℕ) (p : ℕ) (q : Asked) (e : ℕ) : Type 0 wh
 
 -- the first fault of a question at p: its name's, or that the message ends too early
 abbrev pub QuestionFails : List ℕ → ℕ → ReadFault → Type 0
-QuestionFails m p f = NameFails m p f ⊎ ((n : List (List ℕ)) × (past : ℕ) × ReadsName m p n past × (length m < past + 4) × (f ≡ Truncated))
+QuestionFails m p f = NameFails m p f
+    ⊎ ((n : List (List ℕ)) × (past : ℕ) × ReadsName m p n past × (length m < past + 4)
+    × (f ≡ Truncated))
 
 -- what every question of a program meets: its spelling in lower case is its name in full
 pub record IsAsked (q : Asked) : Type 0 where

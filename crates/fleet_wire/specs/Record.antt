@@ -1,4 +1,5 @@
--- What a record is, without where it lies in memory, and what records stand at a place of a message (RFC 1035 4.1.3).
+-- What a record is, without where it lies in memory, and what records stand at a place of a message
+-- (RFC 1035 4.1.3).
 use Rattle.std.specs.Prelude.{◌≡◌, ℕ, ◌+◌, ◌<◌, ◌≤◌, ◌⊎◌, List, [], ◌∷◌, length, map}
 use Rattle.fleet_name.specs.Name.{lower_all, labels_of, IsName}
 use Rattle.fleet_wire.specs.Number.{u16_at, u32_at}
@@ -26,9 +27,16 @@ all_told rs = map told rs
 
 -- a record that has taken no memory yet
 abbrev pub told_spelled : SpelledRecord → Told
-told_spelled r = record { name = lower_all (labels_of r.owner.octets.items); rtype = r.rtype; class = r.class; ttl = r.ttl; rdata = r.rdata.items }
+told_spelled r = record {
+  name = lower_all (labels_of r.owner.octets.items);
+  rtype = r.rtype;
+  class = r.class;
+  ttl = r.ttl;
+  rdata = r.rdata.items;
+}
 
--- the record r stands at p, and ends before e: a name, ten octets, and the RDATA that the last two of them count
+-- the record r stands at p, and ends before e: a name, ten octets, and the RDATA that the last two
+-- of them count
 pub record RecordAt (m : List ℕ) (p : ℕ) (r : Told) (e : ℕ) : Type 0 where
   pub past : ℕ
   pub name : ReadsName m p r.name past
@@ -45,11 +53,14 @@ IsCut m past = (length m < past + 10) ⊎ (length m < past + 10 + u16_at m (past
 
 -- the first fault behind the name of a record
 abbrev pub FixedFails : List ℕ → ℕ → ReadFault → Type 0
-FixedFails m past f = (IsCut m past × (f ≡ Truncated)) ⊎ ((past + 10 + u16_at m (past + 8) ≤ length m) × ShapeFails m (past + 10) (u16_at m (past + 8)) (shape_of (u16_at m past)) f)
+FixedFails m past f = (IsCut m past × (f ≡ Truncated))
+    ⊎ ((past + 10 + u16_at m (past + 8) ≤ length m)
+    × ShapeFails m (past + 10) (u16_at m (past + 8)) (shape_of (u16_at m past)) f)
 
 -- the first fault of a record at p: its name's, or one behind the name
 abbrev pub RecordFails : List ℕ → ℕ → ReadFault → Type 0
-RecordFails m p f = NameFails m p f ⊎ ((n : List (List ℕ)) × (past : ℕ) × ReadsName m p n past × FixedFails m past f)
+RecordFails m p f = NameFails m p f
+    ⊎ ((n : List (List ℕ)) × (past : ℕ) × ReadsName m p n past × FixedFails m past f)
 
 -- the records stand at p in a row, and end before e
 abbrev pub RecordsAt : List ℕ → ℕ → List Told → ℕ → Type 0
@@ -62,7 +73,8 @@ HasRecords m p count = (rs : List Told) × (e : ℕ) × RecordsAt m p rs e × (l
 
 -- the first fault of so many records at p: behind fewer of them stands none
 abbrev pub RecordsFail : List ℕ → ℕ → ℕ → ReadFault → Type 0
-RecordsFail m p count f = (rs : List Told) × (past : ℕ) × RecordsAt m p rs past × (length rs < count) × RecordFails m past f
+RecordsFail m p count f = (rs : List Told) × (past : ℕ) × RecordsAt m p rs past
+    × (length rs < count) × RecordFails m past f
 
 -- a record whose RDATA has no pointer: its names in full and in lower case
 pub record IsPlainRecord (r : Told) : Type 0 where

@@ -1,4 +1,5 @@
--- What RDATA holds: a table from types to parts, and what parts stand at a place of a message (RFC 1035 3.3, RFC 2782).
+-- What RDATA holds: a table from types to parts, and what parts stand at a place of a message (RFC
+-- 1035 3.3, RFC 2782).
 use Rattle.std.specs.Prelude.{◌≡◌, ◌≢◌, ℕ, ◌+◌, ◌<◌, ◌≤◌, ◌⊎◌, List, [], ◌∷◌, ◌++◌, length, take, drop, Option, Some, None, if◌then◌else◌, nat_eq, ◌||◌}
 use Rattle.fleet_name.specs.Name.{wire, IsName}
 use Rattle.fleet_wire.specs.NameAt.{ReadsName}
@@ -8,28 +9,35 @@ use Rattle.fleet_wire.specs.declared.fault.ReadFault.TheVariants.{Truncated, Bad
 use Rattle.fleet_wire.specs.declared.shape.Part.{Part}
 use Rattle.fleet_wire.specs.declared.shape.Part.TheVariants.{Plain, Name}
 
--- The parts of a type's RDATA, for the types with names in it: NS, MD, MF, CNAME, MB, MG, MR and PTR one name,
--- SOA two names and five numbers of 32 bits, MINFO two names, MX a number of 16 bits and a name,
--- SRV three of them and a name. The RDATA of any other type is plain octets.
+-- The parts of a type's RDATA, for the types with names in it: NS, MD, MF, CNAME, MB, MG, MR and
+-- PTR one name, SOA two names and five numbers of 32 bits, MINFO two names, MX a number of 16 bits
+-- and a name, SRV three of them and a name. The RDATA of any other type is plain octets.
 abbrev pub shape_of : ℕ → Option (List Part)
 shape_of t =
-    if nat_eq t 2 || nat_eq t 3 || nat_eq t 4 || nat_eq t 5 || nat_eq t 7 || nat_eq t 8 || nat_eq t 9 || nat_eq t 12 then Some (Name ∷ []) else
+    if nat_eq t 2 || nat_eq t 3 || nat_eq t 4 || nat_eq t 5 || nat_eq t 7 || nat_eq t 8
+    || nat_eq t 9 || nat_eq t 12 then Some (Name ∷ []) else
     if nat_eq t 6 then Some (Name ∷ Name ∷ Plain 20 ∷ []) else
     if nat_eq t 14 then Some (Name ∷ Name ∷ []) else
     if nat_eq t 15 then Some (Plain 2 ∷ Name ∷ []) else
     if nat_eq t 33 then Some (Plain 6 ∷ Name ∷ []) else None
 
--- the parts stand at p one after the other, as these octets with each name in full, and end before e
+-- the parts stand at p one after the other, as these octets with each name in full, and end before
+-- e
 abbrev pub PartsAt : List ℕ → List Part → ℕ → List ℕ → ℕ → Type 0
 PartsAt m [] p octets e = (octets ≡ []) × (e ≡ p)
-PartsAt m (Plain n ∷ parts) p octets e = (others : List ℕ) × (p + n ≤ length m) × PartsAt m parts (p + n) others e × (octets ≡ take n (drop p m) ++ others)
-PartsAt m (Name ∷ parts) p octets e = (n : List (List ℕ)) × (past : ℕ) × (others : List ℕ) × ReadsName m p n past × PartsAt m parts past others e × (octets ≡ wire n ++ others)
+PartsAt m (Plain n ∷ parts) p octets e = (others : List ℕ) × (p + n ≤ length m)
+    × PartsAt m parts (p + n) others e × (octets ≡ take n (drop p m) ++ others)
+PartsAt m (Name ∷ parts) p octets e =
+    (n : List (List ℕ)) × (past : ℕ) × (others : List ℕ) × ReadsName m p n past
+    × PartsAt m parts past others e × (octets ≡ wire n ++ others)
 
 -- the first fault of the parts at p
 abbrev pub PartsFail : List ℕ → List Part → ℕ → ReadFault → Type 0
 PartsFail m [] p f = ⊥
-PartsFail m (Plain n ∷ parts) p f = ((length m < p + n) × (f ≡ Truncated)) ⊎ ((p + n ≤ length m) × PartsFail m parts (p + n) f)
-PartsFail m (Name ∷ parts) p f = NameFails m p f ⊎ ((n : List (List ℕ)) × (past : ℕ) × ReadsName m p n past × PartsFail m parts past f)
+PartsFail m (Plain n ∷ parts) p f =
+    ((length m < p + n) × (f ≡ Truncated)) ⊎ ((p + n ≤ length m) × PartsFail m parts (p + n) f)
+PartsFail m (Name ∷ parts) p f = NameFails m p f
+    ⊎ ((n : List (List ℕ)) × (past : ℕ) × ReadsName m p n past × PartsFail m parts past f)
 
 -- how many octets the parts have at most, with each name in full
 abbrev pub room_of : List Part → ℕ
@@ -45,13 +53,16 @@ ShapeAt m p k (Some parts) octets = PartsAt m parts p octets (p + k)
 -- the first fault of k octets of RDATA at p: one of the parts, or that they end at another place
 abbrev pub ShapeFails : List ℕ → ℕ → ℕ → Option (List Part) → ReadFault → Type 0
 ShapeFails m p k None f = ⊥
-ShapeFails m p k (Some parts) f = PartsFail m parts p f ⊎ ((octets : List ℕ) × (e : ℕ) × PartsAt m parts p octets e × (e ≢ p + k) × (f ≡ BadRdata))
+ShapeFails m p k (Some parts) f = PartsFail m parts p f
+    ⊎ ((octets : List ℕ) × (e : ℕ) × PartsAt m parts p octets e × (e ≢ p + k) × (f ≡ BadRdata))
 
 -- RDATA of a shape with each name in full and in lower case
 abbrev pub ArePlain : List Part → List ℕ → Type 0
 ArePlain [] octets = octets ≡ []
-ArePlain (Plain n ∷ parts) octets = (first : List ℕ) × (others : List ℕ) × (octets ≡ first ++ others) × (length first ≡ n) × ArePlain parts others
-ArePlain (Name ∷ parts) octets = (n : List (List ℕ)) × (others : List ℕ) × (octets ≡ wire n ++ others) × IsName n × ArePlain parts others
+ArePlain (Plain n ∷ parts) octets = (first : List ℕ) × (others : List ℕ)
+    × (octets ≡ first ++ others) × (length first ≡ n) × ArePlain parts others
+ArePlain (Name ∷ parts) octets = (n : List (List ℕ)) × (others : List ℕ)
+    × (octets ≡ wire n ++ others) × IsName n × ArePlain parts others
 
 abbrev pub HasShape : Option (List Part) → List ℕ → Type 0
 HasShape None octets = Unit {0}

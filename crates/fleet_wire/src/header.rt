@@ -26,7 +26,7 @@ pub struct Header {
     pub counts: [u16; 4],
 }
 
-// The header in the first octets of a message.
+/// The header in the first octets of a message.
 pub(crate) fn header_at(message: &[u8]) -> Header
     requires { 12 ≤ length message.now }
     ensures { result ≡ header_of message.now }
@@ -51,7 +51,8 @@ pub(crate) fn header_at(message: &[u8]) -> Header
 
 /// The header of a message, or `None` where it has under 12 octets.
 pub fn read_header(message: &[u8]) -> Option<Header>
-    ensures found { MatchOption result (length message.now < 12) (λ h. (12 ≤ length message.now) × (h ≡ header_of message.now)) }
+    ensures found { MatchOption result (length message.now < 12)
+        (λ h. (12 ≤ length message.now) × (h ≡ header_of message.now)) }
     ensures lawful { IfSome result (λ h. IsHeader h) }
 {
     if message.len() < 12 {

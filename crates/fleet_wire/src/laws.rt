@@ -12,12 +12,14 @@ ghost use Rattle.fleet_wire.specs.declared.fault.ReadFault.{ReadFault};
 
 /// A place of a message has one name at most.
 pub fn one_name()
-    ensures { (m : List ℕ) (p : ℕ) (a b : List (List ℕ)) (x y : ℕ) → ReadsName m p a x → ReadsName m p b y → (a ≡ b) × (x ≡ y) }
+    ensures { (m : List ℕ) (p : ℕ) (a b : List (List ℕ)) (x y : ℕ) → ReadsName m p a x
+        → ReadsName m p b y → (a ≡ b) × (x ≡ y) }
 {}
 
 /// A message is one query at most.
 pub fn one_query()
-    ensures { (m : List ℕ) (h k : Header) (a b : Asked) (x y : ℕ) → IsQuery m h a x → IsQuery m k b y → (h ≡ k) × (a ≡ b) × (x ≡ y) }
+    ensures { (m : List ℕ) (h k : Header) (a b : Asked) (x y : ℕ) → IsQuery m h a x
+        → IsQuery m k b y → (h ≡ k) × (a ≡ b) × (x ≡ y) }
 {}
 
 /// A message is one reply at most.
@@ -27,7 +29,8 @@ pub fn one_reply()
 
 /// What is a query has no fault.
 pub fn query_or_fault()
-    ensures { (m : List ℕ) (h : Header) (q : Asked) (past : ℕ) (f : ReadFault) → IsQuery m h q past → QueryFails m f → ⊥ }
+    ensures { (m : List ℕ) (h : Header) (q : Asked) (past : ℕ) (f : ReadFault) → IsQuery m h q past
+        → QueryFails m f → ⊥ }
 {}
 
 /// What is a reply has no fault.
@@ -48,10 +51,12 @@ pub fn one_reply_fault()
 /// The octets of an outline with a question, plain RDATA and TC clear are read as its lines, if all
 /// of it fits a message.
 pub fn reply_reads_back()
-    ensures { (o : Sketch) (q : Asked) → IsSketch o → IsWhole o q → IsReply (octets_of_outline o) (reply_sketched o q) }
+    ensures { (o : Sketch) (q : Asked) → IsSketch o → IsWhole o q
+        → IsReply (octets_of_outline o) (reply_sketched o q) }
 {}
 
 /// A query is read again, with its name in lower case.
 pub fn query_reads_back()
-    ensures { (id : ℕ) (q : Asked) → IsName q.name → IsQuery (query_octets id q) (query_header id) (lowered q) (length (query_octets id q)) }
+    ensures { (id : ℕ) (q : Asked) → IsName q.name
+        → IsQuery (query_octets id q) (query_header id) (lowered q) (length (query_octets id q)) }
 {}

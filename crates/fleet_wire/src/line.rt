@@ -3,19 +3,19 @@
 ghost use Rattle.std.specs.Prelude.{◌≡◌};
 ghost use Rattle.fleet_name.specs.Name.{wire, labels_of};
 
-// A record of the class IN, lent: its owner in full and in lower case, its type, its TTL in seconds
-// and its RDATA.
+/// A record of the class IN, lent: its owner in full and in lower case, its type, its TTL in
+/// seconds and its RDATA.
 #[derive(Drop)]
 pub(crate) struct Line<'a> {
     pub(crate) owner: &'a [u8],
     pub(crate) rtype: u16,
     pub(crate) ttl: u32,
     pub(crate) rdata: &'a [u8],
-    // The owner is the octets of a name.
+    /// The owner is the octets of a name.
     pub(crate) ghost spells: { owner.now ≡ wire (labels_of owner.now) },
 }
 
-// What fills a place that has no line yet: a line of the root.
+/// What fills a place that has no line yet: a line of the root.
 impl Default for Line<'_> {
     fn default() -> Self {
         Line {

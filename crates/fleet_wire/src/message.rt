@@ -11,8 +11,8 @@ use crate::record::Record;
 use std::alloc::{Allocator, Global};
 use std::marker::Model;
 
-/// A reply that was read: its header, its question, and the records of its answer and authority sections
-/// (RFC 1035 4.1). `read_reply` alone makes one.
+/// A reply that was read: its header, its question, and the records of its answer and authority
+/// sections (RFC 1035 4.1). `read_reply` alone makes one.
 #[derive(Drop)]
 pub struct Message<A: Allocator = Global> {
     header: Header,
@@ -28,21 +28,26 @@ impl<A: Allocator> Model for Message<A> {
 
     ghost Value = { Reply };
 
-    ghost view = { λ m. reply_with m.header (asked m.question) (all_told m.answer.items) (all_told m.authority.items) };
+    ghost view = { λ m. reply_with m.header (asked m.question) (all_told m.answer.items)
+        (all_told m.authority.items) };
 
-    ghost invariant = { λ m. IsRead (reply_with m.header (asked m.question) (all_told m.answer.items) (all_told m.authority.items)) };
+    ghost invariant = { λ m. IsRead (reply_with m.header (asked m.question)
+        (all_told m.answer.items) (all_told m.authority.items)) };
 }
 
 impl<A: Allocator> Message<A> {
-    // A reply of its parts.
+    /// A reply of its parts.
     pub(crate) fn of_parts(
         header: Header,
         question: Question<A>,
         answer: Vec<Record<A>, A>,
         authority: Vec<Record<A>, A>,
     ) -> Message<A>
-        requires { IsRead (reply_with header (asked question) (all_told answer.items) (all_told authority.items)) }
-        ensures { result ≡ reply_with header (asked question) (all_told answer.items) (all_told authority.items) }
+        requires { IsRead (reply_with header (asked question) (all_told answer.items)
+            (all_told authority.items)) }
+        ensures { result
+            ≡ reply_with header (asked question) (all_told answer.items)
+            (all_told authority.items) }
     {
         Message {
             header,

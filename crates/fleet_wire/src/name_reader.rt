@@ -11,25 +11,26 @@ use arrayvec::ArrayVec;
 use fleet_name::Name;
 use std::alloc::{AllocError, Allocator};
 
-// What stands at a place where a label may begin.
+/// What stands at a place where a label may begin.
 pub(crate) enum Step<'a> {
     End,
     Label(&'a [u8]),
     Pointer(usize),
 }
 
-// A name as it was read.
+/// A name as it was read.
 #[derive(Drop)]
 pub(crate) struct Spelled {
-    // The name in full, without pointers, in its own case.
+    /// The name in full, without pointers, in its own case.
     pub(crate) octets: ArrayVec<u8, 255>,
-    // How many labels it has.
+    /// How many labels it has.
     pub(crate) labels: usize,
-    // Where it ends in the message.
+    /// Where it ends in the message.
     pub(crate) end: usize,
 }
 
-// The step at `at`, in a run of labels begun at `start`, where the name so far has `used` octets in full.
+/// The step at `at`, in a run of labels begun at `start`, where the name so far has `used` octets
+/// in full.
 pub(crate) fn step_at(
     message: &[u8],
     at: usize,
@@ -37,7 +38,8 @@ pub(crate) fn step_at(
     used: usize,
 ) -> Result<Step<'_>, ReadFault>
     requires { used ≤ 255 }
-    ensures { MatchResult result (IsStep message.now at start used) (FaultAt message.now at start used) }
+    ensures { MatchResult result (IsStep message.now at start used)
+        (FaultAt message.now at start used) }
 {
     if at >= message.len() {
         return Err(ReadFault::Truncated);
@@ -62,14 +64,15 @@ pub(crate) fn step_at(
     Ok(Step::Pointer(target))
 }
 
-// The label whose length octet stands at `at`.
+/// The label whose length octet stands at `at`.
 fn label_at(message: &[u8], at: usize, count: usize, used: usize) -> Result<Step<'_>, ReadFault>
     requires begins { at < length message.now }
     requires counted { slice_index message.now at ≡ count }
     requires some { 0 < count }
     requires short { count < 64 }
     requires used { used ≤ 255 }
-    ensures { (s : ℕ) → MatchResult result (IsStep message.now at s used) (FaultAt message.now at s used) }
+    ensures { (s : ℕ)
+        → MatchResult result (IsStep message.now at s used) (FaultAt message.now at s used) }
 {
     if used + count + 1 > 255 {
         return Err(ReadFault::LongName);
@@ -82,7 +85,7 @@ fn label_at(message: &[u8], at: usize, count: usize, used: usize) -> Result<Step
     Ok(Step::Label(octets))
 }
 
-// Adds a label in its own case.
+/// Adds a label in its own case.
 fn append_label(octets: &mut ArrayVec<u8, 255>, label: &[u8])
     requires short { length label.now < 64 }
     requires room { length octets.old.items + length label.now < 255 }
@@ -92,9 +95,10 @@ fn append_label(octets: &mut ArrayVec<u8, 255>, label: &[u8])
     let _ = octets.try_extend_from_slice(label);
 }
 
-// The name at a place of a message.
+/// The name at a place of a message.
 pub(crate) fn spelled_at(message: &[u8], offset: usize) -> Result<Spelled, ReadFault>
-    ensures found { IfOk result (λ r. NameAt message.now offset offset (labels_of r.octets.items) r.end) }
+    ensures found { IfOk result (λ r.
+        NameAt message.now offset offset (labels_of r.octets.items) r.end) }
     ensures spelled { IfOk result (λ r. IsSpelling r.octets.items) }
     ensures counted { IfOk result (λ r. r.labels ≡ length (labels_of r.octets.items)) }
     ensures fault { IfErr result (λ f. NameFails message.now offset f) }
@@ -128,7 +132,7 @@ pub(crate) fn spelled_at(message: &[u8], offset: usize) -> Result<Spelled, ReadF
     }
 }
 
-// The name that was spelled, in lower case.
+/// The name that was spelled, in lower case.
 pub(crate) fn name_of<A: Allocator>(alloc: A, spelled: &Spelled) -> Result<Name<A>, AllocError>
     requires spelled { IsSpelling spelled.now.octets.items }
     requires counted { spelled.now.labels ≡ length (labels_of spelled.now.octets.items) }

@@ -5,7 +5,7 @@ ghost use Rattle.fleet_wire.specs.Number.{u16_at, u32_at, u16_octets, u32_octets
 
 use std::alloc::{AllocError, Allocator};
 
-// The number in the two octets at a place.
+/// The number in the two octets at a place.
 pub(crate) fn short_at(message: &[u8], at: usize) -> u16
     requires { at + 2 ≤ length message.now }
     ensures { result ≡ u16_at message.now at }
@@ -13,7 +13,7 @@ pub(crate) fn short_at(message: &[u8], at: usize) -> u16
     u16::from_be_bytes([message[at], message[at + 1]])
 }
 
-// The number in the four octets at a place.
+/// The number in the four octets at a place.
 pub(crate) fn long_at(message: &[u8], at: usize) -> u32
     requires { at + 4 ≤ length message.now }
     ensures { result ≡ u32_at message.now at }
@@ -26,14 +26,14 @@ pub(crate) fn long_at(message: &[u8], at: usize) -> u32
     ])
 }
 
-// Adds a number of two octets.
+/// Adds a number of two octets.
 pub(crate) fn push_short<A: Allocator>(out: &mut Vec<u8, A>, n: u16) -> Result<(), AllocError>
     ensures { OnOk result (out.new.items ≡ out.old.items ++ u16_octets n) }
 {
     out.extend_from_slice(&n.to_be_bytes())
 }
 
-// Adds a number of four octets.
+/// Adds a number of four octets.
 pub(crate) fn push_long<A: Allocator>(out: &mut Vec<u8, A>, n: u32) -> Result<(), AllocError>
     ensures { OnOk result (out.new.items ≡ out.old.items ++ u32_octets n) }
 {

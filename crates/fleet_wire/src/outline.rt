@@ -11,8 +11,9 @@ use std::alloc::{AllocError, Allocator, Global};
 use std::marker::Model;
 
 /// What a reply is to say: header fields, a question if any, and lines of the answer and authority
-/// sections. A line is a record of the class IN. The question and what the lines say are lent for as
-/// long as the outline lives, and nothing of them is copied. Four lines of a section take no memory.
+/// sections. A line is a record of the class IN. The question and what the lines say are lent for
+/// as long as the outline lives, and nothing of them is copied. Four lines of a section take no
+/// memory.
 #[derive(Drop)]
 pub struct Outline<'a, A: Allocator = Global> {
     pub(crate) id: u16,
@@ -32,14 +33,16 @@ impl<'a, A: Allocator> Model for Outline<'a, A> {
 
     ghost Value = { Sketch };
 
-    ghost view = { λ o. sketch o.id o.opcode o.rd o.rcode o.tc (asked_lent o.question) o.answer o.authority };
+    ghost view = { λ o.
+        sketch o.id o.opcode o.rd o.rcode o.tc (asked_lent o.question) o.answer o.authority };
 
-    ghost invariant = { λ o. IsSketch (sketch o.id o.opcode o.rd o.rcode o.tc (asked_lent o.question) o.answer o.authority) };
+    ghost invariant = { λ o. IsSketch
+        (sketch o.id o.opcode o.rd o.rcode o.tc (asked_lent o.question) o.answer o.authority) };
 }
 
 impl<'a, A: Allocator + Copy> Outline<'a, A> {
-    /// An outline without lines. Its opcode and RCODE are at most 15 (RFC 1035 4.1.1). This takes no
-    /// memory.
+    /// An outline without lines. Its opcode and RCODE are at most 15 (RFC 1035 4.1.1). This takes
+    /// no memory.
     pub fn new(
         alloc: A,
         id: u16,
@@ -51,8 +54,10 @@ impl<'a, A: Allocator + Copy> Outline<'a, A> {
     ) -> Outline<'a, A>
         requires opcode { opcode < 16 }
         requires rcode { rcode < 16 }
-        ensures header { (result.id ≡ id) × (result.opcode ≡ opcode) × (result.rd ≡ rd) × (result.rcode ≡ rcode) × (result.tc ≡ tc) }
-        ensures question { MatchOption question.entry (result.question ≡ None) (λ q. result.question ≡ Some (asked q.now)) }
+        ensures header { (result.id ≡ id) × (result.opcode ≡ opcode) × (result.rd ≡ rd)
+            × (result.rcode ≡ rcode) × (result.tc ≡ tc) }
+        ensures question { MatchOption question.entry (result.question ≡ None)
+            (λ q. result.question ≡ Some (asked q.now)) }
         ensures empty { (result.answer ≡ []) × (result.authority ≡ []) }
     {
         // What the proof needs to know of the question.
@@ -69,8 +74,9 @@ impl<'a, A: Allocator + Copy> Outline<'a, A> {
         }
     }
 
-    /// Adds a line at the end of the answer section: its owner, its type, its TTL in seconds and its
-    /// RDATA with every name in full. Where there is no memory for it, the outline stays as it was.
+    /// Adds a line at the end of the answer section: its owner, its type, its TTL in seconds and
+    /// its RDATA with every name in full. Where there is no memory for it, the outline stays as it
+    /// was.
     pub fn answer(
         &mut self,
         name: &'a Name<A>,
@@ -78,14 +84,16 @@ impl<'a, A: Allocator + Copy> Outline<'a, A> {
         ttl: u32,
         rdata: &'a [u8],
     ) -> Result<(), AllocError>
-        ensures ok { OnOk result (self.new ≡ with_answer self.old (line name.entry.now rtype ttl rdata.entry.now)) }
+        ensures ok { OnOk result (self.new
+            ≡ with_answer self.old (line name.entry.now rtype ttl rdata.entry.now)) }
         ensures err { OnErr result (self.new ≡ self.old) }
     {
         self.answer.push(line_of(name, rtype, ttl, rdata))
     }
 
     /// Adds a line at the end of the authority section: its owner, its type, its TTL in seconds and
-    /// its RDATA with every name in full. Where there is no memory for it, the outline stays as it was.
+    /// its RDATA with every name in full. Where there is no memory for it, the outline stays as it
+    /// was.
     pub fn authority(
         &mut self,
         name: &'a Name<A>,
@@ -93,14 +101,15 @@ impl<'a, A: Allocator + Copy> Outline<'a, A> {
         ttl: u32,
         rdata: &'a [u8],
     ) -> Result<(), AllocError>
-        ensures ok { OnOk result (self.new ≡ with_authority self.old (line name.entry.now rtype ttl rdata.entry.now)) }
+        ensures ok { OnOk result (self.new
+            ≡ with_authority self.old (line name.entry.now rtype ttl rdata.entry.now)) }
         ensures err { OnErr result (self.new ≡ self.old) }
     {
         self.authority.push(line_of(name, rtype, ttl, rdata))
     }
 }
 
-// The name of a question, if there is one, is a name: it has octets.
+/// The name of a question, if there is one, is a name: it has octets.
 fn is_named<A: Allocator>(question: Option<&Question<A>>) -> bool
     ensures always { IsTrue result }
     ensures lawful { IsAskedIfAny (asked_lent question.entry) }

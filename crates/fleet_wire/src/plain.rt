@@ -8,9 +8,11 @@ use crate::name_reader::{Step, step_at};
 use crate::shape::{Part, parts_of};
 use fleet_name::is_lower;
 
-// The octets behind a name in full and in lower case, if one stands first.
+/// The octets behind a name in full and in lower case, if one stands first.
 fn after_name(octets: &[u8]) -> Option<&[u8]>
-    ensures { MatchOption result ((n : List (List ℕ)) (others : List ℕ) → IsName n → octets.now ≡ wire n ++ others → ⊥) (λ s. (n : List (List ℕ)) × IsName n × (octets.now ≡ wire n ++ s.now)) }
+    ensures { MatchOption result
+        ((n : List (List ℕ)) (others : List ℕ) → IsName n → octets.now ≡ wire n ++ others → ⊥)
+        (λ s. (n : List (List ℕ)) × IsName n × (octets.now ≡ wire n ++ s.now)) }
 {
     let mut at = 0;
     loop {
@@ -31,7 +33,7 @@ fn after_name(octets: &[u8]) -> Option<&[u8]>
     }
 }
 
-// Whether the octets are those of the parts, and no more.
+/// Whether the octets are those of the parts, and no more.
 fn are_plain(parts: &[Part], octets: &[u8]) -> bool
     ensures yes { IsTrue result → ArePlain parts.now octets.now }
     ensures no { IsFalse result → ArePlain parts.now octets.now → ⊥ }

@@ -17,9 +17,10 @@ use crate::question::Question;
 use fleet_name::Octets;
 use std::alloc::{AllocError, Allocator};
 
-// The header of a message of one question.
+/// The header of a message of one question.
 pub(crate) fn counted_header(message: &[u8]) -> Result<Header, ReadFault>
-    ensures { MatchResult result (λ h. HasOneQuestion message.now × (h ≡ header_of message.now)) (HeaderFails message.now) }
+    ensures { MatchResult result (λ h. HasOneQuestion message.now × (h ≡ header_of message.now))
+        (HeaderFails message.now) }
 {
     if message.len() < 12 {
         return Err(ReadFault::TooShort);
@@ -34,17 +35,17 @@ pub(crate) fn counted_header(message: &[u8]) -> Result<Header, ReadFault>
     Ok(header)
 }
 
-// A question that has taken no memory yet.
+/// A question that has taken no memory yet.
 #[derive(Drop)]
 pub(crate) struct SpelledQuestion {
     pub(crate) name: Spelled,
     pub(crate) rtype: u16,
     pub(crate) class: u16,
-    // Where it ends in the message.
+    /// Where it ends in the message.
     pub(crate) end: usize,
 }
 
-// The question at a place of a message.
+/// The question at a place of a message.
 pub(crate) fn question_at(message: &[u8], offset: usize) -> Result<SpelledQuestion, ReadFault>
     ensures found { IfOk result (λ q. IsQuestion message.now offset (asked_spelled q) q.end) }
     ensures spelled { IfOk result (λ q. IsSpelling q.name.octets.items) }
@@ -64,7 +65,7 @@ pub(crate) fn question_at(message: &[u8], offset: usize) -> Result<SpelledQuesti
     })
 }
 
-// The question that was spelled, in memory of its own.
+/// The question that was spelled, in memory of its own.
 pub(crate) fn question_of<A: Allocator + Copy>(
     alloc: A,
     spelled: &SpelledQuestion,
@@ -96,7 +97,8 @@ pub fn read_query<A: Allocator + Copy>(
     ensures found { IfOk result (λ r. (past : ℕ) × IsQuery message.now r.0 (asked r.1) past) }
     ensures lawful { IfOk result (λ r. IsHeader r.0) }
     ensures fault { IfErr result (λ f. OrMemory f (QueryFails message.now f)) }
-    ensures only { (h : Header) (q : Asked) (past : ℕ) → IsQuery message.now h q past → IfErr result (λ f. f ≡ OutOfMemory) }
+    ensures only { (h : Header) (q : Asked) (past : ℕ) → IsQuery message.now h q past
+        → IfErr result (λ f. f ≡ OutOfMemory) }
     ensures memory { IfErr result (λ f. f ≡ OutOfMemory → HasQuery message.now) }
 {
     let header = counted_header(message)?;
@@ -105,7 +107,7 @@ pub fn read_query<A: Allocator + Copy>(
     Ok((header, question))
 }
 
-// Adds a header that wants recursion alone and counts one question.
+/// Adds a header that wants recursion alone and counts one question.
 fn push_query_head<A: Allocator>(out: &mut Vec<u8, A>, id: u16) -> Result<(), AllocError>
     ensures { OnOk result (out.new.items ≡ out.old.items ++ query_head id) }
 {
@@ -126,7 +128,8 @@ pub fn write_query<A: Allocator, B: Allocator>(
 ) -> Result<Vec<u8, A>, AllocError>
     ensures octets { IfOk result (λ v. v.items ≡ query_octets id (asked question.now)) }
     // It is read again.
-    ensures reads_back { IfOk result (λ v. IsQuery v.items (query_header id) (lowered (asked question.now)) (length v.items)) }
+    ensures reads_back { IfOk result (λ v.
+        IsQuery v.items (query_header id) (lowered (asked question.now)) (length v.items)) }
 {
     let name = question.name.octets();
     let mut octets = Vec::new(alloc);

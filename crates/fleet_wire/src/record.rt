@@ -26,7 +26,7 @@ pub struct Record<A: Allocator = Global> {
     pub rdata: Octets<A>,
 }
 
-// A record that has taken no memory yet.
+/// A record that has taken no memory yet.
 #[derive(Drop)]
 pub(crate) struct SpelledRecord {
     pub(crate) owner: Spelled,
@@ -34,11 +34,11 @@ pub(crate) struct SpelledRecord {
     pub(crate) class: u16,
     pub(crate) ttl: u32,
     pub(crate) rdata: Rdata,
-    // Where it ends in the message.
+    /// Where it ends in the message.
     pub(crate) end: usize,
 }
 
-// The record at a place of a message.
+/// The record at a place of a message.
 fn record_at(message: &[u8], offset: usize) -> Result<SpelledRecord, ReadFault>
     requires short { length message.now ≤ 512 }
     ensures found { IfOk result (λ r. RecordAt message.now offset (told_spelled r) r.end) }
@@ -67,10 +67,11 @@ fn record_at(message: &[u8], offset: usize) -> Result<SpelledRecord, ReadFault>
     })
 }
 
-// Where so many records in a row end that stand at a place of a message.
+/// Where so many records in a row end that stand at a place of a message.
 pub(crate) fn records_end(message: &[u8], offset: usize, count: u16) -> Result<usize, ReadFault>
     requires short { length message.now ≤ 512 }
-    ensures found { IfOk result (λ e. (rs : List Told) × RecordsAt message.now offset rs e × (length rs ≡ count)) }
+    ensures found { IfOk result (λ e.
+        (rs : List Told) × RecordsAt message.now offset rs e × (length rs ≡ count)) }
     ensures fault { IfErr result (λ f. RecordsFail message.now offset count f) }
 {
     let mut at = offset;
@@ -80,13 +81,14 @@ pub(crate) fn records_end(message: &[u8], offset: usize, count: u16) -> Result<u
     Ok(at)
 }
 
-// The record that was spelled, in memory of its own.
+/// The record that was spelled, in memory of its own.
 fn record_of<A: Allocator + Copy>(
     alloc: A,
     spelled: &SpelledRecord,
 ) -> Result<Record<A>, AllocError>
     requires spelled { IsSpelling spelled.now.owner.octets.items }
-    requires counted { spelled.now.owner.labels ≡ length (labels_of spelled.now.owner.octets.items) }
+    requires counted { spelled.now.owner.labels
+        ≡ length (labels_of spelled.now.owner.octets.items) }
     ensures { IfOk result (λ r. told r ≡ told_spelled spelled.now) }
 {
     let name = name_of(alloc, &spelled.owner)?;
@@ -100,7 +102,7 @@ fn record_of<A: Allocator + Copy>(
     })
 }
 
-// So many records in a row at a place of a message where they stand, and where they end.
+/// So many records in a row at a place of a message where they stand, and where they end.
 pub(crate) fn records_of<A: Allocator + Copy>(
     alloc: A,
     message: &[u8],

@@ -14,12 +14,14 @@ use crate::query::{SpelledQuestion, counted_header, question_at, question_of};
 use crate::record::{records_end, records_of};
 use std::alloc::{AllocError, Allocator};
 
-// The header and the question of a message that is a reply. Its records are read too, and not kept.
+/// The header and the question of a message that is a reply. Its records are read too, and not
+/// kept.
 fn reply_head(message: &[u8]) -> Result<(Header, SpelledQuestion), ReadFault>
     ensures query { IfOk result (λ r. IsQuery message.now r.0 (asked_spelled r.1) r.1.end) }
     ensures whole { IfOk result (λ _. HasReply message.now) }
     ensures spelled { IfOk result (λ r. IsSpelling r.1.name.octets.items) }
-    ensures counted { IfOk result (λ r. r.1.name.labels ≡ length (labels_of r.1.name.octets.items)) }
+    ensures counted { IfOk result (λ r.
+        r.1.name.labels ≡ length (labels_of r.1.name.octets.items)) }
     ensures fault { IfErr result (λ f. ReplyFails message.now f) }
 {
     let header = counted_header(message)?;
@@ -32,7 +34,7 @@ fn reply_head(message: &[u8]) -> Result<(Header, SpelledQuestion), ReadFault>
     Ok((header, question))
 }
 
-// The reply that a message with this header and this question is.
+/// The reply that a message with this header and this question is.
 fn message_of<A: Allocator + Copy>(
     alloc: A,
     message: &[u8],
@@ -56,9 +58,9 @@ fn message_of<A: Allocator + Copy>(
     Ok(Message::of_parts(header, question, answer, authority))
 }
 
-/// A reply: the header, the question, and the records of the answer and authority sections
-/// (RFC 1035 4.1). With TC set both sections are empty. The additional section, and octets after
-/// the last part, are not looked at.
+/// A reply: the header, the question, and the records of the answer and authority sections (RFC
+/// 1035 4.1). With TC set both sections are empty. The additional section, and octets after the
+/// last part, are not looked at.
 ///
 /// The first fault is told, in the order of the octets: those of `read_query`, then for each record
 /// what its name meets, `Truncated` where its ten fixed octets or its RDATA pass the end, then what

@@ -11,8 +11,8 @@ use fleet_name::Name;
 use std::alloc::{AllocError, Allocator};
 use std::marker::Model;
 
-// The lines of a section, in order. The first four lie in the value itself, so that a section of
-// few lines takes no memory.
+/// The lines of a section, in order. The first four lie in the value itself, so that a section of
+/// few lines takes no memory.
 #[derive(Drop)]
 pub(crate) struct Section<'a, A: Allocator> {
     first: ArrayVec<Line<'a>, 4>,
@@ -30,7 +30,7 @@ impl<'a, A: Allocator> Model for Section<'a, A> {
 }
 
 impl<'a, A: Allocator> Section<'a, A> {
-    // A section without lines.
+    /// A section without lines.
     pub(crate) fn new(alloc: A) -> Section<'a, A>
         ensures { result ≡ [] }
     {
@@ -40,7 +40,7 @@ impl<'a, A: Allocator> Section<'a, A> {
         }
     }
 
-    // Adds a line at the end, or leaves the section as it was where there is no memory for it.
+    /// Adds a line at the end, or leaves the section as it was where there is no memory for it.
     pub(crate) fn push(&mut self, line: Line<'a>) -> Result<(), AllocError>
         ensures ok { OnOk result (self.new ≡ self.old ++ told_line line.entry ∷ []) }
         ensures err { OnErr result (self.new ≡ self.old) }
@@ -53,7 +53,7 @@ impl<'a, A: Allocator> Section<'a, A> {
         Ok(())
     }
 
-    // How many lines there are.
+    /// How many lines there are.
     pub(crate) fn len(&self) -> usize
         requires { length self.now ≤ 512 }
         ensures { result ≡ length self.now }
@@ -61,7 +61,7 @@ impl<'a, A: Allocator> Section<'a, A> {
         self.first.len() + self.more.len()
     }
 
-    // The lines in the value itself, and the others.
+    /// The lines in the value itself, and the others.
     pub(crate) fn parts(&self) -> (&[Line], &[Line])
         ensures { told_lines result.0.now ++ told_lines result.1.now ≡ self.now }
     {
@@ -69,7 +69,7 @@ impl<'a, A: Allocator> Section<'a, A> {
     }
 }
 
-// A line.
+/// A line.
 pub(crate) fn line_of<'a, A: Allocator>(
     name: &'a Name<A>,
     rtype: u16,

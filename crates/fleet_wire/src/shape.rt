@@ -12,21 +12,21 @@ use crate::name_reader::spelled_at;
 use crate::rtype::{CNAME, MB, MD, MF, MG, MINFO, MR, MX, NS, PTR, SOA, SRV};
 use arrayvec::ArrayVec;
 
-// A part of RDATA.
+/// A part of RDATA.
 #[derive(Clone, Copy, Debug, PartialEq, Eq)]
 pub(crate) enum Part {
-    // So many octets that are no name.
+    /// So many octets that are no name.
     Plain(usize),
     Name,
 }
 
-// The most octets that the RDATA of a message of 512 octets has with each name in full: an SOA's.
+/// The most octets that the RDATA of a message of 512 octets has with each name in full: an SOA's.
 pub(crate) const LONGEST_RDATA: usize = 530;
 
-// RDATA that has taken no memory yet.
+/// RDATA that has taken no memory yet.
 pub(crate) type Rdata = ArrayVec<u8, LONGEST_RDATA>;
 
-// The parts of a type's RDATA, if it has names.
+/// The parts of a type's RDATA, if it has names.
 pub(crate) fn parts_of(rtype: u16) -> Option<&'static [Part]>
     ensures parts { MatchOption result (shape_of rtype ≡ None) (λ s. shape_of rtype ≡ Some s.now) }
     ensures room { IfSome result (λ s. room_of s.now ≤ LONGEST_RDATA) }
@@ -41,10 +41,12 @@ pub(crate) fn parts_of(rtype: u16) -> Option<&'static [Part]>
     }
 }
 
-// So many octets at a place.
+/// So many octets at a place.
 fn plain_at(message: &[u8], at: usize, count: usize) -> Result<&[u8], ReadFault>
     requires { at ≤ length message.now }
-    ensures { MatchResult result (λ s. (at + count ≤ length message.now) × (s.now ≡ take count (drop at message.now))) (λ f. (length message.now < at + count) × (f ≡ Truncated)) }
+    ensures { MatchResult result
+        (λ s. (at + count ≤ length message.now) × (s.now ≡ take count (drop at message.now)))
+        (λ f. (length message.now < at + count) × (f ≡ Truncated)) }
 {
     let (_, rest) = message.split_at(at);
     if rest.len() < count {
@@ -54,7 +56,7 @@ fn plain_at(message: &[u8], at: usize, count: usize) -> Result<&[u8], ReadFault>
     Ok(octets)
 }
 
-// Adds octets as they are.
+/// Adds octets as they are.
 fn append_plain(out: &mut Rdata, octets: &[u8])
     requires room { length out.old.items + length octets.now ≤ LONGEST_RDATA }
     ensures { out.new.items ≡ out.old.items ++ octets.now }
@@ -62,7 +64,7 @@ fn append_plain(out: &mut Rdata, octets: &[u8])
     let _ = out.try_extend_from_slice(octets);
 }
 
-// Adds octets in lower case.
+/// Adds octets in lower case.
 fn append_lowered(out: &mut Rdata, octets: &[u8])
     requires room { length out.old.items + length octets.now ≤ LONGEST_RDATA }
     ensures { out.new.items ≡ out.old.items ++ lower octets.now }
@@ -72,10 +74,11 @@ fn append_lowered(out: &mut Rdata, octets: &[u8])
     }
 }
 
-// Adds the name at a place, in full and in lower case, and tells where it ends.
+/// Adds the name at a place, in full and in lower case, and tells where it ends.
 fn append_name(out: &mut Rdata, message: &[u8], at: usize) -> Result<usize, ReadFault>
     requires room { length out.old.items + 255 ≤ LONGEST_RDATA }
-    ensures found { IfOk result (λ past. (n : List (List ℕ)) × ReadsName message.now at n past × (out.new.items ≡ out.old.items ++ wire n)) }
+    ensures found { IfOk result (λ past. (n : List (List ℕ)) × ReadsName message.now at n past
+        × (out.new.items ≡ out.old.items ++ wire n)) }
     ensures room { length out.new.items ≤ length out.old.items + 255 }
     ensures fault { IfErr result (λ f. NameFails message.now at f) }
 {
@@ -84,7 +87,7 @@ fn append_name(out: &mut Rdata, message: &[u8], at: usize) -> Result<usize, Read
     Ok(spelled.end)
 }
 
-// The parts at a place, with each name in full, and where they end.
+/// The parts at a place, with each name in full, and where they end.
 fn parts_at(message: &[u8], parts: &[Part], offset: usize) -> Result<(Rdata, usize), ReadFault>
     requires within { offset ≤ length message.now }
     requires room { room_of parts.now ≤ LONGEST_RDATA }
@@ -105,7 +108,7 @@ fn parts_at(message: &[u8], parts: &[Part], offset: usize) -> Result<(Rdata, usi
     Ok((octets, at))
 }
 
-// So many octets of RDATA of a type at a place, with each name in full.
+/// So many octets of RDATA of a type at a place, with each name in full.
 pub(crate) fn rdata_at(
     message: &[u8],
     at: usize,

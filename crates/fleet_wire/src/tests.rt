@@ -12,7 +12,7 @@ use crate::writer::write_reply;
 use fleet_name::Name;
 use std::test::Fail;
 
-// A message with the octets from a place on replaced.
+/// A message with the octets from a place on replaced.
 fn changed(rt: &HostRuntime, message: &[u8], at: usize, octets: &[u8]) -> Result<Vec<u8>, Fail>
     requires { at + length octets.now ≤ length message.now }
 {
@@ -22,7 +22,7 @@ fn changed(rt: &HostRuntime, message: &[u8], at: usize, octets: &[u8]) -> Result
     Ok(whole)
 }
 
-// A message with zero octets behind it, so many in all.
+/// A message with zero octets behind it, so many in all.
 fn padded(rt: &HostRuntime, message: &[u8], count: usize) -> Result<Vec<u8>, Fail> {
     let mut whole = message.to_vec(rt.alloc())?;
     for _ in message.len()..count {
@@ -51,7 +51,7 @@ fn a_prefix_is_short_or_cut_off(rt: HostRuntime) -> Result<(), Fail> {
     Ok(())
 }
 
-// What stands at a place of that message in place of its own octets, and the fault that it makes.
+/// What stands at a place of that message in place of its own octets, and the fault that it makes.
 const LIES: [(usize, &[u8], ReadFault); 15] = [
     // The first RDATA points to itself, and into a label.
     (43, b"\xc0\x29", ReadFault::BadPointer),
@@ -127,7 +127,7 @@ fn a_message_has_at_most_512_octets(rt: HostRuntime) -> Result<(), Fail> {
     Ok(())
 }
 
-// A question whose name has three labels of 63 octets, and then the octets given.
+/// A question whose name has three labels of 63 octets, and then the octets given.
 fn long_name(rt: &HostRuntime, rest: &[u8]) -> Result<Vec<u8>, Fail> {
     let mut message = ALIASES[..12].to_vec(rt.alloc())?;
     for _ in 0..3u8 {

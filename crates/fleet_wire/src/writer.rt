@@ -14,12 +14,13 @@ use crate::question::Question;
 use crate::section::Section;
 use std::alloc::{AllocError, Allocator};
 
-// Adds a question in its own spelling, if there is one.
+/// Adds a question in its own spelling, if there is one.
 fn push_question<A: Allocator, B: Allocator>(
     out: &mut Vec<u8, A>,
     question: Option<&Question<B>>,
 ) -> Result<(), AllocError>
-    ensures { OnOk result (out.new.items ≡ out.old.items ++ question_octets (asked_lent question.entry)) }
+    ensures { OnOk result (out.new.items
+        ≡ out.old.items ++ question_octets (asked_lent question.entry)) }
 {
     match question {
         None => Ok(()),
@@ -31,7 +32,7 @@ fn push_question<A: Allocator, B: Allocator>(
     }
 }
 
-// How many octets a question has: its name in full, which has 255 at most, and four.
+/// How many octets a question has: its name in full, which has 255 at most, and four.
 fn question_size<A: Allocator>(question: Option<&Question<A>>) -> usize
     ensures size { result ≡ length (question_octets (asked_lent question.entry)) }
     ensures short { result ≤ 259 }
@@ -42,7 +43,7 @@ fn question_size<A: Allocator>(question: Option<&Question<A>>) -> usize
     }
 }
 
-// Adds the octets between the name and the RDATA.
+/// Adds the octets between the name and the RDATA.
 fn push_fixed<A: Allocator>(
     out: &mut Vec<u8, A>,
     rtype: u16,
@@ -50,7 +51,9 @@ fn push_fixed<A: Allocator>(
     ttl: u32,
     count: u16,
 ) -> Result<(), AllocError>
-    ensures { OnOk result (out.new.items ≡ out.old.items ++ (u16_octets rtype ++ (u16_octets class ++ (u32_octets ttl ++ u16_octets count)))) }
+    ensures { OnOk result (out.new.items
+        ≡ out.old.items
+        ++ (u16_octets rtype ++ (u16_octets class ++ (u32_octets ttl ++ u16_octets count)))) }
 {
     push_short(out, rtype)?;
     push_short(out, class)?;
@@ -58,7 +61,7 @@ fn push_fixed<A: Allocator>(
     push_short(out, count)
 }
 
-// Adds a record.
+/// Adds a record.
 fn push_record<A: Allocator>(out: &mut Vec<u8, A>, line: &Line) -> Result<(), AllocError>
     requires { length line.now.rdata.now < 65536 }
     ensures { OnOk result (out.new.items ≡ out.old.items ++ record_octets (told_line line.now)) }
@@ -69,7 +72,7 @@ fn push_record<A: Allocator>(out: &mut Vec<u8, A>, line: &Line) -> Result<(), Al
     out.extend_from_slice(line.rdata)
 }
 
-// Adds the records of lines.
+/// Adds the records of lines.
 fn push_lines<A: Allocator>(out: &mut Vec<u8, A>, lines: &[Line]) -> Result<(), AllocError>
     requires { length (rows (told_lines lines.now)) ≤ 512 }
     ensures { OnOk result (out.new.items ≡ out.old.items ++ rows (told_lines lines.now)) }
@@ -80,7 +83,7 @@ fn push_lines<A: Allocator>(out: &mut Vec<u8, A>, lines: &[Line]) -> Result<(), 
     Ok(())
 }
 
-// Adds the records of a section.
+/// Adds the records of a section.
 fn push_section<A: Allocator, B: Allocator>(
     out: &mut Vec<u8, A>,
     section: &Section<B>,
@@ -93,9 +96,10 @@ fn push_section<A: Allocator, B: Allocator>(
     push_lines(out, more)
 }
 
-// How much of the room is left behind the octets of the lines' records, if they fit.
+/// How much of the room is left behind the octets of the lines' records, if they fit.
 fn room_after(lines: &[Line], room: usize) -> Option<usize>
-    ensures { MatchOption result (room < length (rows (told_lines lines.now))) (λ left. left + length (rows (told_lines lines.now)) ≡ room) }
+    ensures { MatchOption result (room < length (rows (told_lines lines.now)))
+        (λ left. left + length (rows (told_lines lines.now)) ≡ room) }
 {
     let mut left = room;
     for line in lines {
@@ -113,16 +117,17 @@ fn room_after(lines: &[Line], room: usize) -> Option<usize>
     Some(left)
 }
 
-// How much of the room is left behind the octets of a section, if they fit.
+/// How much of the room is left behind the octets of a section, if they fit.
 fn room_behind<A: Allocator>(section: &Section<A>, room: usize) -> Option<usize>
-    ensures { MatchOption result (room < length (rows section.now)) (λ left. left + length (rows section.now) ≡ room) }
+    ensures { MatchOption result (room < length (rows section.now))
+        (λ left. left + length (rows section.now) ≡ room) }
 {
     let (first, more) = section.parts();
     let left = room_after(first, room)?;
     room_after(more, left)
 }
 
-// How many octets header, question and records have, if they fit a message.
+/// How many octets header, question and records have, if they fit a message.
 fn size_within<A: Allocator>(
     question: Option<&Question<A>>,
     answer: &Section<A>,
@@ -138,7 +143,7 @@ fn size_within<A: Allocator>(
     Some(512 - left)
 }
 
-// Adds the header.
+/// Adds the header.
 fn push_header<A: Allocator, B: Allocator>(
     out: &mut Vec<u8, A>,
     outline: &Outline<B>,
@@ -146,7 +151,8 @@ fn push_header<A: Allocator, B: Allocator>(
     answer: u16,
     authority: u16,
 ) -> Result<(), AllocError>
-    ensures { OnOk result (out.new.items ≡ out.old.items ++ header_octets outline.now tc answer authority) }
+    ensures { OnOk result (out.new.items
+        ≡ out.old.items ++ header_octets outline.now tc answer authority) }
 {
     push_short(out, outline.id)?;
     let cut = if tc { 2 } else { 0 };
@@ -160,16 +166,17 @@ fn push_header<A: Allocator, B: Allocator>(
     push_short(out, 0)
 }
 
-/// The octets of a reply (RFC 1035 4.1): header, question and records, every name in full. QR and RA
-/// are set, AA is clear. Where all of it passes 512 octets: header and question alone, with TC set.
-/// Its memory is just its octets. `Err` where there is none for them.
+/// The octets of a reply (RFC 1035 4.1): header, question and records, every name in full. QR and
+/// RA are set, AA is clear. Where all of it passes 512 octets: header and question alone, with TC
+/// set. Its memory is just its octets. `Err` where there is none for them.
 pub fn write_reply<A: Allocator, B: Allocator>(
     alloc: A,
     outline: &Outline<B>,
 ) -> Result<Vec<u8, A>, AllocError>
     ensures octets { IfOk result (λ v. v.items ≡ octets_of_outline outline.now) }
     // Where it has a question, plain RDATA, TC clear, and fits a message, it is read again.
-    ensures reads_back { IfOk result (λ v. (q : Asked) → IsWhole outline.now q → IsReply v.items (reply_sketched outline.now q)) }
+    ensures reads_back { IfOk result (λ v.
+        (q : Asked) → IsWhole outline.now q → IsReply v.items (reply_sketched outline.now q)) }
 {
     let Some(size) = size_within(outline.question, &outline.answer, &outline.authority) else {
         let mut octets = Vec::with_capacity(alloc, 12 + question_size(outline.question))?;

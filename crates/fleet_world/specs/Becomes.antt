@@ -29,7 +29,8 @@ pub record Joins (a b : Replica) : Type 0 where
   pub horizon : b.horizon ≡ max a.horizon b.site.floor
 
 -- a call at the site
-pub record Calls {A : Type 0} (c : Call) (r : Result (Outcome A) SiteFault) (a b : Replica) : Type 0 where
+pub record Calls {A : Type 0} (c : Call) (r : Result (Outcome A) SiteFault) (a b : Replica)
+    : Type 0 where
   pub step : SiteStep a.site c r b.site
   pub joins : Joins a b
 
@@ -38,12 +39,14 @@ abbrev pub with_delivery_unless : Option Refusal → List SentSweep → ℕ → 
 with_delivery_unless None sweeps number a = with_delivery sweeps number a
 with_delivery_unless (Some refusal) sweeps number a = a
 
-abbrev pub with_delivery_by : {A : Type 0} → Result (Outcome A) SiteFault → List SentSweep → ℕ → Replica → Replica
+abbrev pub with_delivery_by : {A : Type 0} → Result (Outcome A) SiteFault → List SentSweep → ℕ
+    → Replica → Replica
 with_delivery_by (Ok o) sweeps number a = with_delivery_unless o.refused sweeps number a
 with_delivery_by (Err f) sweeps number a = a
 
 -- the kept frame of this number comes in
-pub record Delivers {A : Type 0} (m : FleetModel) (now number : ℕ) (r : Result (Outcome A) SiteFault) (a b : Replica) : Type 0 where
+pub record Delivers {A : Type 0} (m : FleetModel) (now number : ℕ)
+    (r : Result (Outcome A) SiteFault) (a b : Replica) : Type 0 where
   pub octets : List ℕ
   pub kept : At m.frames number octets
   pub read : Replica
@@ -81,8 +84,10 @@ pub record MergesFirst (m : FleetModel) (from count : ℕ) (a b : Replica) : Typ
 abbrev pub site_again : SiteModel → SiteModel
 site_again s = site_at_first s.upstreams s.peers
 
--- the event's call is done whole with this outcome, or stopped for want of memory, and this becomes of its site
-abbrev pub Becomes : {A : Type 0} → FleetModel → Event A → Result (Outcome A) SiteFault → Replica → Replica → Type 0
+-- the event's call is done whole with this outcome, or stopped for want of memory, and this becomes
+-- of its site
+abbrev pub Becomes : {A : Type 0} → FleetModel → Event A → Result (Outcome A) SiteFault → Replica
+    → Replica → Type 0
 Becomes m (Datagram site now from word bytes) r a b = Calls (datagram now from bytes word) r a b
 Becomes m (Tick site now) r a b = Calls (tick now) r a b
 Becomes m (Frame site now bytes) r a b = Calls (frame now bytes) r a b
@@ -93,6 +98,7 @@ Becomes m (Sweep site) (Err (OutOfMemory count)) a b = (count ≡ 0) × (b ≡ a
 Becomes m (Merge into from) (Ok o) a b =
     when into ≡ from then (effect o ≡ nothing) × (b ≡ a) otherwise
     (MergesAll m from o.taken a b × (effect o ≡ record nothing { taken = o.taken }))
-Becomes m (Merge into from) (Err (OutOfMemory count)) a b = (into ≢ from) × MergesFirst m from count a b
+Becomes m (Merge into from) (Err (OutOfMemory count)) a b =
+    (into ≢ from) × MergesFirst m from count a b
 Becomes m (Restart site) (Ok o) a b = (effect o ≡ nothing) × (b ≡ new_replica (site_again a.site))
 Becomes m (Restart site) (Err (OutOfMemory count)) a b = ⊥

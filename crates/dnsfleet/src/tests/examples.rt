@@ -8,7 +8,8 @@ use std::test::Fail;
 pub struct Example {
     /// What it shows.
     pub shows: &'static str,
-    /// Its lines, each behind `> `, and below each what it prints. `{61*460}` stands for 460 times `61`.
+    /// Its lines, each behind `> `, and below each what it prints. `{61*460}` stands for 460 times
+    /// `61`.
     pub transcript: &'static str,
 }
 

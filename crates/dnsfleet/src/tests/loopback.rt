@@ -93,7 +93,8 @@ fn open_sites(rt: &HostRuntime, upstream: Addr) -> Result<(Served, Served), Fail
     Ok((first, second))
 }
 
-/// The reply to a query: the same header with the bits of a reply and one record, the same question, and the record.
+/// The reply to a query: the same header with the bits of a reply and one record, the same
+/// question, and the record.
 fn reply_to(alloc: Global, query: &[u8]) -> Result<Vec<u8>, Fail> {
     let (id, rest) = query.split_at_checked(2).ok_or("no id")?;
     let (_, question) = rest.split_at_checked(10).ok_or("no header")?;

@@ -1,6 +1,6 @@
-//! One call for memory refused, each in turn. A want of memory is told where a call was refused, and nowhere else; the
-//! sites then hold the first observations of the step, and all else is as before; and the step done again is as if
-//! nothing had been.
+//! One call for memory refused, each in turn. A want of memory is told where a call was refused,
+//! and nowhere else; the sites then hold the first observations of the step, and all else is as
+//! before; and the step done again is as if nothing had been.
 
 mod lent;
 mod lines;
@@ -38,8 +38,8 @@ const REFUSED: [&str; 6] = [
     "a site takes in all that another holds, and its floor",
 ];
 
-/// How often a call was refused at a line that then told a want of memory: after no observation, after some, and when
-/// all was done but the keeping of frames.
+/// How often a call was refused at a line that then told a want of memory: after no observation,
+/// after some, and when all was done but the keeping of frames.
 #[derive(Clone, Copy, Debug)]
 struct Met {
     short: u64,
@@ -136,7 +136,8 @@ fn check_lost<A: Allocator + Copy>(
     Ok(())
 }
 
-/// Checks what became of a line, and says whether the next one follows: not where frames were not kept.
+/// Checks what became of a line, and says whether the next one follows: not where frames were not
+/// kept.
 fn check_line<A: Allocator + Copy>(
     rt: &impl Abort,
     ample: A,

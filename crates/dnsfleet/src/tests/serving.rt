@@ -11,7 +11,8 @@ use std::test::Fail;
 /// A key.
 const KEY: &str = "000102030405060708090a0b0c0d0e0f101112131415161718191A1B1C1D1E1F";
 
-/// Runs the program with words, and gives the status with what was printed on standard output and on standard error.
+/// Runs the program with words, and gives the status with what was printed on standard output and
+/// on standard error.
 fn ran(rt: &HostRuntime, words: &str) -> Result<(ExitCode, String, String), Fail> {
     let told = Told::new(rt.alloc());
     let mut list = Vec::new(rt.alloc());

@@ -4,7 +4,7 @@ use super::{LEARNT, QUESTION, RELAY, REPLY, arrival, fleet, kept, sends};
 use fleet_site::Refusal;
 use std::test::Fail;
 
-// The same reply, but that its question is of type AAAA.
+/// The same reply, but that its question is of type AAAA.
 const OTHER_TYPE: &[u8] =
     b"\x12\x34\x81\x80\x00\x01\x00\x01\x00\x00\x00\x00\x07example\x03com\x00\x00\x1c\x00\x01\xc0\x0c\x00\x01\x00\x01\x00\x00\x01\x2c\x00\x04\xc0\x00\x02\x01";
 

@@ -1,5 +1,6 @@
-//! Each message and frame of the worked examples with each octet replaced by five others, as all that octets can come
-//! in as: what is refused leaves what a site holds, its open questions and the kept frames as they were.
+//! Each message and frame of the worked examples with each octet replaced by five others, as all
+//! that octets can come in as: what is refused leaves what a site holds, its open questions and the
+//! kept frames as they were.
 
 use super::messages::MESSAGES;
 use super::{arrival, at, local, octets, outside};
@@ -57,14 +58,16 @@ fn learnt(alloc: Global, seconds: u64, bytes: &[u8]) -> Result<Event, Fail> {
     })
 }
 
-// The frame of example.org. A: 192.0.2.9 at rank 1 from 100 to 400; a question of its name, of type AAAA.
+/// The frame of example.org. A: 192.0.2.9 at rank 1 from 100 to 400; a question of its name, of
+/// type AAAA.
 const HELD: &[u8] =
     b"\x44\x47\x01\x00\x01\x03\x01\x00\x00\x00\x00\x00\x00\x00\x64\x00\x00\x01\x2c\x07example\x03org\x00\x00\x01\x00\x01\x00\x04\xc0\x00\x02\x09";
 
 const ASKED: &[u8] =
     b"\x00\x07\x01\x00\x00\x01\x00\x00\x00\x00\x00\x00\x07example\x03org\x00\x00\x1c\x00\x01";
 
-// The question of a message, if it is one: what stands behind its header, behind the header of a question.
+/// The question of a message, if it is one: what stands behind its header, behind the header of a
+/// question.
 fn question_of(alloc: Global, message: &[u8]) -> Result<Vec<u8>, Fail> {
     let mut question = ASKED[..12].to_vec(alloc)?;
     if message.len() > 12 {
@@ -73,7 +76,7 @@ fn question_of(alloc: Global, message: &[u8]) -> Result<Vec<u8>, Fail> {
     Ok(question)
 }
 
-// The first two octets of a message: its id.
+/// The first two octets of a message: its id.
 fn id_of(message: &[u8]) -> u16 {
     match (message.first(), message.get(1)) {
         (Some(high), Some(low)) => u16::from_be_bytes([*high, *low]),
@@ -81,8 +84,8 @@ fn id_of(message: &[u8]) -> u16 {
     }
 }
 
-// A world of one site that took a frame in and swept, that asks its second upstream one question, and its first that of
-// the message, under the message's id.
+/// A world of one site that took a frame in and swept, that asks its second upstream one question,
+/// and its first that of the message, under the message's id.
 fn running(alloc: Global, message: &[u8]) -> Result<World, Fail> {
     let mut upstreams = Vec::new(alloc);
     upstreams.push(local(5301))?;
@@ -104,7 +107,8 @@ fn running(alloc: Global, message: &[u8]) -> Result<World, Fail> {
     Ok(world)
 }
 
-// Whether the site holds the same in both worlds, and both have the same kept frames, of which there are at most two.
+/// Whether the site holds the same in both worlds, and both have the same kept frames, of which
+/// there are at most two.
 fn alike(one: &World, other: &World) -> bool {
     for number in 0..3usize {
         if one.frame(number) != other.frame(number) {
@@ -117,7 +121,7 @@ fn alike(one: &World, other: &World) -> bool {
     }
 }
 
-// Whether two events did the same.
+/// Whether two events did the same.
 fn did_alike(one: &Stepped, other: &Stepped) -> bool {
     let sent = one.packets.as_slice();
     let others = other.packets.as_slice();
@@ -135,7 +139,8 @@ fn did_alike(one: &Stepped, other: &Stepped) -> bool {
         && one.more == other.more
 }
 
-// What both worlds ask from then on, until all their questions have failed, is the same, and at first there are some.
+/// What both worlds ask from then on, until all their questions have failed, is the same, and at
+/// first there are some.
 fn check_questions(rt: &impl Abort, one: &mut World, other: &mut World) -> Result<(), Fail> {
     let mut seconds = 104;
     for _ in 0..64 {
@@ -155,12 +160,12 @@ fn check_questions(rt: &impl Abort, one: &mut World, other: &mut World) -> Resul
     Err("still asking".into())
 }
 
-// Two worlds that were the same, of which the other one is spared what is refused.
+/// Two worlds that were the same, of which the other one is spared what is refused.
 #[derive(Drop)]
 struct Twins {
     world: World,
     spared: World,
-    // How many octets that came in since were not refused.
+    /// How many octets that came in since were not refused.
     since: u32,
 }
 
@@ -172,7 +177,7 @@ fn new_twins(alloc: Global, message: &[u8]) -> Result<Twins, Fail> {
     })
 }
 
-// Octets come in: why they are refused, if they are.
+/// Octets come in: why they are refused, if they are.
 fn check_event(rt: &impl Abort, twins: &mut Twins, event: &Event) -> Result<Option<Refusal>, Fail> {
     let done = twins.world.step(event)?;
     if done.refused.is_some() {
@@ -185,10 +190,10 @@ fn check_event(rt: &impl Abort, twins: &mut Twins, event: &Event) -> Result<Opti
     Ok(done.refused)
 }
 
-// How often octets were refused for a reason, and how often for none.
+/// How often octets were refused for a reason, and how often for none.
 type Count = (Option<Refusal>, u32);
 
-// One more for this reason, if it is wanted.
+/// One more for this reason, if it is wanted.
 fn count(counts: &mut [Count], refused: Option<Refusal>) -> bool {
     for (reason, number) in counts.iter_mut() {
         if *reason == refused {
@@ -199,8 +204,8 @@ fn count(counts: &mut [Count], refused: Option<Refusal>) -> bool {
     false
 }
 
-// The octets of a message, each replaced by five others in turn, come in at a running world, which begins anew when its
-// question may have been answered, or much was taken in.
+/// The octets of a message, each replaced by five others in turn, come in at a running world, which
+/// begins anew when its question may have been answered, or much was taken in.
 fn check_message(
     rt: &impl Abort,
     alloc: Global,
@@ -229,8 +234,8 @@ fn check_message(
     check_questions(rt, &mut twins.world, &mut twins.spared)
 }
 
-// All messages come in so, and they are refused as often as is wanted for each reason. How often that is, another
-// program counted, which reads the formats on its own.
+/// All messages come in so, and they are refused as often as is wanted for each reason. How often
+/// that is, another program counted, which reads the formats on its own.
 fn check_way(rt: &impl Abort, alloc: Global, way: Way, wanted: &[Count]) -> Result<(), Fail> {
     let mut counts = Vec::new(alloc);
     for (reason, _) in wanted {
@@ -289,7 +294,7 @@ fn refused_datagrams_of_an_upstream_change_nothing(rt: HostRuntime) -> Result<()
     check_way(&rt, rt.alloc(), Way::Upstream, &wanted)
 }
 
-// Frames are refused for the same reasons, whoever they are from.
+/// Frames are refused for the same reasons, whoever they are from.
 fn check_frames(rt: &impl Abort, alloc: Global, way: Way) -> Result<(), Fail> {
     let wanted = [
         (None, 2711),

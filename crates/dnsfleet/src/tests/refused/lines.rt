@@ -132,8 +132,8 @@ fn ended_of<A: Allocator + Copy>(
     }
 }
 
-/// What a want of memory leaves of an event: a frame of the first observations comes to its site, at its moment. A tick
-/// has purged all the same, and a merge has no moment.
+/// What a want of memory leaves of an event: a frame of the first observations comes to its site,
+/// at its moment. A tick has purged all the same, and a merge has no moment.
 fn part_of_step<A: Allocator>(step: Step<'_>, bytes: Octets<A>) -> Option<Event<A>> {
     match step {
         Step::Learn { site, now, .. } => Some(Event::Frame { site, now, bytes }),

@@ -7,8 +7,8 @@ struct Part {
     frame: &'static [u8],
 }
 
-/// Frames of up to four other observations, the reply that tells of two aliases and a denial, and what comes of frames
-/// and sites that have two observations.
+/// Frames of up to four other observations, the reply that tells of two aliases and a denial, and
+/// what comes of frames and sites that have two observations.
 const PARTS: [Part; 9] = [
     Part {
         line: "frame 0 100 44470100",

@@ -77,7 +77,8 @@ fn check_halted<A: Allocator + Copy>(
     Ok(())
 }
 
-/// Checks a fleet whose run was halted, and runs the events that are left, but where frames were not kept.
+/// Checks a fleet whose run was halted, and runs the events that are left, but where frames were
+/// not kept.
 fn go_on<A: Allocator + Copy>(
     rt: &impl Abort,
     ample: A,

@@ -101,8 +101,8 @@ fn counted(sent: u64, lost: u64, faults: u64, short: u64) -> Report {
     }
 }
 
-/// A step is refused (the question, or a tick), a send is not noted, or a receive is not: that of the question, which
-/// then comes a turn later, or another.
+/// A step is refused (the question, or a tick), a send is not noted, or a receive is not: that of
+/// the question, which then comes a turn later, or another.
 fn short_reports() -> [Report; 5] {
     [
         counted(0, 0, 0, 1),
@@ -143,8 +143,8 @@ fn is_sending<A: Allocator + Copy>(outcome: &Outcome<A>, port: u16, octets: &[u8
     }
 }
 
-/// Checks the table of a site after its turns: where a query went out and its failure did not, that failure is due at
-/// 106; and where none went out, the question is as new.
+/// Checks the table of a site after its turns: where a query went out and its failure did not, that
+/// failure is due at 106; and where none went out, the question is as new.
 fn check_table<A: Allocator + Copy>(
     rt: &impl Abort,
     site: &mut Site<A>,
