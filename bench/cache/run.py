@@ -66,7 +66,8 @@ def figures(program, items, times):
     rounds = max(1, 1_000_000 // items)
     made, _ = least(program, "make", items, 1, times)
     taken, memory = least(program, "take", items, 1, times)
-    _, base = least(program, "take", 1, 1, times)
+    half = items // 2
+    _, base = least(program, "take", half, 1, times)
     asked, _ = least(program, "ask", items, rounds, times)
     answered, _ = least(program, "answer", items, rounds, times)
     row = [
@@ -75,7 +76,7 @@ def figures(program, items, times):
     ]
     if items < 100_000:
         return row + ["-", "-", "-"]
-    return row + [f"{(memory - base) / items:.0f}"] + [pause(program, mode, items, times) for mode in ("purge", "all")]
+    return row + [f"{(memory - base) / (items - half):.0f}"] + [pause(program, mode, items, times) for mode in ("purge", "all")]
 
 
 def main():
