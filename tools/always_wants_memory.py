@@ -37,7 +37,7 @@ FAULTS = {
 
 
 # `serve` has no such answer: it counts each step as short.
-IN_PLACE_OF = {"serve": ("carry_out", "report.count_short(); return false;")}
+IN_PLACE_OF = {"serve": ("server.rt", "carry_out", "report.count_short(); return false;")}
 
 
 def body_at(text, call):
@@ -53,8 +53,8 @@ def body_at(text, call):
 
 def edited(folder, call):
     """Gives the call a body that always wants memory; whether it was found."""
-    function, body = IN_PLACE_OF.get(call, (call, None))
-    for file in sorted((folder / "src").rglob("*.rt")):
+    place, function, body = IN_PLACE_OF.get(call, ("*.rt", call, None))
+    for file in sorted((folder / "src").rglob(place)):
         text = file.read_text()
         found = body_at(text, function)
         if not found:
