@@ -11,7 +11,7 @@ use Rattle.toml.specs.View.{view, items_view, members_view}
 use Rattle.toml.specs.declared.value.Value.{Value}
 use Rattle.toml.proofs.Views.{Entry, items_view-drop, table_get}
 use Rattle.fleet_pending.specs.declared.waiter.Addr.{Addr}
-use Rattle.fleet_site.specs.Setting.{Setting}
+use Rattle.fleet_site.specs.ConfigData.{ConfigData}
 use Rattle.dnsfleet.specs.Configuration.{Reading, ReadsText, ReadsAddress, ReadsTexts, ReadsListen, ReadsUpstreams, ReadsPeers, ReadsSweep, Says, SpellAddresses, are_texts, listen_in, upstreams_in, peers_in, sweep_in}
 use Rattle.dnsfleet.specs.declared.settings.SettingsFault.{SettingsFault}
 use Rattle.dnsfleet.specs.declared.settings.SettingsFault.TheVariants.{BadAddress}
@@ -90,5 +90,5 @@ pub sweep_at : (es : List Entry) (reading : Reading ℕ) (r : Option (Bor Value)
 sweep_at es reading r found h = at_key (λ v. ReadsSweep v reading) (codes "sweep") es r found h
 
 -- the addresses of what is said are those of the setting that was made of them
-pub says_of : (table : Members) (listen : Addr) (upstreams peers : List Addr) (sweep : ℕ) (s : Setting) → s ≡ record { upstreams = upstreams; peers = peers } → Says table listen upstreams peers sweep → Says table listen s.upstreams s.peers sweep
-says_of table listen upstreams peers sweep s e h = subst (λ (x : Setting). Says table listen x.upstreams x.peers sweep) (sym e) h
+pub says_of : (table : Members) (listen : Addr) (upstreams peers : List Addr) (sweep : ℕ) (s : ConfigData) → s ≡ record { upstreams = upstreams; peers = peers } → Says table listen upstreams peers sweep → Says table listen s.upstreams s.peers sweep
+says_of table listen upstreams peers sweep s e h = subst (λ (x : ConfigData). Says table listen x.upstreams x.peers sweep) (sym e) h

@@ -8,6 +8,8 @@ use Rattle.fleet_site.specs.Config.{SettingFails}
 use Rattle.fleet_site.specs.declared.config.ConfigFault.{ConfigFault}
 use Rattle.fleet_site.specs.declared.config.ConfigFault.TheVariants as pair
 use Rattle.dnsfleet.specs.Words.{SpellsAddress}
+use Rattle.dnsfleet.specs.declared.fleet.TheConstants.{LOOPBACK}
+use Rattle.dnsfleet.specs.declared.settings.TheConstants.{LONGEST_CONFIGURATION, USUAL_SWEEP, LONGEST_SWEEP}
 use Rattle.dnsfleet.specs.declared.settings.Settings.{Settings}
 use Rattle.dnsfleet.specs.declared.settings.SettingsFault.{SettingsFault}
 use Rattle.dnsfleet.specs.declared.settings.SettingsFault.TheVariants.{TooLong, NotToml, UnknownKey, MissingKey, WrongKind, BadAddress, NotLoopback, BadSweep, NoUpstream, TooManyUpstreams, TooManyPeers, AddressTwice, OutOfMemory}
@@ -45,9 +47,9 @@ ReadsAddress value reading = ReadsText (as_str value) reading
 -- `listen` has to be there, and be an address of 127.0.0.1
 abbrev pub ReadsListen : Option Data → Reading Addr → Type 0
 ReadsListen None reading = reading ≡ Err MissingKey
-ReadsListen (Some value) (Ok addr) = ReadsAddress value (Ok addr) × (addr.host ≡ 0x7f000001)
+ReadsListen (Some value) (Ok addr) = ReadsAddress value (Ok addr) × (addr.host ≡ LOOPBACK)
 ReadsListen (Some value) (Err fault) = ReadsAddress value (Err fault)
-    ⊎ ((addr : Addr) × ReadsAddress value (Ok addr) × (addr.host ≢ 0x7f000001)
+    ⊎ ((addr : Addr) × ReadsAddress value (Ok addr) × (addr.host ≢ LOOPBACK)
     × (fault ≡ NotLoopback))
 
 -- a list whose entries are all texts
@@ -86,16 +88,16 @@ abbrev pub ReadsPeers : Option Data → Reading (List Addr) → Type 0
 ReadsPeers None reading = reading ≡ Ok []
 ReadsPeers (Some value) reading = ReadsItems (as_array value) reading
 
--- a whole number of 0 to 3600
+-- a whole number of 0 to the longest
 abbrev pub ReadsNumber : Option ℤ → Reading ℕ → Type 0
 ReadsNumber None reading = reading ≡ Err WrongKind
-ReadsNumber (Some number) (Ok sweep) = (number ≡ pos sweep) × (sweep ≤ 3600)
+ReadsNumber (Some number) (Ok sweep) = (number ≡ pos sweep) × (sweep ≤ LONGEST_SWEEP)
 ReadsNumber (Some number) (Err fault) =
-    (fault ≡ BadSweep) × ((sweep : ℕ) → number ≡ pos sweep → 3600 < sweep)
+    (fault ≡ BadSweep) × ((sweep : ℕ) → number ≡ pos sweep → LONGEST_SWEEP < sweep)
 
--- without `sweep` it is 30
+-- without `sweep` it is the usual one
 abbrev pub ReadsSweep : Option Data → Reading ℕ → Type 0
-ReadsSweep None reading = reading ≡ Ok 30
+ReadsSweep None reading = reading ≡ Ok USUAL_SWEEP
 ReadsSweep (Some value) reading = ReadsNumber (as_integer value) reading
 
 -- the fault of upstreams and peers together
@@ -167,9 +169,12 @@ pub record IsTable (octets : List ℕ) (table : Members) : Type 0 where
 -- what octets are read as: their number is looked at first, and memory may run out while they are
 -- read
 pub data ReadsSettings (octets : List ℕ) (reading : Reading Settings) : Type 0 where
-  too_long : 65536 < length octets → reading ≡ Err TooLong → ReadsSettings octets reading
-  no_memory : length octets ≤ 65536 → reading ≡ Err OutOfMemory → ReadsSettings octets reading
-  no_toml : length octets ≤ 65536 → ((table : Members) → IsTable octets table → ⊥)
-      → reading ≡ Err NotToml → ReadsSettings octets reading
-  in_table : length octets ≤ 65536 → (table : Members) → IsTable octets table
+  too_long : LONGEST_CONFIGURATION < length octets → reading ≡ Err TooLong
+      → ReadsSettings octets reading
+  no_memory : length octets ≤ LONGEST_CONFIGURATION → reading ≡ Err OutOfMemory
+      → ReadsSettings octets reading
+  no_toml : length octets ≤ LONGEST_CONFIGURATION
+      → ((table : Members) → IsTable octets table → ⊥) → reading ≡ Err NotToml
+      → ReadsSettings octets reading
+  in_table : length octets ≤ LONGEST_CONFIGURATION → (table : Members) → IsTable octets table
       → ReadsTable table reading → ReadsSettings octets reading

@@ -6,7 +6,7 @@ use Rattle.rand_chacha.specs.ChaCha.{of_seed, next_word}
 use Rattle.fleet_site.specs.PortRecord.{PortState}
 use Rattle.fleet_site.specs.Served.{Served, FollowsSteps}
 use Rattle.fleet_site.specs.StandsFor.{StandsFor, opening}
-use Rattle.fleet_site.specs.State.{State}
+use Rattle.fleet_site.specs.SiteData.{SiteData}
 use Rattle.fleet_site.specs.declared.report.Report.{Report}
 use Rattle.dnsfleet.specs.declared.settings.Settings.{Settings}
 
@@ -18,8 +18,8 @@ words_of key = stream_of (steps_u32 (next_word 10)) (of_seed key)
 -- settings say, by a site that took nothing in before; over them it follows the model's steps
 pub record ServesNew (old new : PortState) (moments : Option (ℕ → ℕ)) (key : List ℕ) (turns : ℕ)
     (settings : Settings) (report : Report) : Type 0 where
-  pub site : State
-  pub after : State
+  pub site : SiteData
+  pub after : SiteData
   pub opens : StandsFor site (opening settings.config.upstreams settings.config.peers)
   pub run : Served old new moments (words_of key) turns settings.sweep site after report
   pub follows : FollowsSteps site after

@@ -7,11 +7,12 @@ use Rattle.std.specs.Net.Grammar.{IsDotted}
 use Rattle.std.specs.Str.Parse.{digits_value}
 use Rattle.fleet_pending.specs.declared.waiter.Addr.{Addr}
 use Rattle.hex.specs.Hex.{decode_of}
+use Rattle.dnsfleet.specs.declared.words.TheConstants.{MOST_DIGITS}
 
 -- a whole number: 1 to 13 decimal digits
 pub record IsNumber (word : List ℕ) : Type 0 where
   pub some : 1 ≤ length word
-  pub short : length word ≤ 13
+  pub short : length word ≤ MOST_DIGITS
   pub digits : AllPass is_ascii_digit word
 
 -- what it counts

@@ -3,7 +3,8 @@
 ghost use Rattle.std.specs.Prelude.{◌≡◌, ◌⊎◌, ◌↔◌, ◌<◌, ◌≤◌, IsSome, IsNone, IsOk, IfOk, IfErr, OnOk, IsErrOf};
 ghost use Rattle.fleet_world.specs.FleetModel.{opening};
 ghost use Rattle.fleet_world.specs.StandsFor.{StandsFor};
-ghost use Rattle.dnsfleet.specs.Settings.{local, peers_of, setting_of, settings_of, upstreams};
+ghost use Rattle.dnsfleet.specs.Settings.{local, peers_of, config_of, configs_of, upstreams};
+ghost use Rattle.dnsfleet.specs.declared.words.TheConstants.{MOST_SITES};
 
 use crate::fault::What;
 use crate::words::SiteCount;
@@ -13,7 +14,7 @@ use fleet_world::World;
 use std::alloc::{AllocError, Allocator};
 
 /// The address 127.0.0.1, at which all stand.
-const LOOPBACK: u32 = 0x7f00_0001;
+pub const LOOPBACK: u32 = 0x7f00_0001;
 
 /// The port of the first upstream of every site.
 const FIRST_UPSTREAM_PORT: u16 = 5301;
@@ -104,8 +105,8 @@ fn local_address(port: u16) -> Addr
 
 /// So many new sites.
 fn new_world<A: Allocator + Copy>(alloc: A, count: usize) -> Result<World<A>, AllocError>
-    requires { count ≤ 9 }
-    ensures { IfOk result (λ world. StandsFor world (opening (settings_of count count))) }
+    requires { count ≤ MOST_SITES }
+    ensures { IfOk result (λ world. StandsFor world (opening (configs_of count count))) }
 {
     let mut configs = Vec::with_capacity(alloc, count)?;
     for site in 0..count {
@@ -120,8 +121,8 @@ fn new_config<A: Allocator + Copy>(
     count: usize,
     site: usize,
 ) -> Result<Config<A>, AllocError>
-    requires { count ≤ 9 }
-    ensures { IfOk result (λ config. config ≡ setting_of count site) }
+    requires { count ≤ MOST_SITES }
+    ensures { IfOk result (λ config. config ≡ config_of count site) }
 {
     let upstreams = new_upstreams(alloc)?;
     let peers = new_peers(alloc, count, site)?;
@@ -147,7 +148,7 @@ fn new_peers<A: Allocator + Copy>(
     count: usize,
     site: usize,
 ) -> Result<Vec<Addr, A>, AllocError>
-    requires { count ≤ 9 }
+    requires { count ≤ MOST_SITES }
     ensures { IfOk result (λ peers. peers.items ≡ peers_of site count) }
 {
     let mut peers = Vec::with_capacity(alloc, count)?;

@@ -5,6 +5,7 @@ ghost use Rattle.toml.specs.Data.{as_array};
 ghost use Rattle.toml.specs.View.{view, table_view, array_view, items_view};
 ghost use Rattle.dnsfleet.specs.Configuration.{ReadsSettings, ReadsTable, HasKeys, IsKey, fault_of, ReadsListen, ReadsUpstreams, ReadsPeers, ReadsSweep, ReadsAddress, ReadsItems, ReadsTexts, are_texts, vec_read};
 
+use crate::fleet::LOOPBACK;
 use crate::words::address;
 use fleet_pending::Addr;
 use fleet_site::{Config, ConfigFault};
@@ -14,9 +15,6 @@ use toml::{Table, Value};
 
 /// How many octets a configuration has at most.
 pub const LONGEST_CONFIGURATION: usize = 65536;
-
-/// The address at which a server listens.
-const LOOPBACK: u32 = 0x7f00_0001;
 
 /// How many seconds lie between two sweeps, where the configuration does not say.
 const USUAL_SWEEP: u32 = 30;

@@ -4,12 +4,10 @@ ghost use Rattle.std.specs.Prelude.{◌≡◌, None};
 ghost use Rattle.dnsfleet.specs.Moments.{moment_in, moment_after};
 
 use fleet_observe::Moment;
+use fleet_observe::bounds::LATEST;
 use fleet_site::Clock;
 use std::time::Duration;
 use std::{io, time};
-
-/// The seconds of the latest moment.
-const LATEST: u64 = 1 << 40;
 
 /// A clock of the system. Moments are its seconds since 1970, at most 2^40; where it can't be read,
 /// the last moment again, and 0 where there was none.

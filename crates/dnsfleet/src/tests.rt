@@ -14,51 +14,50 @@ mod settings;
 mod told;
 
 use crate::{ScriptFault, What, end_script, run_script};
-use datagrams::DATAGRAMS;
-use examples::Example;
-use frames::FRAMES;
-use questions::QUESTIONS;
+use examples::{Example, all_examples, example_of};
 use readers::{Failing, Full, Slow};
 use std::alloc::Global;
+use std::io::Read;
 use std::process::{Abort, ExitCode};
 use std::test::Fail;
 use told::Told;
 
+/// Runs the lines that a reader gives, which are all done, and compares what they print.
+fn check_reader<R: Read>(
+    rt: &impl Abort,
+    alloc: Global,
+    reader: &mut R,
+    wanted: &str,
+    shows: &str,
+) {
+    let mut printed = Vec::new(alloc);
+    assert_eq!(rt; run_script(alloc, reader, &mut printed), Ok(()), "{shows}");
+    assert_eq!(rt; printed.as_slice(), wanted.as_bytes(), "{shows}");
+}
+
 /// Runs an example: its lines at once, and octet by octet with an interruption.
 fn check_example(rt: &impl Abort, alloc: Global, example: &Example) -> Result<(), Fail> {
     let (lines, wanted) = example.parts(alloc)?;
-    let shows = example.shows;
-    let mut printed = Vec::new(alloc);
-    let mut reader = lines.as_bytes();
-    assert_eq!(rt;
-        run_script(alloc, &mut reader, &mut printed),
-        Ok(()),
-        "{shows}"
-    );
-    assert_eq!(rt; printed.as_slice(), wanted.as_bytes(), "{shows}");
-    let mut printed = Vec::new(alloc);
-    let mut reader = Slow {
+    let mut slow = Slow {
         rest: lines.as_bytes(),
         interrupted: false,
     };
-    assert_eq!(rt;
-        run_script(alloc, &mut reader, &mut printed),
-        Ok(()),
-        "{shows}"
+    check_reader(
+        rt,
+        alloc,
+        &mut lines.as_bytes(),
+        wanted.as_str(),
+        example.shows,
     );
-    assert_eq!(rt; printed.as_slice(), wanted.as_bytes(), "{shows}");
+    check_reader(rt, alloc, &mut slow, wanted.as_str(), example.shows);
     Ok(())
 }
 
 #[test]
 fn prints_the_examples(rt: HostRuntime) -> Result<(), Fail> {
-    for example in &QUESTIONS {
-        check_example(&rt, rt.alloc(), example)?;
-    }
-    for example in &DATAGRAMS {
-        check_example(&rt, rt.alloc(), example)?;
-    }
-    for example in &FRAMES {
+    let examples = all_examples(rt.alloc())?;
+    assert_eq!(rt; examples.len(), 55);
+    for example in &examples {
         check_example(&rt, rt.alloc(), example)?;
     }
     Ok(())
@@ -66,10 +65,7 @@ fn prints_the_examples(rt: HostRuntime) -> Result<(), Fail> {
 
 /// Runs lines that are all done, and compares what they print.
 fn check_lines(rt: &impl Abort, alloc: Global, lines: &str, wanted: &str) {
-    let mut printed = Vec::new(alloc);
-    let mut reader = lines.as_bytes();
-    assert_eq!(rt; run_script(alloc, &mut reader, &mut printed), Ok(()));
-    assert_eq!(rt; printed.as_slice(), wanted.as_bytes());
+    check_reader(rt, alloc, &mut lines.as_bytes(), wanted, "lines");
 }
 
 /// A reply with two aliases and a denial, in hexadecimal digits.
@@ -189,96 +185,119 @@ fn asks_at_most_256_questions(rt: HostRuntime) -> Result<(), Fail> {
     Ok(())
 }
 
-/// Scripts with a line at fault: the line, what is wrong with it, and what was printed before.
-const FAULTY: [(&'static [u8], u64, What, &'static str); 42] = [
-    (b"# caf\xc3\xa9\n", 1, What::NotAscii, ""),
-    (b"\n\xff\n", 2, What::NotAscii, ""),
-    (b"\n# a comment\n\nlern 0", 4, What::UnknownEvent, ""),
-    (b" show 0\n", 1, What::UnknownEvent, ""),
-    (b"show 0\r\n", 1, What::BadNumber, ""),
-    (b"show\n", 1, What::WordCount, ""),
-    (b"show  0\n", 1, What::WordCount, ""),
-    (b"ask 0 0 - 1 2 3 4 5\n", 1, What::WordCount, ""),
-    (b"nothing 0 0 - 1 2 3 4 5\n", 1, What::UnknownEvent, ""),
-    (b"show +1\n", 1, What::BadNumber, ""),
-    (b"show \n", 1, What::BadNumber, ""),
-    (b"show 00000000000000\n", 1, What::BadNumber, ""),
-    (b"show 9999999999999\n", 1, What::NoSuchSite, ""),
-    (b"ask 0 1099511627777 -\n", 1, What::BadNumber, ""),
-    (b"ask x 0 g\n", 1, What::BadNumber, ""),
-    (b"ask 1 0 0g\n", 1, What::BadHex, ""),
-    (b"learn 0 0 \n", 1, What::BadHex, ""),
-    (b"learn 0 0 123\n", 1, What::BadHex, ""),
-    (b"learn 1 0 -\n", 1, What::NoSuchSite, ""),
-    (b"sites 0\n", 1, What::BadNumber, ""),
-    (b"sites 10\n", 1, What::BadNumber, ""),
-    (b"sites 1\nsites 10\n", 2, What::BadNumber, ""),
-    (b"# none\nsites 2\nsites 2\n", 3, What::SitesNotFirst, ""),
-    (b"tick 0 0\nsites 1\n", 2, What::SitesNotFirst, "idle\n"),
-    (b"sites 2\nshow 2\n", 2, What::NoSuchSite, ""),
-    (b"sites 2\nmerge 1 2\n", 2, What::NoSuchSite, ""),
-    (b"sites 2\nmerge 2 1\n", 2, What::NoSuchSite, ""),
-    (b"sites 9\nsame 9 0\n", 2, What::NoSuchSite, ""),
-    (b"same 0 1\n", 1, What::NoSuchSite, ""),
-    (b"tick 1 0\n", 1, What::NoSuchSite, ""),
-    (b"sweep 1\n", 1, What::NoSuchSite, ""),
-    (b"restart 1\n", 1, What::NoSuchSite, ""),
-    (b"frame 1 0 -\n", 1, What::NoSuchSite, ""),
-    (b"deliver 0 0 0\n", 1, What::NoSuchFrame, ""),
-    (b"deliver 1 0 0\n", 1, What::NoSuchSite, ""),
-    (b"deliver 0 0 9999999999999\n", 1, What::NoSuchFrame, ""),
-    (b"datagram 1 0 0.0.0.0:1 0 -\n", 1, What::NoSuchSite, ""),
-    (b"datagram 0 x 1.2.3 0 -\n", 1, What::BadNumber, ""),
-    (b"datagram 0 0 1.2.3:1 x g\n", 1, What::BadAddress, ""),
-    (b"datagram 0 0 1.2.3.4:1 65536 g\n", 1, What::BadNumber, ""),
-    (b"datagram 0 0 1.2.3.4:1 65535 g\n", 1, What::BadHex, ""),
-    (
-        b"ask 0 1099511627776 -\nlearn 0000000000000 0 -\nask 0 0 - -\n",
-        3,
-        What::WordCount,
-        "dropped\nrefused read TooShort\n",
-    ),
-];
+/// Scripts with a line at fault, `/` in place of each LF; what is told of it; and what was printed
+/// before.
+const FAULTY: &str = "\
+# café/ => line 1: not ASCII
+/# a comment//lern 0 => line 4: unknown event
+ show 0/ => line 1: unknown event
+show 0\r/ => line 1: bad number
+show/ => line 1: wrong number of words
+show  0/ => line 1: wrong number of words
+ask 0 0 - 1 2 3 4 5/ => line 1: wrong number of words
+nothing 0 0 - 1 2 3 4 5/ => line 1: unknown event
+show +1/ => line 1: bad number
+show / => line 1: bad number
+show 00000000000000/ => line 1: bad number
+show 9999999999999/ => line 1: no such site
+ask 0 1099511627777 -/ => line 1: bad number
+ask x 0 g/ => line 1: bad number
+ask 1 0 0g/ => line 1: bad hex
+learn 0 0 / => line 1: bad hex
+learn 0 0 123/ => line 1: bad hex
+learn 1 0 -/ => line 1: no such site
+sites 0/ => line 1: bad number
+sites 10/ => line 1: bad number
+sites 1/sites 10/ => line 2: bad number
+# none/sites 2/sites 2/ => line 3: sites must come first
+tick 0 0/sites 1/ => line 2: sites must come first => idle/
+sites 2/show 2/ => line 2: no such site
+sites 2/merge 1 2/ => line 2: no such site
+sites 2/merge 2 1/ => line 2: no such site
+sites 9/same 9 0/ => line 2: no such site
+same 0 1/ => line 1: no such site
+tick 1 0/ => line 1: no such site
+sweep 1/ => line 1: no such site
+restart 1/ => line 1: no such site
+frame 1 0 -/ => line 1: no such site
+deliver 0 0 0/ => line 1: no such frame
+deliver 1 0 0/ => line 1: no such site
+deliver 0 0 9999999999999/ => line 1: no such frame
+datagram 1 0 0.0.0.0:1 0 -/ => line 1: no such site
+datagram 0 x 1.2.3 0 -/ => line 1: bad number
+datagram 0 0 1.2.3:1 x g/ => line 1: bad address
+datagram 0 0 1.2.3.4:1 65536 g/ => line 1: bad number
+datagram 0 0 1.2.3.4:1 65535 g/ => line 1: bad hex
+ask 0 1099511627776 -/learn 0000000000000 0 -/ask 0 0 - -/ => line 3: wrong number of words => dropped/refused read TooShort/
+";
 
-#[test]
-fn tells_each_fault(rt: HostRuntime) -> Result<(), Fail> {
-    for (lines, line, what, told) in FAULTY {
-        let mut reader = lines;
-        let mut printed = Vec::new(rt.alloc());
-        let fault = run_script(rt.alloc(), &mut reader, &mut printed);
-        assert_eq!(rt; fault, Err(ScriptFault { line, what }));
-        assert_eq!(rt; printed.as_slice(), told.as_bytes());
+/// A text with an LF in place of each `/`.
+fn with_line_feeds(alloc: Global, text: &str) -> Result<String, Fail> {
+    let mut lines = String::new(alloc);
+    for letter in text.chars() {
+        lines.push(if letter == '/' { '\n' } else { letter })?;
     }
+    Ok(lines)
+}
+
+/// Runs lines with a fault, and compares what is told of it, and what was printed before.
+fn check_fault(
+    rt: &impl Abort,
+    alloc: Global,
+    lines: &[u8],
+    told: &str,
+    before: &str,
+) -> Result<(), Fail> {
+    let mut reader = lines;
+    let mut printed = Vec::new(alloc);
+    let fault = match run_script(alloc, &mut reader, &mut printed) {
+        Ok(()) => return Err("no fault".into()),
+        Err(fault) => format!(in alloc; "{fault}")?,
+    };
+    assert_eq!(rt; fault.as_str(), told);
+    assert_eq!(rt; printed.as_slice(), before.as_bytes(), "{told}");
     Ok(())
 }
 
+/// Checks a row of the table of faults.
+fn check_row(rt: &impl Abort, alloc: Global, row: &str) -> Result<(), Fail> {
+    let (script, told) = row.split_once(" => ").ok_or("no fault")?;
+    let (told, before) = told.split_once(" => ").unwrap_or((told, ""));
+    let script = with_line_feeds(alloc, script)?;
+    let before = with_line_feeds(alloc, before)?;
+    check_fault(rt, alloc, script.as_bytes(), told, before.as_str())
+}
+
+#[test]
+fn tells_each_fault(rt: HostRuntime) -> Result<(), Fail> {
+    let mut count = 0u32;
+    for row in FAULTY.split_terminator('\n') {
+        check_row(&rt, rt.alloc(), row)?;
+        count = count.saturating_add(1);
+    }
+    assert_eq!(rt; count, 41);
+    check_fault(&rt, rt.alloc(), b"\n\xff\n", "line 2: not ASCII", "")
+}
+
+/// Words that are addresses.
+const ADDRESSES: &str = "0.0.0.0:1 255.255.255.255:65535 127.0.0.1:5301";
+
+/// Words that are none, the first of them empty.
+const NO_ADDRESSES: &str = " \
+    127.0.0.1 127.0.0.1: 127.0.0.1:0 127.0.0.1:01 127.0.0.1:65536 127.0.0.1:5301:1 \
+    127.0.0.01:5301 127.0.0.256:5301 127.0.0:5301 127.0.0.1.1:5301 localhost:5301";
+
 #[test]
 fn reads_addresses(rt: HostRuntime) -> Result<(), Fail> {
-    for (word, wanted) in [
-        ("0.0.0.0:1", Ok(())),
-        ("255.255.255.255:65535", Ok(())),
-        ("127.0.0.1:5301", Ok(())),
-        ("127.0.0.1", Err(What::BadAddress)),
-        ("127.0.0.1:", Err(What::BadAddress)),
-        ("127.0.0.1:0", Err(What::BadAddress)),
-        ("127.0.0.1:01", Err(What::BadAddress)),
-        ("127.0.0.1:65536", Err(What::BadAddress)),
-        ("127.0.0.1:5301:1", Err(What::BadAddress)),
-        ("127.0.0.01:5301", Err(What::BadAddress)),
-        ("127.0.0.256:5301", Err(What::BadAddress)),
-        ("127.0.0:5301", Err(What::BadAddress)),
-        ("127.0.0.1.1:5301", Err(What::BadAddress)),
-        ("localhost:5301", Err(What::BadAddress)),
-        ("", Err(What::BadAddress)),
-    ] {
+    for word in ADDRESSES.split(' ') {
         let line = format!(in rt.alloc(); "datagram 0 0 {word} 0 -")?;
         let mut printed = Vec::new(rt.alloc());
         let ended = run_script(rt.alloc(), &mut line.as_bytes(), &mut printed);
-        assert_eq!(rt;
-            ended,
-            wanted.map_err(|what| ScriptFault { line: 1, what }),
-            "{word}"
-        );
+        assert_eq!(rt; ended, Ok(()), "{word}");
+    }
+    for word in NO_ADDRESSES.split(' ') {
+        let line = format!(in rt.alloc(); "datagram 0 0 {word} 0 -")?;
+        check_fault(&rt, rt.alloc(), line.as_bytes(), "line 1: bad address", "")?;
     }
     Ok(())
 }
@@ -306,9 +325,14 @@ fn bounds_a_line(rt: HostRuntime) -> Result<(), Fail> {
     Ok(())
 }
 
+/// What the example shows whose first line is read and printed.
+const FIRST_EXAMPLE: &str =
+    "a reply is learnt, and answers ten seconds later with a TTL that is ten less";
+
 #[test]
 fn tells_of_its_reader_and_writer(rt: HostRuntime) -> Result<(), Fail> {
-    let (lines, wanted) = QUESTIONS[0].parts(rt.alloc())?;
+    let example = example_of(rt.alloc(), FIRST_EXAMPLE)?;
+    let (lines, wanted) = example.parts(rt.alloc())?;
     for (rest, line, told) in [
         ("", 1, ""),
         (lines.as_str(), 3, wanted.as_str()),
@@ -331,21 +355,34 @@ fn tells_of_its_reader_and_writer(rt: HostRuntime) -> Result<(), Fail> {
     Ok(())
 }
 
+/// A script that ends so gives this status, and this is told.
+fn check_end(
+    rt: &impl Abort,
+    alloc: Global,
+    ended: Result<(), ScriptFault>,
+    status: u8,
+    errors: &str,
+) -> Result<(), Fail> {
+    let told = Told::new(alloc);
+    assert!(rt; end_script(&told, ended)? == ExitCode::from(status));
+    assert_eq!(rt; told.errors.try_borrow()?.as_str(), errors);
+    Ok(())
+}
+
 #[test]
 fn ends_with_a_status(rt: HostRuntime) -> Result<(), Fail> {
-    let told = Told::new(rt.alloc());
-    assert!(rt; end_script(&told, Ok(()))? == ExitCode::SUCCESS);
-    assert_eq!(rt; told.errors.try_borrow()?.as_str(), "");
     let fault = ScriptFault {
         line: 7,
         what: What::BadHex,
     };
-    assert!(rt; end_script(&told, Err(fault))? == ExitCode::from(1));
-    assert_eq!(rt;
-        told.errors.try_borrow()?.as_str(),
-        "dnsfleet: line 7: bad hex\n"
-    );
-    Ok(())
+    check_end(&rt, rt.alloc(), Ok(()), 0, "")?;
+    check_end(
+        &rt,
+        rt.alloc(),
+        Err(fault),
+        1,
+        "dnsfleet: line 7: bad hex\n",
+    )
 }
 
 #[test]

@@ -6,6 +6,8 @@ ghost use Rattle.std.specs.List.{AllPass};
 ghost use Rattle.std.specs.Option.{SomeIff};
 ghost use Rattle.hex.specs.Hex.{is_hex_digit};
 ghost use Rattle.dnsfleet.specs.Words.{IsNumber, number_of, IsPort, SpellsAddress, SpellsOctets};
+ghost use Rattle.dnsfleet.specs.declared.words.TheConstants.{MOST_SITES};
+ghost use Rattle.fleet_observe.specs.declared.bounds.TheConstants.{LATEST};
 ghost use Rattle.fleet_pending.specs.declared.waiter.Addr.{Addr};
 
 use fleet_name::Octets;
@@ -14,6 +16,9 @@ use fleet_pending::Addr;
 use std::alloc::{AllocError, Allocator};
 use std::marker::Model;
 use std::net::Ipv4Addr;
+
+/// How many digits a number has at most.
+const MOST_DIGITS: usize = 13;
 
 /// How many sites there may be.
 pub const MOST_SITES: usize = 9;
@@ -36,7 +41,7 @@ fn are_hex_digits(word: &[u8]) -> bool
 pub fn number(word: &str) -> Option<usize>
     ensures { SomeIff result (IsNumber word.now) (number_of word.now) }
 {
-    if word.len() > 13 || !are_digits(word.as_bytes()) {
+    if word.len() > MOST_DIGITS || !are_digits(word.as_bytes()) {
         return None;
     }
     word.parse().ok()
@@ -44,7 +49,7 @@ pub fn number(word: &str) -> Option<usize>
 
 /// A moment: a number of seconds, at most 2^40.
 pub fn moment(word: &str) -> Option<Moment>
-    ensures { SomeIff result (IsNumber word.now × (number_of word.now ≤ 2 ^ 40))
+    ensures { SomeIff result (IsNumber word.now × (number_of word.now ≤ LATEST))
         (number_of word.now) }
 {
     Moment::new(number(word)? as u64)
@@ -56,13 +61,13 @@ pub struct SiteCount {
     /// The number.
     pub value: usize,
     ghost some: { 1 ≤ value },
-    ghost few: { value ≤ 9 },
+    ghost few: { value ≤ MOST_SITES },
 }
 
 /// A number of sites: 1 to 9.
 pub fn site_count(word: &str) -> Option<SiteCount>
     ensures valid { IsSome result
-        ↔ (IsNumber word.now × (1 ≤ number_of word.now) × (number_of word.now ≤ 9)) }
+        ↔ (IsNumber word.now × (1 ≤ number_of word.now) × (number_of word.now ≤ MOST_SITES)) }
     ensures value { IfSome result (λ count. count.value ≡ number_of word.now) }
 {
     let value = number(word)?;

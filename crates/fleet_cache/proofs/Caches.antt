@@ -5,35 +5,37 @@ use Rattle.std.proofs.Math.Seq.{take-append_seam}
 use Rattle.std.specs.Result.{is_ok, is_err}
 use Rattle.std.proofs.lemmas.Bool.Decides.{nat_tests}
 use Rattle.fleet_observe.specs.Members.{Has}
-use Rattle.fleet_observe.specs.Fact.{Fact, IsFact, AreFacts}
-use Rattle.fleet_cache.specs.Front.{IsDescending, IsUndominated, IsFront, shown}
-use Rattle.fleet_cache.specs.Live.{hidden}
+use Rattle.fleet_observe.specs.Observation.{ObservationData, IsObservation, AreObservations}
+use Rattle.fleet_cache.specs.Front.{IsDescending, IsUndominated, IsFront, without_hidden}
+use Rattle.fleet_cache.specs.Live.{has_ended}
 use Rattle.fleet_cache.specs.Dominates.{dominates}
-use Rattle.fleet_cache.specs.Cached.{place, Held, IsCached, IsKept, IsCovered, IsNeedless, IsSameSet}
+use Rattle.fleet_cache.specs.Cached.{place, CacheData, IsCached, IsKept, IsCovered, IsNeedless, IsSameSet}
 use Rattle.fleet_cache.specs.Swept.{IsSwept}
-use Rattle.fleet_cache.proofs.Fronts.{bool_cases, climb, front_itself, front_shown, front_same, not_true, Has-append, Has-left, Has-right, Has-filter, Has-in_filter}
-use Rattle.fleet_cache.specs.Orders.{place_laws}
+use Rattle.fleet_cache.proofs.Places.{place_laws}
+use Rattle.std.proofs.lemmas.Bool.{cases_Bool, not-true}
+use Rattle.fleet_front.proofs.Lemmas.{climb, front_itself, front_shown, front_same}
+use Rattle.fleet_name.proofs.Lemmas.{Has-filter, Has-in_filter, has_left, has_right, has_either}
 
 -- what is shown later was shown before
-pub shown_twice : (f m : ℕ) (s : List Fact) → f ≤ m → shown hidden m (shown hidden f s) ≡ shown hidden m s
+pub shown_twice : (f m : ℕ) (s : List ObservationData) → f ≤ m → without_hidden has_ended m (without_hidden has_ended f s) ≡ without_hidden has_ended m s
 shown_twice f m [] le = refl
-shown_twice f m (x ∷ s) le = elim (bool_cases (hidden f x)) [
+shown_twice f m (x ∷ s) le = elim (cases_Bool (has_ended f x)) [
   | inl e ↦
-      let later : hidden m x ≡ true = grind (arith, nat_tests, e) in
+      let later : has_ended m x ≡ true = grind (arith, nat_tests, e) in
       rw (e, later) (shown_twice f m s le)
-  | inr e ↦ rw e (elim (bool_cases (hidden m x)) [
+  | inr e ↦ rw e (elim (cases_Bool (has_ended m x)) [
     | inl h ↦ rw h (shown_twice f m s le)
     | inr h ↦ rw h (ap (λ t. x ∷ t) (shown_twice f m s le))
   ])
 ]
 
 -- nothing of it has ended
-pub all_shown : (m : ℕ) (s : List Fact) → ((x : Fact) → Has s x → hidden m x ≡ false) → shown hidden m s ≡ s
+pub all_shown : (m : ℕ) (s : List ObservationData) → ((x : ObservationData) → Has s x → has_ended m x ≡ false) → without_hidden has_ended m s ≡ s
 all_shown m [] h = refl
 all_shown m (x ∷ s) h = rw (h x (inl refl)) (ap (λ t. x ∷ t) (all_shown m s (λ y k. h y (inr k))))
 
 -- one that is there, or is dominated
-front_covered : (s items : List Fact) (x : Fact) → IsCovered items x → IsFront place dominates s items → IsFront place dominates (x ∷ s) items
+front_covered : (s items : List ObservationData) (x : ObservationData) → IsCovered items x → IsFront place dominates s items → IsFront place dominates (x ∷ s) items
 front_covered s items x c front = record {
   descending = front.descending;
   of_set = λ y h. inr (front.of_set y h);
@@ -41,11 +43,11 @@ front_covered s items x c front = record {
   whole = λ y m free. elim m [ inl same ↦ by_cover y same free | inr old ↦ front.whole y old (λ w k. free w (inr k)) ];
 }
   where
-    above : (y : Fact) → Has items y → dominates c.0 y ≡ false
+    above : (y : ObservationData) → Has items y → dominates c.0 y ≡ false
     above y h = front.undominated y h c.0 (front.of_set c.0 c.1)
 
-    not_over : (y : Fact) → Has items y → dominates x y ≡ false
-    not_over y h = elim (bool_cases (dominates x y)) [
+    not_over : (y : ObservationData) → Has items y → dominates x y ≡ false
+    not_over y h = elim (cases_Bool (dominates x y)) [
       | inr nay ↦ nay
       | inl over ↦ elim c.2 [
         | inl same ↦ absurd (false≢true (sym (above y h) ∙ (ap (λ v. dominates v y) same ∙ over)))
@@ -53,27 +55,27 @@ front_covered s items x c front = record {
       ]
     ]
 
-    by_cover : (y : Fact) → x ≡ y → IsUndominated dominates (x ∷ s) y → Has items y
+    by_cover : (y : ObservationData) → x ≡ y → IsUndominated dominates (x ∷ s) y → Has items y
     by_cover y same free = elim c.2 [
       | inl here ↦ subst (Has items) (here ∙ same) c.1
       | inr far ↦ absurd (false≢true (sym (free c.0 (inr (front.of_set c.0 c.1))) ∙ (ap (dominates c.0) (sym same) ∙ far)))
     ]
 
-more_lawful : (s : List Fact) (x : Fact) → IsFact x → AreFacts s → AreFacts (x ∷ s)
-more_lawful s x one all o h = elim h [ inl same ↦ subst IsFact same one | inr old ↦ all o old ]
+more_lawful : (s : List ObservationData) (x : ObservationData) → IsObservation x → AreObservations s → AreObservations (x ∷ s)
+more_lawful s x one all o h = elim h [ inl same ↦ subst IsObservation same one | inr old ↦ all o old ]
 
-module _ (s items : List Fact) (f : ℕ) (x : Fact) (lawful : IsFact x) (cached : IsCached s f items) where
+module _ (s items : List ObservationData) (f : ℕ) (x : ObservationData) (lawful : IsObservation x) (cached : IsCached s f items) where
   -- an observation that has ended at the floor
-  pub cached_ended : hidden f x ≡ true → IsCached (x ∷ s) f items
+  pub cached_ended : has_ended f x ≡ true → IsCached (x ∷ s) f items
   cached_ended e = record { lawful = more_lawful s x lawful cached.lawful; front = rw e cached.front }
 
   -- one that is there, or is dominated
   pub cached_covered : IsCovered items x → IsCached (x ∷ s) f items
   cached_covered c = record {
     lawful = more_lawful s x lawful cached.lawful;
-    front = elim (bool_cases (hidden f x)) [
+    front = elim (cases_Bool (has_ended f x)) [
       | inl e ↦ rw e cached.front
-      | inr e ↦ rw e (front_covered (shown hidden f s) items x c cached.front)
+      | inr e ↦ rw e (front_covered (without_hidden has_ended f s) items x c cached.front)
     ];
   }
 
@@ -83,38 +85,38 @@ module _ (s items : List Fact) (f : ℕ) (x : Fact) (lawful : IsFact x) (cached 
   cached_needless (inr c) = cached_covered c
 
   -- one that has not
-  pub cached_put : (new : List Fact) → hidden f x ≡ false → IsFront place dominates (x ∷ shown hidden f s) new → IsCached (x ∷ s) f new
+  pub cached_put : (new : List ObservationData) → has_ended f x ≡ false → IsFront place dominates (x ∷ without_hidden has_ended f s) new → IsCached (x ∷ s) f new
   cached_put new e front = record { lawful = more_lawful s x lawful cached.lawful; front = rw e front }
 
 -- each item is of the set, and has not ended
-pub item_of_set : (s items : List Fact) (f : ℕ) → IsCached s f items → (x : Fact) → Has items x → Has s x × (hidden f x ≡ false)
-item_of_set s items f cached x h = let k = Has-filter (λ o. not (hidden f o)) s x (cached.front.of_set x h) in (k.0, not_true (hidden f x) k.1)
+pub item_of_set : (s items : List ObservationData) (f : ℕ) → IsCached s f items → (x : ObservationData) → Has items x → Has s x × (has_ended f x ≡ false)
+item_of_set s items f cached x h = let k = Has-filter (λ o. not (has_ended f o)) s x (cached.front.of_set x h) in (k.0, not-true (has_ended f x) k.1)
 
 -- no item has ended
-pub all_live : (s items : List Fact) (f : ℕ) → IsCached s f items → shown hidden f items ≡ items
+pub all_live : (s items : List ObservationData) (f : ℕ) → IsCached s f items → without_hidden has_ended f items ≡ items
 all_live s items f cached = all_shown f items (λ x h. (item_of_set s items f cached x h).1)
 
 -- the items are those of their own set
-pub cached_itself : (s items : List Fact) (f : ℕ) → IsCached s f items → IsCached items f items
+pub cached_itself : (s items : List ObservationData) (f : ℕ) → IsCached s f items → IsCached items f items
 cached_itself s items f cached = record {
   lawful = λ o h. cached.lawful o (item_of_set s items f cached o h).0;
-  front = subst (λ v. IsFront place dominates v items) (sym (all_shown f items (λ o h. (item_of_set s items f cached o h).1))) (front_itself place_laws (shown hidden f s) items cached.front);
+  front = subst (λ v. IsFront place dominates v items) (sym (all_shown f items (λ o h. (item_of_set s items f cached o h).1))) (front_itself place_laws (without_hidden has_ended f s) items cached.front);
 }
 
-pub cached_purged : (s items : List Fact) (f m : ℕ) → f ≤ m → IsCached s f items → IsCached s m (shown hidden m items)
+pub cached_purged : (s items : List ObservationData) (f m : ℕ) → f ≤ m → IsCached s f items → IsCached s m (without_hidden has_ended m items)
 cached_purged s items f m le cached = record {
   lawful = cached.lawful;
-  front = subst (λ v. IsFront place dominates v (shown hidden m items)) (shown_twice f m s le) (front_shown place_laws m (shown hidden f s) items cached.front);
+  front = subst (λ v. IsFront place dominates v (without_hidden has_ended m items)) (shown_twice f m s le) (front_shown place_laws m (without_hidden has_ended f s) items cached.front);
 }
 
 -- the items of a cache stand for its set: taken into another at no lower floor, they give the cache of both
-pub cached_both : (s u theirs items : List Fact) (f g : ℕ) → g ≤ f → IsCached u g theirs → IsCached (theirs ++ s) f items → IsCached (u ++ s) f items
+pub cached_both : (s u theirs items : List ObservationData) (f g : ℕ) → g ≤ f → IsCached u g theirs → IsCached (theirs ++ s) f items → IsCached (u ++ s) f items
 cached_both s u theirs items f g le from cached = record {
-  lawful = λ o h. elim (Has-append u s o h) [ inl l ↦ from.lawful o l | inr r ↦ cached.lawful o (Has-right theirs s o r) ];
+  lawful = λ o h. elim (has_either u s o h) [ inl l ↦ from.lawful o l | inr r ↦ cached.lawful o (has_right theirs s o r) ];
   front = record {
     descending = cached.front.descending;
     of_set = λ x h. widen x (cached.front.of_set x h);
-    undominated = λ x h w m. elim (bool_cases (dominates w x)) [
+    undominated = λ x h w m. elim (cases_Bool (dominates w x)) [
       | inr nay ↦ nay
       | inl over ↦ absurd (false≢true (sym (cached.front.undominated x h (peak w m).0 (peak w m).1) ∙ elim (peak w m).2 [
         | inl same ↦ ap (λ v. dominates v x) same ∙ over
@@ -125,141 +127,141 @@ cached_both s u theirs items f g le from cached = record {
   };
 }
   where
-    later : (x : Fact) → hidden f x ≡ false → hidden g x ≡ false
-    later x e = elim (bool_cases (hidden g x)) [ inr no_end ↦ no_end | inl end ↦ absurd (false≢true (sym e ∙ grind (arith, nat_tests, end))) ]
+    later : (x : ObservationData) → has_ended f x ≡ false → has_ended g x ≡ false
+    later x e = elim (cases_Bool (has_ended g x)) [ inr no_end ↦ no_end | inl end ↦ absurd (false≢true (sym e ∙ grind (arith, nat_tests, end))) ]
 
-    widen : (x : Fact) → Has (shown hidden f (theirs ++ s)) x → Has (shown hidden f (u ++ s)) x
-    widen x h = let k = Has-filter (λ o. not (hidden f o)) (theirs ++ s) x h in elim (Has-append theirs s x k.0) [
-      | inl l ↦ Has-in_filter (λ o. not (hidden f o)) (u ++ s) x (Has-left u s x (Has-filter (λ o. not (hidden g o)) u x (from.front.of_set x l)).0) k.1
-      | inr r ↦ Has-in_filter (λ o. not (hidden f o)) (u ++ s) x (Has-right u s x r) k.1
+    widen : (x : ObservationData) → Has (without_hidden has_ended f (theirs ++ s)) x → Has (without_hidden has_ended f (u ++ s)) x
+    widen x h = let k = Has-filter (λ o. not (has_ended f o)) (theirs ++ s) x h in elim (has_either theirs s x k.0) [
+      | inl l ↦ Has-in_filter (λ o. not (has_ended f o)) (u ++ s) x (has_left u s x (Has-filter (λ o. not (has_ended g o)) u x (from.front.of_set x l)).0) k.1
+      | inr r ↦ Has-in_filter (λ o. not (has_ended f o)) (u ++ s) x (has_right u s x r) k.1
     ]
 
     -- what dominates w, or w itself, among what is shown of theirs and s
-    peak : (w : Fact) → Has (shown hidden f (u ++ s)) w → (p : Fact) × Has (shown hidden f (theirs ++ s)) p × ((p ≡ w) ⊎ (dominates p w ≡ true))
-    peak w m = let k = Has-filter (λ o. not (hidden f o)) (u ++ s) w m in elim (Has-append u s w k.0) [
-      | inr r ↦ (w, Has-in_filter (λ o. not (hidden f o)) (theirs ++ s) w (Has-right theirs s w r) k.1, inl refl)
+    peak : (w : ObservationData) → Has (without_hidden has_ended f (u ++ s)) w → (p : ObservationData) × Has (without_hidden has_ended f (theirs ++ s)) p × ((p ≡ w) ⊎ (dominates p w ≡ true))
+    peak w m = let k = Has-filter (λ o. not (has_ended f o)) (u ++ s) w m in elim (has_either u s w k.0) [
+      | inr r ↦ (w, Has-in_filter (λ o. not (has_ended f o)) (theirs ++ s) w (has_right theirs s w r) k.1, inl refl)
       | inl l ↦
-          let there : Has (shown hidden g u) w = Has-in_filter (λ o. not (hidden g o)) u w l (ap not (later w (not_true _ k.1))) in
-          let c = climb place_laws (shown hidden g u) w in
-          let member : Has (shown hidden g u) c.0 = elim c.1 [ inl same ↦ subst (Has (shown hidden g u)) (sym same) there | inr far ↦ far.0 ] in
-          let seen : hidden f c.0 ≡ false = elim c.1 [
-            | inl same ↦ ap (hidden f) same ∙ not_true _ k.1
-            | inr far ↦ elim (bool_cases (hidden f c.0)) [ inr nay ↦ nay | inl end ↦ absurd (false≢true (sym (not_true _ k.1) ∙ place_laws.hides_below f c.0 w end far.1)) ]
+          let there : Has (without_hidden has_ended g u) w = Has-in_filter (λ o. not (has_ended g o)) u w l (ap not (later w (not-true _ k.1))) in
+          let c = climb place_laws (without_hidden has_ended g u) w in
+          let member : Has (without_hidden has_ended g u) c.0 = elim c.1 [ inl same ↦ subst (Has (without_hidden has_ended g u)) (sym same) there | inr far ↦ far.0 ] in
+          let seen : has_ended f c.0 ≡ false = elim c.1 [
+            | inl same ↦ ap (has_ended f) same ∙ not-true _ k.1
+            | inr far ↦ elim (cases_Bool (has_ended f c.0)) [ inr nay ↦ nay | inl end ↦ absurd (false≢true (sym (not-true _ k.1) ∙ place_laws.hides_below f c.0 w end far.1)) ]
           ] in
-          (c.0, Has-in_filter (λ o. not (hidden f o)) (theirs ++ s) c.0 (Has-left theirs s c.0 (from.front.whole c.0 member c.2)) (ap not seen), elim c.1 [ inl same ↦ inl same | inr far ↦ inr far.1 ])
+          (c.0, Has-in_filter (λ o. not (has_ended f o)) (theirs ++ s) c.0 (has_left theirs s c.0 (from.front.whole c.0 member c.2)) (ap not seen), elim c.1 [ inl same ↦ inl same | inr far ↦ inr far.1 ])
     ]
 
-    narrow : (x : Fact) → Has (shown hidden f (u ++ s)) x → IsUndominated dominates (shown hidden f (u ++ s)) x → Has (shown hidden f (theirs ++ s)) x
-    narrow x m free = let k = Has-filter (λ o. not (hidden f o)) (u ++ s) x m in elim (Has-append u s x k.0) [
-      | inr r ↦ Has-in_filter (λ o. not (hidden f o)) (theirs ++ s) x (Has-right theirs s x r) k.1
-      | inl l ↦ Has-in_filter (λ o. not (hidden f o)) (theirs ++ s) x (Has-left theirs s x (from.front.whole x (Has-in_filter (λ o. not (hidden g o)) u x l (ap not (later x (not_true _ k.1)))) (λ w h. elim (bool_cases (dominates w x)) [
+    narrow : (x : ObservationData) → Has (without_hidden has_ended f (u ++ s)) x → IsUndominated dominates (without_hidden has_ended f (u ++ s)) x → Has (without_hidden has_ended f (theirs ++ s)) x
+    narrow x m free = let k = Has-filter (λ o. not (has_ended f o)) (u ++ s) x m in elim (has_either u s x k.0) [
+      | inr r ↦ Has-in_filter (λ o. not (has_ended f o)) (theirs ++ s) x (has_right theirs s x r) k.1
+      | inl l ↦ Has-in_filter (λ o. not (has_ended f o)) (theirs ++ s) x (has_left theirs s x (from.front.whole x (Has-in_filter (λ o. not (has_ended g o)) u x l (ap not (later x (not-true _ k.1)))) (λ w h. elim (cases_Bool (dominates w x)) [
         | inr nay ↦ nay
-        | inl over ↦ elim (bool_cases (hidden f w)) [
-          | inl end ↦ absurd (false≢true (sym (not_true _ k.1) ∙ place_laws.hides_below f w x end over))
-          | inr seen ↦ free w (Has-in_filter (λ o. not (hidden f o)) (u ++ s) w (Has-left u s w (Has-filter (λ o. not (hidden g o)) u w h).0) (ap not seen))
+        | inl over ↦ elim (cases_Bool (has_ended f w)) [
+          | inl end ↦ absurd (false≢true (sym (not-true _ k.1) ∙ place_laws.hides_below f w x end over))
+          | inr seen ↦ free w (Has-in_filter (λ o. not (has_ended f o)) (u ++ s) w (has_left u s w (Has-filter (λ o. not (has_ended g o)) u w h).0) (ap not seen))
         ]
       ]))) k.1
     ]
 
 -- equal sets at equal floors are held alike
-pub cached_same : (s t xs ys : List Fact) (f : ℕ) → IsCached s f xs → IsCached t f ys → IsSameSet s t → xs ≡ ys
-cached_same s t xs ys f a b same = front_same place_laws (shown hidden f s) (shown hidden f t) xs ys a.front b.front
-    (λ z h. let k = Has-filter (λ o. not (hidden f o)) s z h in Has-in_filter (λ o. not (hidden f o)) t z (same.into z k.0) k.1)
-    (λ z h. let k = Has-filter (λ o. not (hidden f o)) t z h in Has-in_filter (λ o. not (hidden f o)) s z (same.back z k.0) k.1)
+pub cached_same : (s t xs ys : List ObservationData) (f : ℕ) → IsCached s f xs → IsCached t f ys → IsSameSet s t → xs ≡ ys
+cached_same s t xs ys f a b same = front_same place_laws (without_hidden has_ended f s) (without_hidden has_ended f t) xs ys a.front b.front
+    (λ z h. let k = Has-filter (λ o. not (has_ended f o)) s z h in Has-in_filter (λ o. not (has_ended f o)) t z (same.into z k.0) k.1)
+    (λ z h. let k = Has-filter (λ o. not (has_ended f o)) t z h in Has-in_filter (λ o. not (has_ended f o)) s z (same.back z k.0) k.1)
 
 -- the order in which a set is listed does not count
-pub cached_listed : (s t items : List Fact) (f : ℕ) → IsCached s f items → IsSameSet s t → IsCached t f items
+pub cached_listed : (s t items : List ObservationData) (f : ℕ) → IsCached s f items → IsSameSet s t → IsCached t f items
 cached_listed s t items f a same = record {
   lawful = λ o h. a.lawful o (same.back o h);
   front = record {
     descending = a.front.descending;
-    of_set = λ z h. let k = Has-filter (λ o. not (hidden f o)) s z (a.front.of_set z h) in Has-in_filter (λ o. not (hidden f o)) t z (same.into z k.0) k.1;
-    undominated = λ z h w m. let k = Has-filter (λ o. not (hidden f o)) t w m in a.front.undominated z h w (Has-in_filter (λ o. not (hidden f o)) s w (same.back w k.0) k.1);
-    whole = λ z m free. let k = Has-filter (λ o. not (hidden f o)) t z m in a.front.whole z (Has-in_filter (λ o. not (hidden f o)) s z (same.back z k.0) k.1) (λ w h. let j = Has-filter (λ o. not (hidden f o)) s w h in free w (Has-in_filter (λ o. not (hidden f o)) t w (same.into w j.0) j.1));
+    of_set = λ z h. let k = Has-filter (λ o. not (has_ended f o)) s z (a.front.of_set z h) in Has-in_filter (λ o. not (has_ended f o)) t z (same.into z k.0) k.1;
+    undominated = λ z h w m. let k = Has-filter (λ o. not (has_ended f o)) t w m in a.front.undominated z h w (Has-in_filter (λ o. not (has_ended f o)) s w (same.back w k.0) k.1);
+    whole = λ z m free. let k = Has-filter (λ o. not (has_ended f o)) t z m in a.front.whole z (Has-in_filter (λ o. not (has_ended f o)) s z (same.back z k.0) k.1) (λ w h. let j = Has-filter (λ o. not (has_ended f o)) s w h in free w (Has-in_filter (λ o. not (has_ended f o)) t w (same.into w j.0) j.1));
   };
 }
 
 -- one more of a list was taken
-more_same : (ys s : List Fact) (x : Fact) → IsSameSet (x ∷ (ys ++ s)) ((ys ++ x ∷ []) ++ s)
+more_same : (ys s : List ObservationData) (x : ObservationData) → IsSameSet (x ∷ (ys ++ s)) ((ys ++ x ∷ []) ++ s)
 more_same ys s x = record {
   into = λ z h. elim h [
-    | inl e ↦ Has-left (ys ++ x ∷ []) s z (Has-right ys (x ∷ []) z (inl e))
-    | inr m ↦ elim (Has-append ys s z m) [ inl l ↦ Has-left (ys ++ x ∷ []) s z (Has-left ys (x ∷ []) z l) | inr r ↦ Has-right (ys ++ x ∷ []) s z r ]
+    | inl e ↦ has_left (ys ++ x ∷ []) s z (has_right ys (x ∷ []) z (inl e))
+    | inr m ↦ elim (has_either ys s z m) [ inl l ↦ has_left (ys ++ x ∷ []) s z (has_left ys (x ∷ []) z l) | inr r ↦ has_right (ys ++ x ∷ []) s z r ]
   ];
-  back = λ z h. elim (Has-append (ys ++ x ∷ []) s z h) [
-    | inl l ↦ elim (Has-append ys (x ∷ []) z l) [ inl a ↦ inr (Has-left ys s z a) | inr b ↦ elim b [ inl e ↦ inl e | inr none ↦ absurd none ] ]
-    | inr r ↦ inr (Has-right ys s z r)
+  back = λ z h. elim (has_either (ys ++ x ∷ []) s z h) [
+    | inl l ↦ elim (has_either ys (x ∷ []) z l) [ inl a ↦ inr (has_left ys s z a) | inr b ↦ elim b [ inl e ↦ inl e | inr none ↦ absurd none ] ]
+    | inr r ↦ inr (has_right ys s z r)
   ];
 }
 
-pub cached_more : (ys s items : List Fact) (f : ℕ) (x : Fact) → IsCached (x ∷ (ys ++ s)) f items → IsCached ((ys ++ x ∷ []) ++ s) f items
+pub cached_more : (ys s items : List ObservationData) (f : ℕ) (x : ObservationData) → IsCached (x ∷ (ys ++ s)) f items → IsCached ((ys ++ x ∷ []) ++ s) f items
 cached_more ys s items f x cached = cached_listed (x ∷ (ys ++ s)) ((ys ++ x ∷ []) ++ s) items f cached (more_same ys s x)
 
 -- what is shown of all that is kept is its cache
-pub kept_cached : (items : List Fact) (f : ℕ) → IsKept items → IsCached items f (shown hidden f items)
+pub kept_cached : (items : List ObservationData) (f : ℕ) → IsKept items → IsCached items f (without_hidden has_ended f items)
 kept_cached items f kept = record { lawful = kept.lawful; front = front_shown place_laws f items items kept.front }
 
 -- it is the cache of its own set
-pub kept_itself : (items : List Fact) (f : ℕ) → IsKept items → IsCached (shown hidden f items) f (shown hidden f items)
-kept_itself items f kept = cached_itself items (shown hidden f items) f (kept_cached items f kept)
+pub kept_itself : (items : List ObservationData) (f : ℕ) → IsKept items → IsCached (without_hidden has_ended f items) f (without_hidden has_ended f items)
+kept_itself items f kept = cached_itself items (without_hidden has_ended f items) f (kept_cached items f kept)
 
 -- nothing had ended at the start of time
-pub kept_whole : (items : List Fact) → IsKept items → IsCached items 0 items
+pub kept_whole : (items : List ObservationData) → IsKept items → IsCached items 0 items
 kept_whole items kept = record {
   lawful = kept.lawful;
   front = subst (λ v. IsFront place dominates v items) (sym (all_shown 0 items (λ x h. let l = (kept.lawful x h).life.0 in grind (arith, nat_tests, l)))) kept.front;
 }
 
 -- the last of a list, or the first
-last_first : (s : List Fact) (x : Fact) → IsSameSet (s ++ x ∷ []) (x ∷ s)
+last_first : (s : List ObservationData) (x : ObservationData) → IsSameSet (s ++ x ∷ []) (x ∷ s)
 last_first s x = record {
-  into = λ z h. elim (Has-append s (x ∷ []) z h) [ inl l ↦ inr l | inr r ↦ elim r [ inl e ↦ inl e | inr none ↦ absurd none ] ];
-  back = λ z h. elim h [ inl e ↦ Has-right s (x ∷ []) z (inl e) | inr m ↦ Has-left s (x ∷ []) z m ];
+  into = λ z h. elim (has_either s (x ∷ []) z h) [ inl l ↦ inr l | inr r ↦ elim r [ inl e ↦ inl e | inr none ↦ absurd none ] ];
+  back = λ z h. elim h [ inl e ↦ has_right s (x ∷ []) z (inl e) | inr m ↦ has_left s (x ∷ []) z m ];
 }
 
-first_last : (s : List Fact) (x : Fact) → IsSameSet (x ∷ s) (s ++ x ∷ [])
+first_last : (s : List ObservationData) (x : ObservationData) → IsSameSet (x ∷ s) (s ++ x ∷ [])
 first_last s x = record { into = (last_first s x).back; back = (last_first s x).into }
 
 -- one more was taken up into what is kept: what is shown of it is the cache of the set with it
-pub cached_taken : (s items new : List Fact) (f : ℕ) (x : Fact) → IsFact x → hidden f x ≡ false → IsCached s f (shown hidden f items) → IsFront place dominates (x ∷ items) new → IsCached (x ∷ s) f (shown hidden f new)
+pub cached_taken : (s items new : List ObservationData) (f : ℕ) (x : ObservationData) → IsObservation x → has_ended f x ≡ false → IsCached s f (without_hidden has_ended f items) → IsFront place dominates (x ∷ items) new → IsCached (x ∷ s) f (without_hidden has_ended f new)
 cached_taken s items new f x one live cached front =
-    let held = shown hidden f items in
-    let whole : IsFront place dominates (x ∷ held) (shown hidden f new) = rw live at (front_shown place_laws f (x ∷ items) new front) in
-    let small : IsCached (x ∷ held) f (shown hidden f new) = record {
+    let held = without_hidden has_ended f items in
+    let whole : IsFront place dominates (x ∷ held) (without_hidden has_ended f new) = rw live at (front_shown place_laws f (x ∷ items) new front) in
+    let small : IsCached (x ∷ held) f (without_hidden has_ended f new) = record {
       lawful = more_lawful held x one (cached_itself s held f cached).lawful;
-      front = rw live (subst (λ v. IsFront place dominates (x ∷ v) (shown hidden f new)) (sym (all_live s held f cached)) whole);
+      front = rw live (subst (λ v. IsFront place dominates (x ∷ v) (without_hidden has_ended f new)) (sym (all_live s held f cached)) whole);
     } in
-    let both = cached_both (x ∷ []) s held (shown hidden f new) f f (omega arith) cached (cached_listed (x ∷ held) (held ++ x ∷ []) (shown hidden f new) f small (first_last held x)) in
-    cached_listed (s ++ x ∷ []) (x ∷ s) (shown hidden f new) f both (last_first s x)
+    let both = cached_both (x ∷ []) s held (without_hidden has_ended f new) f f (omega arith) cached (cached_listed (x ∷ held) (held ++ x ∷ []) (without_hidden has_ended f new) f small (first_last held x)) in
+    cached_listed (s ++ x ∷ []) (x ∷ s) (without_hidden has_ended f new) f both (last_first s x)
 
 -- what has ended covers nothing that has not
-pub covered_shown : (items : List Fact) (f : ℕ) (x : Fact) → hidden f x ≡ false → IsCovered items x → IsCovered (shown hidden f items) x
+pub covered_shown : (items : List ObservationData) (f : ℕ) (x : ObservationData) → has_ended f x ≡ false → IsCovered items x → IsCovered (without_hidden has_ended f items) x
 covered_shown items f x live c =
-    let seen : hidden f c.0 ≡ false = elim (bool_cases (hidden f c.0)) [
+    let seen : has_ended f c.0 ≡ false = elim (cases_Bool (has_ended f c.0)) [
       | inr nay ↦ nay
-      | inl end ↦ absurd (false≢true (sym live ∙ elim c.2 [ inl same ↦ ap (hidden f) (sym same) ∙ end | inr over ↦ place_laws.hides_below f c.0 x end over ]))
+      | inl end ↦ absurd (false≢true (sym live ∙ elim c.2 [ inl same ↦ ap (has_ended f) (sym same) ∙ end | inr over ↦ place_laws.hides_below f c.0 x end over ]))
     ] in
-    (c.0, Has-in_filter (λ o. not (hidden f o)) items c.0 c.1 (ap not seen), c.2)
+    (c.0, Has-in_filter (λ o. not (has_ended f o)) items c.0 c.1 (ap not seen), c.2)
 
 -- what need not be held: it is covered by what is kept, or has ended
-pub needless_shown : (items : List Fact) (f : ℕ) (x : Fact) → hidden f x ≡ false → IsCovered items x ↔ IsNeedless f (shown hidden f items) x
+pub needless_shown : (items : List ObservationData) (f : ℕ) (x : ObservationData) → has_ended f x ≡ false → IsCovered items x ↔ IsNeedless f (without_hidden has_ended f items) x
 needless_shown items f x live = (
   (λ c. inr (covered_shown items f x live c)),
   λ n. elim n [
     | inl ended ↦ absurd (grind (arith, nat_tests, live, ended))
-    | inr c ↦ (c.0, (Has-filter (λ o. not (hidden f o)) items c.0 c.1).0, c.2)
+    | inr c ↦ (c.0, (Has-filter (λ o. not (has_ended f o)) items c.0 c.1).0, c.2)
   ],
 )
 
 -- with one more, it is kept
-pub kept_put : (items new : List Fact) (x : Fact) → IsKept items → IsFact x → IsFront place dominates (x ∷ items) new → IsKept new
+pub kept_put : (items new : List ObservationData) (x : ObservationData) → IsKept items → IsObservation x → IsFront place dominates (x ∷ items) new → IsKept new
 kept_put items new x kept one front = record {
   lawful = λ y h. more_lawful items x one kept.lawful y (front.of_set y h);
   front = front_itself place_laws (x ∷ items) new front;
 }
 
 -- what is left of what is kept, in order, is kept
-pub kept_swept : (items rest : List Fact) (m : ℕ) → IsKept items → IsDescending place rest → IsSwept m items rest → IsKept rest
+pub kept_swept : (items rest : List ObservationData) (m : ℕ) → IsKept items → IsDescending place rest → IsSwept m items rest → IsKept rest
 kept_swept items rest m kept order swept = record {
   lawful = λ x h. kept.lawful x (swept.of_items x h);
   front = record {
@@ -271,44 +273,44 @@ kept_swept items rest m kept order swept = record {
 }
 
 -- the same set at a later floor, and some of what has ended by then dropped
-pub cached_swept : (s items rest : List Fact) (f m : ℕ) → f ≤ m → IsSwept m items rest → IsCached s f (shown hidden f items) → IsCached s m (shown hidden m rest)
-cached_swept s items rest f m le swept cached = subst (IsCached s m) (shown_twice f m items le ∙ sym swept.shown_still) (cached_purged s (shown hidden f items) f m le cached)
+pub cached_swept : (s items rest : List ObservationData) (f m : ℕ) → f ≤ m → IsSwept m items rest → IsCached s f (without_hidden has_ended f items) → IsCached s m (without_hidden has_ended m rest)
+cached_swept s items rest f m le swept cached = subst (IsCached s m) (shown_twice f m items le ∙ sym swept.shown_still) (cached_purged s (without_hidden has_ended f items) f m le cached)
 
 -- what is shown is no more than what is there
-pub shown_shorter : (m : ℕ) (s : List Fact) → length (shown hidden m s) ≤ length s
+pub shown_shorter : (m : ℕ) (s : List ObservationData) → length (without_hidden has_ended m s) ≤ length s
 shown_shorter m [] = omega arith
-shown_shorter m (x ∷ s) = elim (bool_cases (hidden m x)) [
+shown_shorter m (x ∷ s) = elim (cases_Bool (has_ended m x)) [
   | inl e ↦ rw e (let n = shown_shorter m s in omega (arith, n))
   | inr e ↦ rw e (let n = shown_shorter m s in omega (arith, n))
 ]
 
 -- a cache took a list in, and its floor stayed
-pub record HasTaken (before after : Held) (list : List Fact) : Type 0 where
-  pub cached : (s : List Fact) → IsCached s before.floor before.items → IsCached (list ++ s) after.floor after.items
+pub record HasTaken (before after : CacheData) (list : List ObservationData) : Type 0 where
+  pub cached : (s : List ObservationData) → IsCached s before.floor before.items → IsCached (list ++ s) after.floor after.items
   pub floor : after.floor ≡ before.floor
 
-pub taken_none : (held : Held) → HasTaken held held []
+pub taken_none : (held : CacheData) → HasTaken held held []
 taken_none held = record { cached = λ s cached. cached; floor = refl }
 
 -- and one more
-pub taken_more : (before mid after : Held) (list : List Fact) (x : Fact) → HasTaken before mid list → ((s : List Fact) → IsCached s mid.floor mid.items → IsCached (x ∷ s) after.floor after.items) → after.floor ≡ mid.floor → HasTaken before after (list ++ x ∷ [])
+pub taken_more : (before mid after : CacheData) (list : List ObservationData) (x : ObservationData) → HasTaken before mid list → ((s : List ObservationData) → IsCached s mid.floor mid.items → IsCached (x ∷ s) after.floor after.items) → after.floor ≡ mid.floor → HasTaken before after (list ++ x ∷ [])
 taken_more before mid after list x taken one same = record {
   cached = λ s cached. cached_more list s after.items after.floor x (one (list ++ s) (taken.cached s cached));
   floor = same ∙ taken.floor;
 }
 
 -- where a list begins with what was taken, its front part of that length is what was taken
-pub taken_is : (ys rest all : List Fact) (n : ℕ) → all ≡ ys ++ rest → n ≡ length ys → take n all ≡ ys
+pub taken_is : (ys rest all : List ObservationData) (n : ℕ) → all ≡ ys ++ rest → n ≡ length ys → take n all ≡ ys
 taken_is ys rest all n e l = rw (e, l) (take-append_seam ys rest)
 
-pub taken_within : (ys rest all : List Fact) (x : Fact) (n : ℕ) → all ≡ ys ++ x ∷ rest → n ≡ length ys → n < length all
+pub taken_within : (ys rest all : List ObservationData) (x : ObservationData) (n : ℕ) → all ≡ ys ++ x ∷ rest → n ≡ length ys → n < length all
 taken_within ys rest all x n e l = let whole = ap length e in let parts = length-append ys (x ∷ rest) in omega (arith, l, whole, parts)
 
 -- and the first one that was not taken is of the list
-pub seam_at : (ys rest all : List Fact) (x : Fact) (n : ℕ) → all ≡ ys ++ x ∷ rest → n ≡ length ys → slice_get all n ≡ Some x
+pub seam_at : (ys rest all : List ObservationData) (x : ObservationData) (n : ℕ) → all ≡ ys ++ x ∷ rest → n ≡ length ys → slice_get all n ≡ Some x
 seam_at ys rest all x n e l = rw (e, l) (at_seam ys)
   where
-    at_seam : (ys : List Fact) → slice_get (ys ++ x ∷ rest) (length ys) ≡ Some x
+    at_seam : (ys : List ObservationData) → slice_get (ys ++ x ∷ rest) (length ys) ≡ Some x
     at_seam [] = refl
     at_seam (y ∷ ys) = at_seam ys
 
@@ -320,8 +322,3 @@ at_ok (Err y) e p = absurd (false≢true e)
 pub at_err : {T E P : Type 0} (r : Result T E) → true ≡ is_err r → OnErr r P → P
 at_err (Ok x) e p = absurd (false≢true (sym e))
 at_err (Err y) e p = p
-
--- what holds anyhow holds of a refusal
-pub on_err : {T E P : Type 0} (r : Result T E) → P → OnErr r P
-on_err (Ok x) p = tt
-on_err (Err y) p = p

@@ -5,23 +5,25 @@ use Rattle.std.specs.List.{filter, list_any}
 use Rattle.std.specs.Ordering.{ordering_reverse}
 use Rattle.std.specs.declared.cmp.Ordering.TheVariants.{Greater}
 use Rattle.fleet_observe.specs.Members.{Has}
-use Rattle.fleet_observe.specs.Fact.{Fact, AreFacts}
-use Rattle.fleet_cache.specs.Front.{IsDescending, IsUndominated, shown}
-use Rattle.fleet_cache.specs.Live.{hidden}
+use Rattle.fleet_observe.specs.Observation.{ObservationData, AreObservations}
+use Rattle.fleet_cache.specs.Front.{IsDescending, IsUndominated, without_hidden}
+use Rattle.fleet_cache.specs.Live.{has_ended}
 use Rattle.fleet_cache.specs.Dominates.{dominates}
 use Rattle.fleet_cache.specs.Cached.{place, IsCached}
-use Rattle.fleet_cache.specs.Orders.{place_total, place_exact, place_laws}
-use Rattle.fleet_cache.proofs.Fronts.{bool_cases, ordering_cases, above, not_true, Has-filter, Has-in_filter, IsDescending-filter}
+use Rattle.fleet_cache.proofs.Places.{place_total, place_exact, place_laws}
+use Rattle.std.proofs.lemmas.Bool.{cases_Bool, not-true}
+use Rattle.fleet_front.proofs.Lemmas.{ordering_cases, IsDescending-filter, above}
+use Rattle.fleet_name.proofs.Lemmas.{Has-filter, Has-in_filter}
 
 -- the members of a list, each once, in order
-record Ranked (s : List Fact) : Type 0 where
-  pub items : List Fact
+record Ranked (s : List ObservationData) : Type 0 where
+  pub items : List ObservationData
   pub descending : IsDescending place items
-  pub from : (z : Fact) → Has items z → Has s z
-  pub to : (z : Fact) → Has s z → Has items z
+  pub from : (z : ObservationData) → Has items z → Has s z
+  pub to : (z : ObservationData) → Has s z → Has items z
 
 -- behind the first
-ranked_behind : (x y : Fact) (items : List Fact) → place y x ≡ Greater → IsDescending place (y ∷ items) → Ranked (x ∷ items) → Ranked (x ∷ y ∷ items)
+ranked_behind : (x y : ObservationData) (items : List ObservationData) → place y x ≡ Greater → IsDescending place (y ∷ items) → Ranked (x ∷ items) → Ranked (x ∷ y ∷ items)
 ranked_behind x y items over down rest = record {
   items = y ∷ rest.items;
   descending = ((λ z h. elim (rest.from z h) [ inl same ↦ subst (λ v. place y v ≡ Greater) same over | inr old ↦ down.0 z old ]), rest.descending);
@@ -36,7 +38,7 @@ ranked_behind x y items over down rest = record {
 }
 
 -- one more
-ranked_more : (x : Fact) (items : List Fact) → IsDescending place items → Ranked (x ∷ items)
+ranked_more : (x : ObservationData) (items : List ObservationData) → IsDescending place items → Ranked (x ∷ items)
 ranked_more x [] down = record { items = x ∷ []; descending = ((λ z h. absurd h), tt); from = λ z h. h; to = λ z h. h }
 ranked_more x (y ∷ items) down = elim (ordering_cases (place x y)) [
   | inl less ↦ ranked_behind x y items (place_total.antisymm y x ∙ ap ordering_reverse less) down (ranked_more x items down.1)
@@ -56,10 +58,10 @@ ranked_more x (y ∷ items) down = elim (ordering_cases (place x y)) [
   ]
 ]
 
-ranked : (s : List Fact) → Ranked s
-ranked [] = record { items = []; descending = tt; from = λ z h. h; to = λ z h. h }
-ranked (x ∷ s) =
-    let old = ranked s in
+rank_all : (s : List ObservationData) → Ranked s
+rank_all [] = record { items = []; descending = tt; from = λ z h. h; to = λ z h. h }
+rank_all (x ∷ s) =
+    let old = rank_all s in
     let new = ranked_more x old.items old.descending in
     record {
       items = new.items;
@@ -69,32 +71,32 @@ ranked (x ∷ s) =
     }
 
 -- whether a member of a list dominates x
-abbrev is_dominated : List Fact → Fact → Bool
+abbrev is_dominated : List ObservationData → ObservationData → Bool
 is_dominated s x = list_any (λ y. dominates y x) s
 
-none_over : (s : List Fact) (x : Fact) → is_dominated s x ≡ false → IsUndominated dominates s x
+none_over : (s : List ObservationData) (x : ObservationData) → is_dominated s x ≡ false → IsUndominated dominates s x
 none_over [] x e y h = absurd h
-none_over (w ∷ s) x e y h = elim (bool_cases (dominates w x)) [
+none_over (w ∷ s) x e y h = elim (cases_Bool (dominates w x)) [
   | inl yea ↦ absurd (false≢true (sym (rw yea at e)))
   | inr nay ↦ elim h [ inl same ↦ ap (λ v. dominates v x) (sym same) ∙ nay | inr far ↦ none_over s x (rw nay at e) y far ]
 ]
 
-over_none : (s : List Fact) (x : Fact) → IsUndominated dominates s x → is_dominated s x ≡ false
+over_none : (s : List ObservationData) (x : ObservationData) → IsUndominated dominates s x → is_dominated s x ≡ false
 over_none [] x free = refl
 over_none (w ∷ s) x free = rw (free w (inl refl)) (over_none s x (λ y h. free y (inr h)))
 
-pub cache_of : (s : List Fact) (f : ℕ) → AreFacts s → (items : List Fact) × IsCached s f items
+pub cache_of : (s : List ObservationData) (f : ℕ) → AreObservations s → (items : List ObservationData) × IsCached s f items
 cache_of s f lawful =
-    let seen = shown hidden f s in
-    let all = ranked seen in
-    let test = λ (x : Fact). not (is_dominated seen x) in (
+    let seen = without_hidden has_ended f s in
+    let all = rank_all seen in
+    let test = λ (x : ObservationData). not (is_dominated seen x) in (
       filter test all.items,
       record {
         lawful = lawful;
         front = record {
           descending = IsDescending-filter place test all.items all.descending;
           of_set = λ x h. all.from x (Has-filter test all.items x h).0;
-          undominated = λ x h. none_over seen x (not_true _ (Has-filter test all.items x h).1);
+          undominated = λ x h. none_over seen x (not-true _ (Has-filter test all.items x h).1);
           whole = λ x m free. Has-in_filter test all.items x (all.to x m) (ap not (over_none seen x free));
         };
       },

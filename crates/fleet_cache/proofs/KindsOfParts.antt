@@ -1,61 +1,54 @@
 -- The parts of an answer are of the kinds that their places say.
-use Rattle.std.proofs.Common.{◌≡◌, ◌≤◌, ℕ, zero, suc, List, [], Option, Some, None, Bool, true, false, ◌&&◌, nat_eq, cond, refl, sym, subst, arith}
-use Rattle.std.proofs.lemmas.Bool.Decides.{nat_tests}
-use Rattle.fleet_observe.specs.Fact.{Fact, IsFact, AreFacts}
+use Rattle.std.proofs.Common.{◌≡◌, ◌≤◌, ℕ, zero, suc, List, [], Option, Some, None, Bool, true, false, ◌&&◌, nat_eq, if◌then◌else◌, refl, sym, subst, arith}
+use mathlib.Core.Bool.{false≢true}
+use Rattle.fleet_observe.specs.declared.bounds.TheConstants.{MOST_LINKS}
+use Rattle.fleet_observe.specs.declared.kind.Kind.{Kind}
+use Rattle.fleet_observe.specs.declared.kind.Kind.TheVariants.{NameError, NoData as WithoutData, Positive}
+use Rattle.fleet_observe.specs.Observation.{ObservationData}
 use Rattle.fleet_cache.specs.declared.answer.Answer.{Answer}
-use Rattle.fleet_cache.specs.Live.{is_live, shown_ttl}
-use Rattle.fleet_cache.specs.Relevant.{is_relevant}
-use Rattle.fleet_cache.specs.Best.{IsBest}
-use Rattle.fleet_cache.specs.Answer.{Part, Answered, Missed, Found, NoData, NxDomain, behind, by_kind, is_link, target, decided, deciding, answer_within, answer_of}
-use Rattle.fleet_cache.specs.Told.{told}
+use Rattle.fleet_cache.specs.Answer.{ShownData, answer_of_kind, AnswerData, Missed, Found, NoData, NxDomain, add_link, by_kind, is_link, target, answer_by, decider, answer_within, answer_of, part_at}
+use Rattle.fleet_cache.specs.AnswerData.{answer_data}
 use Rattle.fleet_cache.specs.Kinds.{IsPositivePart, HasKinds}
-use Rattle.fleet_cache.proofs.Best.{best_filtered}
-use Rattle.fleet_cache.specs.Orders.{nat_eq_from}
 
-has_kinds-behind : (p : Part) (a : Answered) → IsPositivePart p → HasKinds a → HasKinds (behind p a)
-has_kinds-behind p Missed k h = tt
-has_kinds-behind p (Found chain set) k h = ((k, h.0), h.1)
-has_kinds-behind p (NoData chain soa) k h = ((k, h.0), h.1)
-has_kinds-behind p (NxDomain chain soa) k h = ((k, h.0), h.1)
+has_kinds-add_link : (p : ShownData) (a : AnswerData) → IsPositivePart p → HasKinds a → HasKinds (add_link p a)
+has_kinds-add_link p Missed k h = tt
+has_kinds-add_link p (Found chain set) k h = ((k, h.0), h.1)
+has_kinds-add_link p (NoData chain soa) k h = ((k, h.0), h.1)
+has_kinds-add_link p (NxDomain chain soa) k h = ((k, h.0), h.1)
 
-the_third : (k : ℕ) → 1 ≤ k → k ≤ 3 → nat_eq k 3 ≡ false → nat_eq k 2 ≡ false → k ≡ 1
-the_third k low high a b = grind (arith, nat_tests)
+has_kinds-by_kind : (p : ShownData) → HasKinds (by_kind p)
+has_kinds-by_kind p = by_cases p.observation.kind refl
+  where
+    by_cases : (k : Kind) → p.observation.kind ≡ k → HasKinds (answer_of_kind k p)
+    by_cases Positive e = (tt, e)
+    by_cases WithoutData e = (tt, e)
+    by_cases NameError e = (tt, e)
 
-by_tests : (p : Part) → IsFact p.fact → (positive empty : Bool) → nat_eq p.fact.kind 3 ≡ positive → nat_eq p.fact.kind 2 ≡ empty → HasKinds (cond positive (Found [] p) (cond empty (NoData [] p) (NxDomain [] p)))
-by_tests p lawful true empty e f = (tt, nat_eq_from p.fact.kind 3 e)
-by_tests p lawful false true e f = (tt, nat_eq_from p.fact.kind 2 f)
-by_tests p lawful false false e f = (tt, the_third p.fact.kind lawful.kinds.0 lawful.kinds.1 e f)
+by_link : (p : ShownData) (a : AnswerData) (link : Bool) → (link ≡ true → IsPositivePart p) → HasKinds a → HasKinds (if link then add_link p a else by_kind p)
+by_link p a true k h = has_kinds-add_link p a (k refl) h
+by_link p a false k h = has_kinds-by_kind p
 
-has_kinds-by_kind : (p : Part) → IsFact p.fact → HasKinds (by_kind p)
-has_kinds-by_kind p lawful = by_tests p lawful (nat_eq p.fact.kind 3) (nat_eq p.fact.kind 2) refl refl
+link_positive : (rtype : ℕ) (o : ObservationData) → is_link rtype o ≡ true → o.kind ≡ Positive
+link_positive rtype o e = by_cases o.kind refl
+  where
+    by_cases : (k : Kind) → o.kind ≡ k → o.kind ≡ Positive
+    by_cases Positive is = is
+    by_cases WithoutData is = absurd (false≢true (rw is at e))
+    by_cases NameError is = absurd (false≢true (rw is at e))
 
-by_link : (p : Part) (a : Answered) (link : Bool) → IsFact p.fact → (link ≡ true → IsPositivePart p) → HasKinds a → HasKinds (cond link (behind p a) (by_kind p))
-by_link p a true lawful k h = has_kinds-behind p a (k refl) h
-by_link p a false lawful k h = has_kinds-by_kind p lawful
+has_kinds-answer_by : (next : List (List ℕ) → AnswerData) (t rtype : ℕ) (d : Option ObservationData) → ((n : List (List ℕ)) → HasKinds (next n)) → HasKinds (answer_by next t rtype d)
+has_kinds-answer_by next t rtype None h = tt
+has_kinds-answer_by next t rtype (Some o) h = by_link (part_at t o) (next (target o)) (is_link rtype o) (link_positive rtype o) (h (target o))
 
-link_positive : (rtype : ℕ) (o : Fact) → is_link rtype o ≡ true → o.kind ≡ 3
-link_positive rtype o e = grind (arith, nat_tests, e)
-
-has_kinds-decided : (next : List (List ℕ) → Answered) (t rtype : ℕ) (d : Option Fact) → ((o : Fact) → d ≡ Some o → IsFact o) → ((n : List (List ℕ)) → HasKinds (next n)) → HasKinds (decided next t rtype d)
-has_kinds-decided next t rtype None lawful h = tt
-has_kinds-decided next t rtype (Some o) lawful h =
-    by_link (record { fact = o; ttl = shown_ttl t o }) (next (target o)) (is_link rtype o) (lawful o refl) (link_positive rtype o) (h (target o))
-
-module _ (s : List Fact) (lawful : AreFacts s) (t rtype : ℕ) where
-  -- what decides is a member
-  deciding_lawful : (n : List (List ℕ)) (o : Fact) → deciding s t n rtype ≡ Some o → IsFact o
-  deciding_lawful n o e =
-      let matters : Fact → Bool = λ v. is_live t v && is_relevant n rtype v in
-      lawful o (subst (IsBest (λ v. matters v ≡ true) s) e (best_filtered matters s)).0
-
+module _ (s : List ObservationData) (t rtype : ℕ) where
   has_kinds-within : (k : ℕ) (n : List (List ℕ)) → HasKinds (answer_within k s t rtype n)
-  has_kinds-within zero n = has_kinds-decided (λ m. Missed) t rtype (deciding s t n rtype) (deciding_lawful n) (λ m. tt)
-  has_kinds-within (suc k) n = has_kinds-decided (answer_within k s t rtype) t rtype (deciding s t n rtype) (deciding_lawful n) (has_kinds-within k)
+  has_kinds-within zero n = has_kinds-answer_by (λ m. Missed) t rtype (decider s t n rtype) (λ m. tt)
+  has_kinds-within (suc k) n = has_kinds-answer_by (answer_within k s t rtype) t rtype (decider s t n rtype) (has_kinds-within k)
 
   pub has_kinds-answer_of : (n : List (List ℕ)) → HasKinds (answer_of s t n rtype)
   unfolding answer_of
-  has_kinds-answer_of n = has_kinds-within 8 n
+  has_kinds-answer_of n = has_kinds-within MOST_LINKS n
 
--- an answer of a set of observations has the kinds
-pub kinds_told : {A : Type 0} (a : Answer A) (s : List Fact) (t rtype : ℕ) (n : List (List ℕ)) → AreFacts s → told a ≡ answer_of s t n rtype → HasKinds (told a)
-kinds_told a s t rtype n lawful e = let P : Answered → Type 0 = HasKinds in subst P (sym e) (has_kinds-answer_of s lawful t rtype n)
+-- an answer has the kinds
+pub kinds_told : {A : Type 0} (a : Answer A) (s : List ObservationData) (t rtype : ℕ) (n : List (List ℕ)) → answer_data a ≡ answer_of s t n rtype → HasKinds (answer_data a)
+kinds_told a s t rtype n e = let P : AnswerData → Type 0 = HasKinds in subst P (sym e) (has_kinds-answer_of s t rtype n)

@@ -1,9 +1,9 @@
-mod Fronts
-mod Keys
+mod Places
+mod SameKeys
 mod Names
 mod Lawful
 mod Caches
-mod Keyed
+pub mod Lemmas
 mod Packed
 mod Packing
 mod Slots
@@ -12,6 +12,7 @@ mod Best
 mod Looked
 mod Climbed
 mod Answers
+mod Underway
 mod Follow
 mod Paths
 mod KindsOfParts

@@ -9,16 +9,12 @@ use Rattle.std.proofs.Math.Nat.{mul-le-mul_left, mul_comm}
 use Rattle.std.proofs.lemmas.Cmp.{ranked, tied_itself, nat_list_cmp_total}
 use Rattle.std.proofs.lemmas.List.{length-drop}
 use Rattle.std.proofs.lemmas.Map.Lookups.{exact_bytes}
-use Rattle.fleet_cache.specs.Cached.{key_cmp}
-use Rattle.fleet_cache.specs.Packed.{weights, weigh, packed_within, packed, IsPackable}
+use Rattle.fleet_cache.specs.Packed.{weights, weigh, octet_words_within, octet_words, IsPackable}
+use Rattle.fleet_observe.specs.Preference.{octets_cmp}
+use Rattle.fleet_observe.proofs.Lemmas.{then_assoc}
 
 abbrev pub AreBytes : List ℕ → Type 0
 AreBytes = AllByRecursion (λ x. x < 256)
-
-then_assoc : (o p q : Ordering) → ordering_then (ordering_then o p) q ≡ ordering_then o (ordering_then p q)
-then_assoc Less p q = refl
-then_assoc Equal p q = refl
-then_assoc Greater p q = refl
 
 -- more of a weight than another number of it has
 more_of : (w x y : ℕ) → x < y → (x + 1) * w + w ≤ (y + 1) * w
@@ -51,56 +47,56 @@ AreWeights [] = Unit {0}
 AreWeights (w ∷ ws) = ((octets : List ℕ) → AreBytes octets → weigh ws octets < w) × AreWeights ws
 
 -- one more weight, 257 times as heavy
-pub heavier : (w : ℕ) (ws : List ℕ) → ((octets : List ℕ) → AreBytes octets → weigh ws octets < w) → (octets : List ℕ) → AreBytes octets → weigh (w ∷ ws) octets < 257 * w
-heavier w ws below [] bytes = let b = below [] tt in omega (arith, b)
-heavier w ws below (x ∷ octets) bytes =
+pub weigh_below : (w : ℕ) (ws : List ℕ) → ((octets : List ℕ) → AreBytes octets → weigh ws octets < w) → (octets : List ℕ) → AreBytes octets → weigh (w ∷ ws) octets < 257 * w
+weigh_below w ws below [] bytes = let b = below [] tt in omega (arith, b)
+weigh_below w ws below (x ∷ octets) bytes =
     let b = below octets bytes.1 in
     let m : w * (x + 1) ≤ w * 256 = mul-le-mul_left w (omega (arith, bytes.0)) in
     let a = mul_comm w (x + 1) in
     let c = mul_comm w 256 in
     grind (arith, b, m, a, c)
 
-nothing : (octets : List ℕ) → AreBytes octets → weigh [] octets < 1
-nothing octets bytes = omega arith
+weigh_nothing : (octets : List ℕ) → AreBytes octets → weigh [] octets < 1
+weigh_nothing octets bytes = omega arith
 
 pub are_weights : AreWeights weights
 are_weights =
-    let one = nothing in
-    let two = heavier 1 [] one in
-    let three = heavier 257 (1 ∷ []) two in
-    let four = heavier 66049 (257 ∷ 1 ∷ []) three in
-    let five = heavier 16974593 (66049 ∷ 257 ∷ 1 ∷ []) four in
-    let six = heavier 4362470401 (16974593 ∷ 66049 ∷ 257 ∷ 1 ∷ []) five in
-    let seven = heavier 1121154893057 (4362470401 ∷ 16974593 ∷ 66049 ∷ 257 ∷ 1 ∷ []) six in
+    let one = weigh_nothing in
+    let two = weigh_below 1 [] one in
+    let three = weigh_below 257 (1 ∷ []) two in
+    let four = weigh_below 66049 (257 ∷ 1 ∷ []) three in
+    let five = weigh_below 16974593 (66049 ∷ 257 ∷ 1 ∷ []) four in
+    let six = weigh_below 4362470401 (16974593 ∷ 66049 ∷ 257 ∷ 1 ∷ []) five in
+    let seven = weigh_below 1121154893057 (4362470401 ∷ 16974593 ∷ 66049 ∷ 257 ∷ 1 ∷ []) six in
     (seven, (six, (five, (four, (three, (two, (one, tt)))))))
 
 -- what octets weigh decides as they do, and then what is left of them
-weighed : (ws : List ℕ) → AreWeights ws → (xs ys : List ℕ) → AreBytes xs → AreBytes ys → ordering_then (nat_cmp (weigh ws xs) (weigh ws ys)) (key_cmp (drop (length ws) xs) (drop (length ws) ys)) ≡ key_cmp xs ys
-weighed [] good xs ys a b = refl
-weighed (w ∷ ws) good [] [] a b = refl
-weighed (w ∷ ws) good [] (y ∷ ys) a b =
+weigh_cmp : (ws : List ℕ) → AreWeights ws → (xs ys : List ℕ) → AreBytes xs → AreBytes ys → ordering_then (nat_cmp (weigh ws xs) (weigh ws ys)) (octets_cmp (drop (length ws) xs) (drop (length ws) ys)) ≡ octets_cmp xs ys
+weigh_cmp [] good xs ys a b = refl
+weigh_cmp (w ∷ ws) good [] [] a b = refl
+weigh_cmp (w ∷ ws) good [] (y ∷ ys) a b =
     let l = good.0 [] tt in
     let m : w * 1 ≤ w * (y + 1) = mul-le-mul_left w (omega arith) in
     let c = mul_comm w (y + 1) in
     let o : Less ≡ nat_cmp 0 ((y + 1) * w + weigh ws ys) = nat_cmp_is 0 ((y + 1) * w + weigh ws ys) Less (grind (arith, l, m, c)) in
     rw (← o) refl
-weighed (w ∷ ws) good (x ∷ xs) [] a b =
+weigh_cmp (w ∷ ws) good (x ∷ xs) [] a b =
     let l = good.0 [] tt in
     let m : w * 1 ≤ w * (x + 1) = mul-le-mul_left w (omega arith) in
     let c = mul_comm w (x + 1) in
     let o : Greater ≡ nat_cmp ((x + 1) * w + weigh ws xs) 0 = nat_cmp_is ((x + 1) * w + weigh ws xs) 0 Greater (grind (arith, l, m, c)) in
     rw (← o) refl
-weighed (w ∷ ws) good (x ∷ xs) (y ∷ ys) a b =
-    ap (λ o. ordering_then o (key_cmp (drop (length ws) xs) (drop (length ws) ys))) (digit_first w x y (weigh ws xs) (weigh ws ys) (good.0 xs a.1) (good.0 ys b.1) (nat_cmp x y) refl)
-    ∙ (then_assoc (nat_cmp x y) (nat_cmp (weigh ws xs) (weigh ws ys)) (key_cmp (drop (length ws) xs) (drop (length ws) ys))
-    ∙ ap (ordering_then (nat_cmp x y)) (weighed ws good.1 xs ys a.1 b.1))
+weigh_cmp (w ∷ ws) good (x ∷ xs) (y ∷ ys) a b =
+    ap (λ o. ordering_then o (octets_cmp (drop (length ws) xs) (drop (length ws) ys))) (digit_first w x y (weigh ws xs) (weigh ws ys) (good.0 xs a.1) (good.0 ys b.1) (nat_cmp x y) refl)
+    ∙ (then_assoc (nat_cmp x y) (nat_cmp (weigh ws xs) (weigh ws ys)) (octets_cmp (drop (length ws) xs) (drop (length ws) ys))
+    ∙ ap (ordering_then (nat_cmp x y)) (weigh_cmp ws good.1 xs ys a.1 b.1))
 
 bytes_left : (n : ℕ) (xs : List ℕ) → AreBytes xs → AreBytes (drop n xs)
 bytes_left zero xs a = a
 bytes_left (suc n) [] a = tt
 bytes_left (suc n) (x ∷ xs) a = bytes_left n xs a.1
 
-within_cmp : (k : ℕ) (xs ys : List ℕ) → AreBytes xs → AreBytes ys → length xs ≤ 7 * k → length ys ≤ 7 * k → key_cmp (packed_within k xs) (packed_within k ys) ≡ key_cmp xs ys
+within_cmp : (k : ℕ) (xs ys : List ℕ) → AreBytes xs → AreBytes ys → length xs ≤ 7 * k → length ys ≤ 7 * k → octets_cmp (octet_words_within k xs) (octet_words_within k ys) ≡ octets_cmp xs ys
 within_cmp zero [] [] a b n m = refl
 within_cmp zero (x ∷ xs) ys a b n m = absurd (omega (arith, n))
 within_cmp zero [] (y ∷ ys) a b n m = absurd (omega (arith, m))
@@ -111,11 +107,11 @@ within_cmp (suc k) (x ∷ xs) (y ∷ ys) a b n m =
     let i = length-drop 7 (x ∷ xs) in
     let j = length-drop 7 (y ∷ ys) in
     ap (ordering_then (nat_cmp (weigh weights (x ∷ xs)) (weigh weights (y ∷ ys)))) (within_cmp k (drop 7 (x ∷ xs)) (drop 7 (y ∷ ys)) (bytes_left 7 (x ∷ xs) a) (bytes_left 7 (y ∷ ys) b) (omega (arith, n, i)) (omega (arith, m, j)))
-    ∙ weighed weights are_weights (x ∷ xs) (y ∷ ys) a b
+    ∙ weigh_cmp weights are_weights (x ∷ xs) (y ∷ ys) a b
 
-pub packed_cmp : (xs ys : List ℕ) → IsPackable xs → IsPackable ys → key_cmp (packed xs) (packed ys) ≡ key_cmp xs ys
-unfolding packed
+pub packed_cmp : (xs ys : List ℕ) → IsPackable xs → IsPackable ys → octets_cmp (octet_words xs) (octet_words ys) ≡ octets_cmp xs ys
+unfolding octet_words
 packed_cmp xs ys a b = within_cmp 37 xs ys a.bytes b.bytes (omega (arith, a.fits)) (omega (arith, b.fits))
 
-pub packed_exact : (xs ys : List ℕ) → IsPackable xs → IsPackable ys → packed xs ≡ packed ys → xs ≡ ys
-packed_exact xs ys a b same = exact_bytes xs ys (sym (packed_cmp xs ys a b) ∙ (ap (λ v. key_cmp v (packed ys)) same ∙ tied_itself nat_list_cmp_total (packed ys)))
+pub packed_exact : (xs ys : List ℕ) → IsPackable xs → IsPackable ys → octet_words xs ≡ octet_words ys → xs ≡ ys
+packed_exact xs ys a b same = exact_bytes xs ys (sym (packed_cmp xs ys a b) ∙ (ap (λ v. octets_cmp v (octet_words ys)) same ∙ tied_itself nat_list_cmp_total (octet_words ys)))

@@ -5,7 +5,7 @@ pub mod Cached
 pub mod Relevant
 pub mod Answer
 pub mod Shown
-pub mod Told
+pub mod AnswerData
 pub mod Kinds
 pub mod Packed
 pub mod Best
@@ -13,7 +13,6 @@ pub mod Orders
 pub mod Slots
 pub mod Noted
 pub mod Swept
-pub mod Underway
 pub mod Path
 pub mod Laws
 pub mod Rows

@@ -1,7 +1,7 @@
 -- The octets of a key, seven to a word, so that the words compare as the octets do.
 use Rattle.std.specs.Prelude.{ℕ, zero, suc, ◌+◌, ◌*◌, ◌<◌, ◌≤◌, List, [], ◌∷◌, length, drop}
 use Rattle.std.specs.List.{AllByRecursion}
-use Rattle.fleet_observe.specs.Fact.{Fact, key_of}
+use Rattle.fleet_observe.specs.Observation.{ObservationData, key_of}
 
 -- the powers of 257 from the sixth one down
 abbrev pub weights : List ℕ
@@ -14,19 +14,19 @@ weigh (w ∷ ws) [] = 0
 weigh (w ∷ ws) (x ∷ octets) = (x + 1) * w + weigh ws octets
 
 -- so many words at most
-abbrev pub packed_within : ℕ → List ℕ → List ℕ
-packed_within zero octets = []
-packed_within (suc k) [] = []
-packed_within (suc k) (x ∷ octets) =
-    weigh weights (x ∷ octets) ∷ packed_within k (drop 7 (x ∷ octets))
+abbrev pub octet_words_within : ℕ → List ℕ → List ℕ
+octet_words_within zero octets = []
+octet_words_within (suc k) [] = []
+octet_words_within (suc k) (x ∷ octets) =
+    weigh weights (x ∷ octets) ∷ octet_words_within k (drop 7 (x ∷ octets))
 
 -- the octets of a key as words
-unfoldable pub packed : List ℕ → List ℕ
-packed octets = packed_within 37 octets
+unfoldable pub octet_words : List ℕ → List ℕ
+octet_words octets = octet_words_within 37 octets
 
 -- the words of an observation's key
-abbrev pub words_of : Fact → List ℕ
-words_of o = packed (key_of o)
+abbrev pub words_of : ObservationData → List ℕ
+words_of o = octet_words (key_of o)
 
 -- octets that fit in so many words
 pub record IsPackable (octets : List ℕ) : Type 0 where

@@ -1,28 +1,31 @@
 //! What a question is answered.
 
 ghost use Rattle.std.specs.Prelude.{◌≡◌, ℕ, ◌≤◌, List};
-ghost use Rattle.fleet_name.specs.Name.{wire, IsName};
-ghost use Rattle.fleet_observe.specs.Fact.{Fact};
+ghost use Rattle.fleet_name.specs.Name.{wire, IsName, IsWire};
+ghost use Rattle.fleet_wire.specs.declared.rtype.TheConstants.{CNAME};
+ghost use Rattle.fleet_observe.specs.declared.kind.Kind.TheVariants.{Positive};
+ghost use Rattle.fleet_observe.specs.Observation.{ObservationData};
 ghost use Rattle.fleet_cache.specs.Slots.{items_of, IsLaid};
 ghost use Rattle.fleet_cache.specs.Noted.{AreNoted};
-ghost use Rattle.fleet_cache.specs.Best.{IsWire};
 ghost use Rattle.fleet_cache.specs.Cached.{IsCached};
 ghost use Rattle.fleet_cache.specs.Live.{shown_ttl as ttl_at};
-ghost use Rattle.fleet_cache.specs.Answer.{answer_of, by_kind, is_link as leads_on, target as alias_target};
-ghost use Rattle.fleet_cache.specs.Shown.{part_of, parts_of, AllSome};
-ghost use Rattle.fleet_cache.specs.Told.{told, onto, chain_of};
-ghost use Rattle.fleet_cache.specs.Path.{shown_part};
+ghost use Rattle.fleet_cache.specs.Answer.{answer_of, part_at, add_links, by_kind, is_link as leads_on, target as alias_target};
+ghost use Rattle.fleet_cache.specs.Shown.{shown_data, all_shown_data, AllSome};
+ghost use Rattle.fleet_cache.specs.AnswerData.{answer_data, chain_of};
 
 use crate::denied::Denied;
-use crate::lookup::deciding;
+use crate::lookup::decider;
 use crate::shown::Shown;
 use crate::store::Fronts;
 use arrayvec::ArrayVec;
+use fleet_observe::bounds::MOST_LINKS;
 use fleet_observe::{Kind, Moment, Observation};
+use fleet_wire::rtype::CNAME;
 use std::alloc::{Allocator, Global};
 
-/// The links of an answer, in order: aliases, and at most 8. Each place in use is `Some`.
-pub type Chain<'a, A> = ArrayVec<Option<Shown<'a, A>>, 8>;
+/// The links of an answer, in order: aliases, and at most `MOST_LINKS`. Each place in use is
+/// `Some`.
+pub type Chain<'a, A> = ArrayVec<Option<Shown<'a, A>>, MOST_LINKS>;
 
 /// What a question is answered: records or the SOA of a denial, behind the aliases that lead there.
 /// Its parts are lent by the cache.
@@ -64,8 +67,8 @@ fn shown_ttl<A: Allocator>(observation: &Observation<A>, moment: Moment) -> u32
 }
 
 /// An observation with its TTL.
-fn shown<'a, A: Allocator>(observation: &'a Observation<A>, moment: Moment) -> Shown<'a, A>
-    ensures { part_of result ≡ shown_part moment observation.now }
+fn show<'a, A: Allocator>(observation: &'a Observation<A>, moment: Moment) -> Shown<'a, A>
+    ensures { shown_data result ≡ part_at moment observation.now }
 {
     Shown {
         observation,
@@ -77,13 +80,13 @@ fn shown<'a, A: Allocator>(observation: &'a Observation<A>, moment: Moment) -> S
 fn is_link<A: Allocator>(observation: &Observation<A>, rtype: u16) -> bool
     ensures { result ≡ leads_on rtype observation.now }
 {
-    observation.kind() == Kind::Positive && observation.rtype() == 5 && rtype != 5
+    observation.kind() == Kind::Positive && observation.rtype() == CNAME && rtype != CNAME
 }
 
 /// The octets of the name that an alias leads to.
 fn target<A: Allocator>(observation: &Observation<A>) -> &[u8]
-    requires of_kind { observation.now.kind ≡ 3 }
-    requires of_type { observation.now.rtype ≡ 5 }
+    requires of_kind { observation.now.kind ≡ Positive }
+    requires of_type { observation.now.rtype ≡ CNAME }
     ensures octets { result.now ≡ wire (alias_target observation.now) }
     ensures named { IsName (alias_target observation.now) }
 {
@@ -91,9 +94,10 @@ fn target<A: Allocator>(observation: &Observation<A>) -> &[u8]
 }
 
 /// The answer that ends with an observation.
-fn ending<'a, A: Allocator>(chain: Chain<'a, A>, last: Shown<'a, A>) -> Answer<'a, A>
+fn finish<'a, A: Allocator>(chain: Chain<'a, A>, last: Shown<'a, A>) -> Answer<'a, A>
     requires { AllSome chain.items }
-    ensures told { told result ≡ onto (parts_of chain.entry.items) (by_kind (part_of last.entry)) }
+    ensures told { answer_data result
+        ≡ add_links (all_shown_data chain.entry.items) (by_kind (shown_data last.entry)) }
     ensures filled { AllSome (chain_of result) }
 {
     match last.observation.kind() {
@@ -115,19 +119,19 @@ pub(crate) fn follow<'a, A: Allocator>(
     requires noted { AreNoted denied.now (items_of fronts.now.entries) }
     requires named { IsWire name.now }
     ensures filled { AllSome (chain_of result) }
-    ensures told { (n : List (List ℕ)) → name.now ≡ wire n → (s : List Fact)
+    ensures told { (n : List (List ℕ)) → name.now ≡ wire n → (s : List ObservationData)
         → (floor : ℕ) → floor ≤ moment → IsCached s floor (items_of fronts.now.entries)
-        → told result ≡ answer_of s moment n rtype }
+        → answer_data result ≡ answer_of s moment n rtype }
 {
     let mut chain = ArrayVec::new();
     let mut at = name;
     loop {
-        let Some(observation) = deciding(fronts, denied, at, rtype, moment) else {
+        let Some(observation) = decider(fronts, denied, at, rtype, moment) else {
             return Answer::Miss;
         };
-        let part = shown(observation, moment);
+        let part = show(observation, moment);
         if !is_link(observation, rtype) {
-            return ending(chain, part);
+            return finish(chain, part);
         }
         if chain.is_full() {
             return Answer::Miss;

@@ -1,11 +1,11 @@
 //! What a site holds.
 
 ghost use Rattle.std.specs.Prelude.{◌≡◌, ℕ, ◌^◌, ◌<◌, ◌≤◌, max, true, false, List, [], ◌∷◌, ◌++◌, ◌↔◌, length, take, IsTrue, IfOk, IfErr, OnOk, OnErr};
-ghost use Rattle.fleet_observe.specs.Fact.{Fact, IsFact};
+ghost use Rattle.fleet_observe.specs.Observation.{ObservationData, IsObservation};
 ghost use Rattle.fleet_cache.specs.Cached.{IsCached, IsNeedless, IsNeededAt, IsSameSet};
 ghost use Rattle.fleet_cache.specs.Answer.{answer_of};
 ghost use Rattle.fleet_cache.specs.Shown.{AllSome};
-ghost use Rattle.fleet_cache.specs.Told.{told, chain_of};
+ghost use Rattle.fleet_cache.specs.AnswerData.{answer_data, chain_of};
 ghost use Rattle.fleet_cache.specs.Kinds.{HasKinds};
 
 use crate::answer::{Answer, follow};
@@ -48,16 +48,20 @@ pub struct Cache<A: Allocator = Global> {
 
 impl<A: Allocator> Model for Cache<A> {
     ghost use Rattle.std.specs.Prelude.{length, ◌≤◌};
-    ghost use Rattle.fleet_cache.specs.Front.{shown};
-    ghost use Rattle.fleet_cache.specs.Live.{hidden};
-    ghost use Rattle.fleet_cache.specs.Cached.{Held, IsKept};
+    ghost use Rattle.fleet_cache.specs.Front.{without_hidden};
+    ghost use Rattle.fleet_cache.specs.Live.{has_ended};
+    ghost use Rattle.fleet_cache.specs.Cached.{CacheData, IsKept};
     ghost use Rattle.fleet_cache.specs.Slots.{items_of, IsLaid};
     ghost use Rattle.fleet_cache.specs.Noted.{AreNoted};
 
-    ghost Value = { Held };
+    ghost Value = { CacheData };
 
     ghost view = { λ c.
-        record { floor = c.floor; items = shown hidden c.floor (items_of c.fronts.entries) } };
+        record {
+          floor = c.floor;
+          items = without_hidden has_ended c.floor
+              (items_of c.fronts.entries);
+        } };
 
     ghost invariant = { λ c. IsKept (items_of c.fronts.entries)
         × IsLaid (λ k. k.items) c.fronts.entries × (length (items_of c.fronts.entries) ≤ c.most)
@@ -88,7 +92,7 @@ impl<A: Allocator> Cache<A> {
     pub fn take(&mut self, observation: Observation<A>) -> Result<bool, AllocError>
     where
         A: Copy,
-        ensures taken { (s : List Fact) → IsCached s self.old.floor self.old.items
+        ensures taken { (s : List ObservationData) → IsCached s self.old.floor self.old.items
             → OnOk result (IsCached (observation ∷ s) self.new.floor self.new.items) }
         ensures kept { IfOk result (λ kept.
             (kept ≡ false) ↔ IsNeedless self.old.floor self.old.items observation) }
@@ -114,9 +118,9 @@ impl<A: Allocator> Cache<A> {
     pub fn take_list(&mut self, observations: Vec<Observation<A>, A>) -> Result<(), Stopped>
     where
         A: Copy,
-        ensures taken { (s : List Fact) → IsCached s self.old.floor self.old.items
+        ensures taken { (s : List ObservationData) → IsCached s self.old.floor self.old.items
             → OnOk result (IsCached (observations.items ++ s) self.new.floor self.new.items) }
-        ensures stopped { (s : List Fact) → IsCached s self.old.floor self.old.items
+        ensures stopped { (s : List ObservationData) → IsCached s self.old.floor self.old.items
             → IfErr result (λ e.
             IsCached (take e.taken observations.items ++ s) self.new.floor self.new.items) }
         ensures within { IfErr result (λ e. e.taken < length observations.items) }
@@ -140,11 +144,11 @@ impl<A: Allocator> Cache<A> {
     pub fn merge(&mut self, other: &Cache<A>) -> Result<(), Stopped>
     where
         A: Copy,
-        ensures both { (s u : List Fact) → IsCached s self.old.floor self.old.items
+        ensures both { (s u : List ObservationData) → IsCached s self.old.floor self.old.items
             → IsCached u other.now.floor other.now.items
             → OnOk result (IsCached (u ++ s) self.new.floor self.new.items) }
         ensures floor { OnOk result (self.new.floor ≡ max self.old.floor other.now.floor) }
-        ensures stopped { (s : List Fact) → IsCached s self.old.floor self.old.items
+        ensures stopped { (s : List ObservationData) → IsCached s self.old.floor self.old.items
             → IfErr result (λ e.
             IsCached (take e.taken other.now.items ++ s) self.new.floor self.new.items) }
         ensures within { IfErr result (λ e. e.taken < length other.now.items) }
@@ -169,7 +173,7 @@ impl<A: Allocator> Cache<A> {
     /// raises the floor looks at 4096 fronts, or at the 256th part of them where that is more, in
     /// turn.
     pub fn purge(&mut self, moment: Moment)
-        ensures purged { (s : List Fact) → IsCached s self.old.floor self.old.items
+        ensures purged { (s : List ObservationData) → IsCached s self.old.floor self.old.items
             → IsCached s self.new.floor self.new.items }
         ensures floor { self.new.floor ≡ max self.old.floor moment }
     {
@@ -203,7 +207,7 @@ impl<A: Allocator> Cache<A> {
     /// Whether floor and items are the other's.
     pub fn same(&self, other: &Cache<A>) -> bool
         ensures same { IsTrue result ↔ (self.now ≡ other.now) }
-        ensures alike { (s t : List Fact) → IsCached s self.now.floor self.now.items
+        ensures alike { (s t : List ObservationData) → IsCached s self.now.floor self.now.items
             → IsCached t other.now.floor other.now.items → IsSameSet s t
             → self.now.floor ≡ other.now.floor → IsTrue result }
     {
@@ -243,12 +247,12 @@ impl<A: Allocator> Cache<A> {
     /// that nothing can be taken or purged while they are in use, and this takes no memory.
     pub fn answer<B: Allocator>(&self, question: &Question<B>, moment: Moment) -> Answer<'_, A>
         ensures filled { AllSome (chain_of result) }
-        ensures kinds { HasKinds (told result) }
-        ensures told { (s : List Fact) → IsCached s self.now.floor self.now.items
-            → told result
+        ensures kinds { HasKinds (answer_data result) }
+        ensures told { (s : List ObservationData) → IsCached s self.now.floor self.now.items
+            → answer_data result
             ≡ answer_of s (max self.now.floor moment) question.now.name question.now.rtype }
     {
-        let at = later(self.floor, moment);
+        let at = later_of(self.floor, moment);
         follow(
             &self.fronts,
             &self.denied,
@@ -268,7 +272,7 @@ impl<A: Allocator> Cache<A> {
     fn take_copy(&mut self, observation: &Observation<A>) -> Result<bool, AllocError>
     where
         A: Copy,
-        ensures taken { (s : List Fact) → IsCached s self.old.floor self.old.items
+        ensures taken { (s : List ObservationData) → IsCached s self.old.floor self.old.items
             → OnOk result (IsCached (observation.now ∷ s) self.new.floor self.new.items) }
         ensures floor { self.new.floor ≡ self.old.floor }
         ensures memory { OnErr result (¬ IsNeedless self.old.floor self.old.items observation.now) }
@@ -296,14 +300,14 @@ impl<A: Allocator> Cache<A> {
     fn needs(&self, observation: &Observation<A>) -> bool
         ensures needless { (result ≡ false)
             ↔ IsNeedless self.now.floor self.now.items observation.now }
-        ensures lawful { IsFact observation.now }
+        ensures lawful { IsObservation observation.now }
     {
         observation.expires() > self.floor.value() && !covers(&self.fronts, observation)
     }
 }
 
 /// The later of two moments.
-fn later(one: Moment, other: Moment) -> Moment
+fn later_of(one: Moment, other: Moment) -> Moment
     ensures { result ≡ max one other }
 {
     if one.value() < other.value() {

@@ -1,7 +1,7 @@
 //! Where name errors may stand.
 
 ghost use Rattle.std.specs.Prelude.{◌≡◌, ◌≤◌, false, List, [], ◌∷◌, get_or, length};
-ghost use Rattle.fleet_observe.specs.Fact.{Fact};
+ghost use Rattle.fleet_observe.specs.Observation.{ObservationData};
 ghost use Rattle.fleet_cache.specs.Noted.{AreNoted};
 
 use fleet_observe::{Kind, Observation};
@@ -36,7 +36,7 @@ impl Denied {
 
     /// Notes an observation, if it is a name error.
     pub(crate) fn note<A: Allocator>(&mut self, observation: &Observation<A>)
-        ensures { (items : List Fact) → AreNoted self.old items
+        ensures { (items : List ObservationData) → AreNoted self.old items
             → AreNoted self.new (observation.now ∷ items) }
     {
         if observation.kind() == Kind::NameError {

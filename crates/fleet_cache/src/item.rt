@@ -18,9 +18,9 @@ pub(crate) struct Item<A: Allocator = Global> {
 }
 
 impl<A: Allocator> Model for Item<A> {
-    ghost use Rattle.fleet_observe.specs.Fact.{Fact};
+    ghost use Rattle.fleet_observe.specs.Observation.{ObservationData};
 
-    ghost Value = { Fact };
+    ghost Value = { ObservationData };
 
     ghost view = { λ i. i.observation };
 }
@@ -79,8 +79,8 @@ impl<A: Allocator> Ranked for Item<A> {
 
     ghost use Rattle.fleet_observe.specs.Preference.{preference};
     ghost use Rattle.fleet_cache.specs.Dominates.{dominates as is_over};
-    ghost use Rattle.fleet_cache.specs.Live.{hidden as has_ended};
-    ghost use Rattle.fleet_cache.specs.Orders.{ranked};
+    ghost use Rattle.fleet_cache.specs.Live.{has_ended};
+    ghost use Rattle.fleet_cache.specs.Orders.{preference_laws};
 
     ghost order = { preference };
 
@@ -100,5 +100,5 @@ impl<A: Allocator> Ranked for Item<A> {
         self.observation.expires() <= cut.value()
     }
 
-    ghost laws = { ranked };
+    ghost laws = { preference_laws };
 }

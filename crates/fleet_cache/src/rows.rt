@@ -32,7 +32,7 @@ fn at(seconds: u64) -> Result<Moment, Fail> {
 }
 
 /// A question for a type at a name, by its octets.
-fn asked(rt: &HostRuntime, name: &[u8], rtype: u16) -> Result<Question, Fail> {
+fn question_of(rt: &HostRuntime, name: &[u8], rtype: u16) -> Result<Question, Fail> {
     let mut message = b"\0\x07\x01\0\0\x01\0\0\0\0\0\0"
         .as_slice()
         .to_vec(rt.alloc())?;
@@ -43,12 +43,12 @@ fn asked(rt: &HostRuntime, name: &[u8], rtype: u16) -> Result<Question, Fail> {
     Ok(question)
 }
 
-fn named(rt: &HostRuntime, name: &[u8]) -> Result<Name, Fail> {
-    Ok(asked(rt, name, 1)?.name.try_clone()?)
+fn name_of(rt: &HostRuntime, name: &[u8]) -> Result<Name, Fail> {
+    Ok(question_of(rt, name, 1)?.name.try_clone()?)
 }
 
 /// A record of the type.
-fn seen(
+fn observe(
     rt: &HostRuntime,
     name: &[u8],
     rtype: u16,
@@ -59,12 +59,12 @@ fn seen(
 ) -> Result<Observation, Fail> {
     let mut rdatas = Vec::new(rt.alloc());
     rdatas.push(Octets::copy_of(rt.alloc(), rdata)?)?;
-    let name = named(rt, name)?;
+    let name = name_of(rt, name)?;
     Ok(Observation::positive(name, rtype, rank, at(stamp)?, life, rdatas)?)
 }
 
 /// That there is no such type, or no such name, on the word of the owner's SOA.
-fn denied(
+fn deny(
     rt: &HostRuntime,
     name: &[u8],
     rtype: Option<u16>,
@@ -74,27 +74,27 @@ fn denied(
     life: u32,
 ) -> Result<Observation, Fail> {
     let soa = Soa {
-        owner: named(rt, owner)?,
+        owner: name_of(rt, owner)?,
         ttl: life,
         rdata: Octets::copy_of(rt.alloc(), SOA)?,
     };
-    let name = named(rt, name)?;
+    let name = name_of(rt, name)?;
     Ok(Observation::negative(name, rtype, rank, at(stamp)?, life, soa)?)
 }
 
 /// The name of the label c and a digit.
-fn numbered(digit: u8) -> [u8; 4] {
+fn numbered_name(digit: u8) -> [u8; 4] {
     [2, b'c', digit, 0]
 }
 
-fn answered(
+fn answer_in(
     rt: &HostRuntime,
     cache: &Cache,
     name: &[u8],
     rtype: u16,
     moment: u64,
 ) -> Result<Told, Fail> {
-    let question = asked(rt, name, rtype)?;
+    let question = question_of(rt, name, rtype)?;
     let told = match cache.answer(&question, at(moment)?) {
         Answer::Found { chain, set } => {
             let first = set.observation.rdatas().first().ok_or("no record")?;
@@ -118,18 +118,18 @@ fn the_preferred_of_two_answers(rt: HostRuntime) -> Result<(), Fail> {
     ] {
         let mut cache = Cache::new(rt.alloc());
         for ((rank, stamp, rdata), new) in order {
-            let observation = seen(&rt, EXAMPLE, 1, rdata, rank, stamp, 300)?;
+            let observation = observe(&rt, EXAMPLE, 1, rdata, rank, stamp, 300)?;
             assert_eq!(rt; cache.take(observation)?, new);
         }
         assert_eq!(rt;
-            answered(&rt, &cache, EXAMPLE, 1, 250)?,
+            answer_in(&rt, &cache, EXAMPLE, 1, 250)?,
             Told::Found(0, 1, 150)
         );
         assert_eq!(rt;
-            answered(&rt, &cache, EXAMPLE, 1, 400)?,
+            answer_in(&rt, &cache, EXAMPLE, 1, 400)?,
             Told::Found(0, 2, 100)
         );
-        assert_eq!(rt; answered(&rt, &cache, EXAMPLE, 1, 500)?, Told::Miss);
+        assert_eq!(rt; answer_in(&rt, &cache, EXAMPLE, 1, 500)?, Told::Miss);
     }
     Ok(())
 }
@@ -144,7 +144,7 @@ fn a_front_has_both_of_which_neither_dominates(rt: HostRuntime) -> Result<(), Fa
     ] {
         let mut front = Front::new(rt.alloc());
         for ((rank, stamp, rdata), new) in order {
-            let observation = seen(&rt, EXAMPLE, 1, rdata, rank, stamp, 300)?;
+            let observation = observe(&rt, EXAMPLE, 1, rdata, rank, stamp, 300)?;
             assert_eq!(rt; front.take(Item::new(observation))?, new);
         }
         let mut ranks = front.items().iter().map(|item| item.observation().rank());
@@ -164,20 +164,20 @@ fn a_front_has_both_of_which_neither_dominates(rt: HostRuntime) -> Result<(), Fa
 #[test]
 fn the_longer_lived_answers_again(rt: HostRuntime) -> Result<(), Fail> {
     let mut list = Vec::new(rt.alloc());
-    list.push(seen(&rt, EXAMPLE, 1, FIRST, 1, 100, 300)?)?;
-    list.push(seen(&rt, EXAMPLE, 1, SECOND, 1, 200, 10)?)?;
+    list.push(observe(&rt, EXAMPLE, 1, FIRST, 1, 100, 300)?)?;
+    list.push(observe(&rt, EXAMPLE, 1, SECOND, 1, 200, 10)?)?;
     let mut cache = Cache::new(rt.alloc());
     assert!(rt; cache.take_list(list).is_ok());
     assert_eq!(rt;
-        answered(&rt, &cache, EXAMPLE, 1, 150)?,
+        answer_in(&rt, &cache, EXAMPLE, 1, 150)?,
         Told::Found(0, 2, 10)
     );
     assert_eq!(rt;
-        answered(&rt, &cache, EXAMPLE, 1, 205)?,
+        answer_in(&rt, &cache, EXAMPLE, 1, 205)?,
         Told::Found(0, 2, 5)
     );
     assert_eq!(rt;
-        answered(&rt, &cache, EXAMPLE, 1, 210)?,
+        answer_in(&rt, &cache, EXAMPLE, 1, 210)?,
         Told::Found(0, 1, 190)
     );
     Ok(())
@@ -186,28 +186,31 @@ fn the_longer_lived_answers_again(rt: HostRuntime) -> Result<(), Fail> {
 #[test]
 fn what_has_ended_is_not_held(rt: HostRuntime) -> Result<(), Fail> {
     let mut cache = Cache::new(rt.alloc());
-    assert!(rt; cache.take(seen(&rt, EXAMPLE, 1, FIRST, 3, 100, 1)?)?);
+    assert!(rt; cache.take(observe(&rt, EXAMPLE, 1, FIRST, 3, 100, 1)?)?);
     assert_eq!(rt;
-        answered(&rt, &cache, EXAMPLE, 1, 100)?,
+        answer_in(&rt, &cache, EXAMPLE, 1, 100)?,
         Told::Found(0, 1, 1)
     );
-    assert_eq!(rt; answered(&rt, &cache, EXAMPLE, 1, 101)?, Told::Miss);
+    assert_eq!(rt; answer_in(&rt, &cache, EXAMPLE, 1, 101)?, Told::Miss);
     cache.purge(at(101)?);
     assert!(rt; cache.is_empty());
     // A moment before the floor is read as the floor.
-    assert_eq!(rt; answered(&rt, &cache, EXAMPLE, 1, 100)?, Told::Miss);
-    assert!(rt; !cache.take(seen(&rt, EXAMPLE, 1, FIRST, 3, 100, 1)?)?);
-    assert!(rt; cache.take(seen(&rt, EXAMPLE, 1, FIRST, 3, 100, 2)?)?);
-    assert_eq!(rt; answered(&rt, &cache, EXAMPLE, 1, 0)?, Told::Found(0, 1, 1));
+    assert_eq!(rt; answer_in(&rt, &cache, EXAMPLE, 1, 100)?, Told::Miss);
+    assert!(rt; !cache.take(observe(&rt, EXAMPLE, 1, FIRST, 3, 100, 1)?)?);
+    assert!(rt; cache.take(observe(&rt, EXAMPLE, 1, FIRST, 3, 100, 2)?)?);
+    assert_eq!(rt;
+        answer_in(&rt, &cache, EXAMPLE, 1, 0)?,
+        Told::Found(0, 1, 1)
+    );
     Ok(())
 }
 
 #[test]
 fn an_answer_is_read_before_the_cache_changes(rt: HostRuntime) -> Result<(), Fail> {
     let mut cache = Cache::new(rt.alloc());
-    assert!(rt; cache.take(seen(&rt, EXAMPLE, 1, FIRST, 1, 100, 300)?)?);
-    let other = seen(&rt, EXAMPLE, 1, SECOND, 3, 100, 300)?;
-    let question = asked(&rt, EXAMPLE, 1)?;
+    assert!(rt; cache.take(observe(&rt, EXAMPLE, 1, FIRST, 1, 100, 300)?)?);
+    let other = observe(&rt, EXAMPLE, 1, SECOND, 3, 100, 300)?;
+    let question = question_of(&rt, EXAMPLE, 1)?;
     let Answer::Found { set, .. } = cache.answer(&question, at(150)?) else {
         return Err("no records".into());
     };
@@ -226,9 +229,9 @@ fn an_answer_is_read_before_the_cache_changes(rt: HostRuntime) -> Result<(), Fai
 fn a_purge_shows_at_once_what_is_left(rt: HostRuntime) -> Result<(), Fail> {
     let mut cache = Cache::new(rt.alloc());
     for (digit, life) in [(b'1', 10), (b'2', 300), (b'3', 10), (b'4', 20)] {
-        cache.take(seen(&rt, &numbered(digit), 1, FIRST, 3, 100, life)?)?;
+        cache.take(observe(&rt, &numbered_name(digit), 1, FIRST, 3, 100, life)?)?;
     }
-    cache.take(seen(&rt, &numbered(b'2'), 1, SECOND, 1, 99, 311)?)?;
+    cache.take(observe(&rt, &numbered_name(b'2'), 1, SECOND, 1, 99, 311)?)?;
     for (moment, lives) in [
         (109, [10, 300, 311, 10, 20].as_slice()),
         (110, [300, 311, 20].as_slice()),
@@ -260,7 +263,7 @@ fn purges_go_round(rt: HostRuntime) -> Result<(), Fail> {
         let low = b'0' + (number % 10) as u8;
         let life = if number % 2 == 0 { 10 } else { 300 };
         let name = [4, high, upper, lower, low, 0];
-        cache.take(seen(&rt, &name, 1, FIRST, 3, 100, life)?)?;
+        cache.take(observe(&rt, &name, 1, FIRST, 3, 100, life)?)?;
     }
     cache.purge(at(110)?);
     assert_eq!(rt; cache.len(), 2500);
@@ -280,19 +283,19 @@ fn a_name_error_behind_two_links(rt: HostRuntime) -> Result<(), Fail> {
     let a = b"\x01a\x07example\0";
     let b = b"\x01b\x07example\0";
     let mut cache = Cache::new(rt.alloc());
-    assert!(rt; cache.take(seen(&rt, www, 5, a, 1, 100, 60)?)?);
-    assert!(rt; cache.take(seen(&rt, a, 5, b, 1, 100, 60)?)?);
-    let gone = denied(&rt, b, None, b"\x07example\0", 1, 100, 300)?;
+    assert!(rt; cache.take(observe(&rt, www, 5, a, 1, 100, 60)?)?);
+    assert!(rt; cache.take(observe(&rt, a, 5, b, 1, 100, 60)?)?);
+    let gone = deny(&rt, b, None, b"\x07example\0", 1, 100, 300)?;
     assert!(rt; cache.take(gone)?);
     for rtype in [1, 28] {
         assert_eq!(rt;
-            answered(&rt, &cache, www, rtype, 110)?,
+            answer_in(&rt, &cache, www, rtype, 110)?,
             Told::NxDomain(2, 290)
         );
     }
-    assert_eq!(rt; answered(&rt, &cache, www, 5, 110)?, Told::Found(0, 0, 50));
-    assert_eq!(rt; answered(&rt, &cache, www, 1, 160)?, Told::Miss);
-    assert_eq!(rt; answered(&rt, &cache, b, 1, 160)?, Told::NxDomain(0, 240));
+    assert_eq!(rt; answer_in(&rt, &cache, www, 5, 110)?, Told::Found(0, 0, 50));
+    assert_eq!(rt; answer_in(&rt, &cache, www, 1, 160)?, Told::Miss);
+    assert_eq!(rt; answer_in(&rt, &cache, b, 1, 160)?, Told::NxDomain(0, 240));
     Ok(())
 }
 
@@ -301,13 +304,13 @@ fn a_name_error_removes_nothing(rt: HostRuntime) -> Result<(), Fail> {
     let b = b"\x01b\x07example\0";
     let below = b"\x01x\x01y\x01b\x07example\0";
     for denial_first in [true, false] {
-        let gone = denied(&rt, b, None, b"\x07example\0", 3, 100, 300)?;
-        let there = seen(&rt, below, 1, FIRST, 3, 200, 300)?;
+        let gone = deny(&rt, b, None, b"\x07example\0", 3, 100, 300)?;
+        let there = observe(&rt, below, 1, FIRST, 3, 200, 300)?;
         let mut cache = Cache::new(rt.alloc());
         if denial_first {
             assert!(rt; cache.take(gone)?);
             assert_eq!(rt;
-                answered(&rt, &cache, below, 1, 110)?,
+                answer_in(&rt, &cache, below, 1, 110)?,
                 Told::NxDomain(0, 290)
             );
             assert!(rt; cache.take(there)?);
@@ -317,12 +320,12 @@ fn a_name_error_removes_nothing(rt: HostRuntime) -> Result<(), Fail> {
         }
         assert_eq!(rt; cache.len(), 2);
         assert_eq!(rt;
-            answered(&rt, &cache, below, 1, 210)?,
+            answer_in(&rt, &cache, below, 1, 210)?,
             Told::Found(0, 1, 290)
         );
         let other = b"\x01c\x01b\x07example\0";
         assert_eq!(rt;
-            answered(&rt, &cache, other, 1, 210)?,
+            answer_in(&rt, &cache, other, 1, 210)?,
             Told::NxDomain(0, 190)
         );
     }
@@ -336,26 +339,26 @@ fn a_name_error_is_found_from_below(rt: HostRuntime) -> Result<(), Fail> {
     let below = b"\x01x\x01y\x01b\x07example\0";
     let told = Told::NxDomain(0, 290);
     let mut cache = Cache::new(rt.alloc());
-    let longer = denied(&rt, b"\x02cc\x07example\0", None, owner, 1, 100, 10)?;
+    let longer = deny(&rt, b"\x02cc\x07example\0", None, owner, 1, 100, 10)?;
     assert!(rt; cache.take(longer)?);
-    assert_eq!(rt; answered(&rt, &cache, below, 1, 105)?, Told::Miss);
-    assert!(rt; cache.take(denied(&rt, b, None, owner, 1, 100, 300)?)?);
-    assert!(rt; cache.take(seen(&rt, EXAMPLE, 1, FIRST, 3, 100, 900)?)?);
-    assert_eq!(rt; answered(&rt, &cache, below, 1, 110)?, told);
+    assert_eq!(rt; answer_in(&rt, &cache, below, 1, 105)?, Told::Miss);
+    assert!(rt; cache.take(deny(&rt, b, None, owner, 1, 100, 300)?)?);
+    assert!(rt; cache.take(observe(&rt, EXAMPLE, 1, FIRST, 3, 100, 900)?)?);
+    assert_eq!(rt; answer_in(&rt, &cache, below, 1, 110)?, told);
     let mut other = Cache::new(rt.alloc());
-    assert!(rt; other.take(seen(&rt, below, 28, FIRST, 3, 100, 900)?)?);
+    assert!(rt; other.take(observe(&rt, below, 28, FIRST, 3, 100, 900)?)?);
     other.merge(&cache)?;
-    assert_eq!(rt; answered(&rt, &other, below, 1, 110)?, told);
+    assert_eq!(rt; answer_in(&rt, &other, below, 1, 110)?, told);
     other.purge(at(110)?);
     assert_eq!(rt; other.len(), 3);
-    assert_eq!(rt; answered(&rt, &other, below, 1, 110)?, told);
+    assert_eq!(rt; answer_in(&rt, &other, below, 1, 110)?, told);
     other.purge(at(400)?);
     assert_eq!(rt; other.len(), 2);
-    assert_eq!(rt; answered(&rt, &other, below, 1, 400)?, Told::Miss);
+    assert_eq!(rt; answer_in(&rt, &other, below, 1, 400)?, Told::Miss);
     other.clear();
-    assert_eq!(rt; answered(&rt, &other, below, 1, 110)?, Told::Miss);
-    assert!(rt; other.take(denied(&rt, b, None, owner, 1, 100, 300)?)?);
-    assert_eq!(rt; answered(&rt, &other, below, 1, 110)?, told);
+    assert_eq!(rt; answer_in(&rt, &other, below, 1, 110)?, Told::Miss);
+    assert!(rt; other.take(deny(&rt, b, None, owner, 1, 100, 300)?)?);
+    assert_eq!(rt; answer_in(&rt, &other, below, 1, 110)?, told);
     Ok(())
 }
 
@@ -370,9 +373,9 @@ fn names_of_any_length_may_not_exist(rt: HostRuntime) -> Result<(), Fail> {
     longest[254] = 0;
     for name in [longest.as_slice(), b"\0".as_slice()] {
         let mut cache = Cache::new(rt.alloc());
-        assert!(rt; cache.take(denied(&rt, name, None, b"\0", 1, 100, 300)?)?);
+        assert!(rt; cache.take(deny(&rt, name, None, b"\0", 1, 100, 300)?)?);
         assert_eq!(rt;
-            answered(&rt, &cache, &longest, 1, 110)?,
+            answer_in(&rt, &cache, &longest, 1, 110)?,
             Told::NxDomain(0, 290)
         );
     }
@@ -382,34 +385,34 @@ fn names_of_any_length_may_not_exist(rt: HostRuntime) -> Result<(), Fail> {
 #[test]
 fn no_data_holds_for_one_type(rt: HostRuntime) -> Result<(), Fail> {
     let mut cache = Cache::new(rt.alloc());
-    let empty = denied(&rt, EXAMPLE, Some(28), b"\x03com\0", 1, 100, 10800)?;
+    let empty = deny(&rt, EXAMPLE, Some(28), b"\x03com\0", 1, 100, 10800)?;
     assert!(rt; cache.take(empty)?);
     assert_eq!(rt;
-        answered(&rt, &cache, EXAMPLE, 28, 110)?,
+        answer_in(&rt, &cache, EXAMPLE, 28, 110)?,
         Told::NoData(0, 10790)
     );
-    assert_eq!(rt; answered(&rt, &cache, EXAMPLE, 1, 110)?, Told::Miss);
-    let alias = seen(&rt, &numbered(b'0'), 5, EXAMPLE, 1, 100, 300)?;
+    assert_eq!(rt; answer_in(&rt, &cache, EXAMPLE, 1, 110)?, Told::Miss);
+    let alias = observe(&rt, &numbered_name(b'0'), 5, EXAMPLE, 1, 100, 300)?;
     assert!(rt; cache.take(alias)?);
-    let name = numbered(b'0');
+    let name = numbered_name(b'0');
     assert_eq!(rt;
-        answered(&rt, &cache, &name, 28, 110)?,
+        answer_in(&rt, &cache, &name, 28, 110)?,
         Told::NoData(1, 10790)
     );
     // Nothing is known of the other type behind the link.
-    assert_eq!(rt; answered(&rt, &cache, &name, 1, 110)?, Told::Miss);
+    assert_eq!(rt; answer_in(&rt, &cache, &name, 1, 110)?, Told::Miss);
     Ok(())
 }
 
 /// A cache of so many aliases, each of the next name, and an address at the last.
-fn chained(rt: &HostRuntime, links: u8) -> Result<Cache, Fail> {
+fn cache_of_links(rt: &HostRuntime, links: u8) -> Result<Cache, Fail> {
     let mut list = Vec::new(rt.alloc());
     for digit in b'0'..b'0'.saturating_add(links) {
-        let target = numbered(digit.saturating_add(1));
-        list.push(seen(rt, &numbered(digit), 5, &target, 1, 100, 300)?)?;
+        let target = numbered_name(digit.saturating_add(1));
+        list.push(observe(rt, &numbered_name(digit), 5, &target, 1, 100, 300)?)?;
     }
-    let last = numbered(b'0'.saturating_add(links));
-    list.push(seen(rt, &last, 1, FIRST, 1, 100, 300)?)?;
+    let last = numbered_name(b'0'.saturating_add(links));
+    list.push(observe(rt, &last, 1, FIRST, 1, 100, 300)?)?;
     let mut cache = Cache::new(rt.alloc());
     cache.take_list(list)?;
     Ok(cache)
@@ -417,8 +420,8 @@ fn chained(rt: &HostRuntime, links: u8) -> Result<Cache, Fail> {
 
 #[test]
 fn eight_links_are_followed(rt: HostRuntime) -> Result<(), Fail> {
-    let cache = chained(&rt, 8)?;
-    let question = asked(&rt, &numbered(b'0'), 1)?;
+    let cache = cache_of_links(&rt, 8)?;
+    let question = question_of(&rt, &numbered_name(b'0'), 1)?;
     let answer = cache.answer(&question, at(110)?);
     let Answer::Found { chain, set } = answer else {
         return Err("no records".into());
@@ -428,21 +431,27 @@ fn eight_links_are_followed(rt: HostRuntime) -> Result<(), Fail> {
         let link = link.ok_or("no link")?;
         assert_eq!(rt;
             link.observation.name().octets(),
-            numbered(digit).as_slice()
+            numbered_name(digit).as_slice()
         );
         assert_eq!(rt; (link.observation.rtype(), link.ttl), (5, 290));
     }
-    assert_eq!(rt; set.observation.name().octets(), numbered(b'8').as_slice());
+    assert_eq!(rt;
+        set.observation.name().octets(),
+        numbered_name(b'8').as_slice()
+    );
     assert_eq!(rt; (set.observation.rtype(), set.ttl), (1, 290));
     Ok(())
 }
 
 #[test]
 fn a_ninth_link_is_a_miss(rt: HostRuntime) -> Result<(), Fail> {
-    let nine = chained(&rt, 9)?;
-    assert_eq!(rt; answered(&rt, &nine, &numbered(b'0'), 1, 110)?, Told::Miss);
+    let nine = cache_of_links(&rt, 9)?;
     assert_eq!(rt;
-        answered(&rt, &nine, &numbered(b'1'), 1, 110)?,
+        answer_in(&rt, &nine, &numbered_name(b'0'), 1, 110)?,
+        Told::Miss
+    );
+    assert_eq!(rt;
+        answer_in(&rt, &nine, &numbered_name(b'1'), 1, 110)?,
         Told::Found(8, 1, 290)
     );
     Ok(())
@@ -451,10 +460,10 @@ fn a_ninth_link_is_a_miss(rt: HostRuntime) -> Result<(), Fail> {
 #[test]
 fn aliases_of_each_other_are_a_miss(rt: HostRuntime) -> Result<(), Fail> {
     let mut cache = Cache::new(rt.alloc());
-    let (here, there) = (numbered(b'0'), numbered(b'1'));
-    assert!(rt; cache.take(seen(&rt, &here, 5, &there, 1, 100, 300)?)?);
-    assert!(rt; cache.take(seen(&rt, &there, 5, &here, 1, 100, 300)?)?);
-    assert_eq!(rt; answered(&rt, &cache, &here, 1, 110)?, Told::Miss);
+    let (here, there) = (numbered_name(b'0'), numbered_name(b'1'));
+    assert!(rt; cache.take(observe(&rt, &here, 5, &there, 1, 100, 300)?)?);
+    assert!(rt; cache.take(observe(&rt, &there, 5, &here, 1, 100, 300)?)?);
+    assert_eq!(rt; answer_in(&rt, &cache, &here, 1, 110)?, Told::Miss);
     Ok(())
 }
 
@@ -462,8 +471,8 @@ fn aliases_of_each_other_are_a_miss(rt: HostRuntime) -> Result<(), Fail> {
 fn merges_agree(rt: HostRuntime) -> Result<(), Fail> {
     let mut ours = Cache::new(rt.alloc());
     let mut theirs = Cache::new(rt.alloc());
-    assert!(rt; ours.take(seen(&rt, EXAMPLE, 1, FIRST, 1, 100, 300)?)?);
-    assert!(rt; theirs.take(seen(&rt, EXAMPLE, 1, SECOND, 1, 200, 10)?)?);
+    assert!(rt; ours.take(observe(&rt, EXAMPLE, 1, FIRST, 1, 100, 300)?)?);
+    assert!(rt; theirs.take(observe(&rt, EXAMPLE, 1, SECOND, 1, 200, 10)?)?);
     theirs.purge(at(150)?);
     assert!(rt; !ours.same(&theirs));
     assert_eq!(rt; theirs.len(), 1);
@@ -482,8 +491,8 @@ fn merges_agree(rt: HostRuntime) -> Result<(), Fail> {
 fn what_is_dominated_goes(rt: HostRuntime) -> Result<(), Fail> {
     for first in [3, 1] {
         let mut cache = Cache::new(rt.alloc());
-        assert!(rt; cache.take(seen(&rt, EXAMPLE, 1, FIRST, first, 100, 300)?)?);
-        let other = seen(&rt, EXAMPLE, 1, SECOND, 4 - first, 100, 300)?;
+        assert!(rt; cache.take(observe(&rt, EXAMPLE, 1, FIRST, first, 100, 300)?)?);
+        let other = observe(&rt, EXAMPLE, 1, SECOND, 4 - first, 100, 300)?;
         assert_eq!(rt; cache.take(other)?, first == 1);
         let mut ranks = cache.items().map(|item| item.rank());
         assert_eq!(rt; ranks.next(), Some(3));
@@ -499,17 +508,17 @@ fn a_cleared_cache_is_as_new(rt: HostRuntime) -> Result<(), Fail> {
     let new: Cache = Cache::new(rt.alloc());
     let mut cache = Cache::new(rt.alloc());
     assert!(rt; cache.is_empty());
-    assert!(rt; cache.take(seen(&rt, EXAMPLE, 1, FIRST, 1, 100, 300)?)?);
+    assert!(rt; cache.take(observe(&rt, EXAMPLE, 1, FIRST, 1, 100, 300)?)?);
     cache.purge(at(150)?);
     assert_eq!(rt; (cache.len(), cache.is_empty()), (1, false));
     cache.clear();
     assert!(rt; cache.is_empty());
     assert!(rt; cache.same(&new));
-    assert_eq!(rt; answered(&rt, &cache, EXAMPLE, 1, 110)?, Told::Miss);
+    assert_eq!(rt; answer_in(&rt, &cache, EXAMPLE, 1, 110)?, Told::Miss);
     // What had ended at the old floor is taken again.
-    assert!(rt; cache.take(seen(&rt, EXAMPLE, 1, FIRST, 1, 100, 50)?)?);
+    assert!(rt; cache.take(observe(&rt, EXAMPLE, 1, FIRST, 1, 100, 50)?)?);
     assert_eq!(rt;
-        answered(&rt, &cache, EXAMPLE, 1, 110)?,
+        answer_in(&rt, &cache, EXAMPLE, 1, 110)?,
         Told::Found(0, 1, 40)
     );
     Ok(())

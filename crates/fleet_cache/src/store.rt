@@ -1,12 +1,12 @@
 //! A map from keys to fronts.
 
 ghost use Rattle.std.specs.Prelude.{◌≡◌, ℕ, Bool, ◌≤◌, ◌↔◌, [], ◌∷◌, length, IsTrue, OnErr, IfOk};
-ghost use Rattle.fleet_observe.specs.Fact.{kind_number, key_of};
+ghost use Rattle.fleet_observe.specs.Observation.{key_of};
 ghost use Rattle.fleet_observe.specs.Preference.{preference};
 ghost use Rattle.fleet_cache.specs.Front.{IsFront};
 ghost use Rattle.fleet_cache.specs.Dominates.{dominates};
 ghost use Rattle.fleet_cache.specs.Cached.{key_with, is_covered, IsCovered};
-ghost use Rattle.fleet_cache.specs.Packed.{packed, words_of, IsPackable};
+ghost use Rattle.fleet_cache.specs.Packed.{octet_words, words_of, IsPackable};
 ghost use Rattle.fleet_cache.specs.Slots.{items_of, IsLaid, Put};
 
 use crate::item::Item;
@@ -26,8 +26,8 @@ pub(crate) type Fronts<A> = BTreeMap<Key<A>, Front<Item<A>, A>, A>;
 /// The words of a key on the stack.
 pub(crate) fn key_words(name: &[u8], kind: Kind, rtype: u16) -> ArrayVec<u64, 37>
     requires { length name.now ≤ 255 }
-    ensures words { result.items ≡ packed (key_with name.now (kind_number kind) rtype) }
-    ensures packable { IsPackable (key_with name.now (kind_number kind) rtype) }
+    ensures words { result.items ≡ octet_words (key_with name.now kind rtype) }
+    ensures packable { IsPackable (key_with name.now kind rtype) }
 {
     let octets = key_octets(name, kind, rtype);
     pack(octets.as_slice())
@@ -81,13 +81,13 @@ pub(crate) fn store<A: Allocator + Copy>(
         return front.take(Item::new(observation));
     }
     let key = Vec::from_slice(alloc, words.as_slice())?;
-    let front = first(alloc, observation)?;
+    let front = front_of(alloc, observation)?;
     fronts.insert(key, front)?;
     Ok(true)
 }
 
 /// The front of one observation.
-fn first<A: Allocator>(
+fn front_of<A: Allocator>(
     alloc: A,
     observation: Observation<A>,
 ) -> Result<Front<Item<A>, A>, AllocError>

@@ -2,9 +2,8 @@
 
 ghost use Rattle.std.specs.Prelude.{◌≡◌, ◌<◌, ◌≤◌, length};
 ghost use Rattle.std.specs.List.{AllByRecursion};
-ghost use Rattle.fleet_observe.specs.Fact.{kind_number};
 ghost use Rattle.fleet_cache.specs.Cached.{key_with};
-ghost use Rattle.fleet_cache.specs.Packed.{weights, weigh, packed};
+ghost use Rattle.fleet_cache.specs.Packed.{weights, weigh, octet_words};
 
 use arrayvec::ArrayVec;
 use fleet_observe::Kind;
@@ -24,7 +23,7 @@ const WEIGHTS: [u64; 7] = [
 /// The octets of a key on the stack: those of the name, the kind, the type in two octets.
 pub(crate) fn key_octets(name: &[u8], kind: Kind, rtype: u16) -> ArrayVec<u8, 258>
     requires { length name.now ≤ 255 }
-    ensures { result.items ≡ key_with name.now (kind_number kind) rtype }
+    ensures { result.items ≡ key_with name.now kind rtype }
 {
     let mut key = ArrayVec::new();
     if key.try_extend_from_slice(name).is_err() {
@@ -39,7 +38,7 @@ pub(crate) fn key_octets(name: &[u8], kind: Kind, rtype: u16) -> ArrayVec<u8, 25
 /// Octets as words, seven to a word, that compare as the octets do.
 pub(crate) fn pack(octets: &[u8]) -> ArrayVec<u64, 37>
     requires { length octets.now ≤ 259 }
-    ensures words { result.items ≡ packed octets.now }
+    ensures words { result.items ≡ octet_words octets.now }
     ensures bytes { AllByRecursion (λ x. x < 256) octets.now }
 {
     let mut words = ArrayVec::new();

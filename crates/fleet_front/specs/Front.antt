@@ -1,10 +1,11 @@
 -- What a front of a set is, for any order, dominance and cut that keep the laws.
-use Rattle.std.specs.Prelude.{ℕ, suc, ◌≡◌, Bool, true, false, ◌⊎◌, ◌||◌, not, cond, List, [], ◌∷◌}
+use Rattle.std.specs.Prelude.{ℕ, suc, ◌≡◌, Bool, true, false, ◌⊎◌, ◌||◌, not, if◌then◌else◌, List, [], ◌∷◌}
 use Rattle.std.specs.List.{filter, list_any}
 use Rattle.std.specs.declared.cmp.Ordering.{Ordering}
 use Rattle.std.specs.declared.cmp.Ordering.TheVariants.{Equal, Greater}
 use Rattle.std.specs.Ordering.{is_eq, is_gt}
 use Rattle.std.specs.Cmp.{IsTotalOrder}
+pub use Rattle.fleet_name.specs.Places.{Has}
 
 -- the laws of a ranked type
 pub record RankedLaws {T C : Type 0} (order : T → T → Ordering) (dominates : T → T → Bool)
@@ -14,11 +15,6 @@ pub record RankedLaws {T C : Type 0} (order : T → T → Ordering) (dominates :
   pub chained : (x y z : T) → dominates x y ≡ true → dominates y z ≡ true → dominates x z ≡ true
   pub greater : (x y : T) → dominates x y ≡ true → order x y ≡ Greater
   pub hides_below : (c : C) (x y : T) → hidden c x ≡ true → dominates x y ≡ true → hidden c y ≡ true
-
--- x is one of the values
-abbrev pub Has : {X : Type 0} → List X → X → Type 0
-Has [] x = ⊥
-Has (y ∷ ys) x = (y ≡ x) ⊎ Has ys x
 
 -- each value stands after all greater ones
 abbrev pub IsDescending : {X : Type 0} → (X → X → Ordering) → List X → Type 0
@@ -38,8 +34,8 @@ pub record IsFront {X : Type 0} (order : X → X → Ordering) (dominates : X �
   pub whole : (x : X) → Has s x → IsUndominated dominates s x → Has items x
 
 -- the values that a cut shows
-abbrev pub shown : {C X : Type 0} → (C → X → Bool) → C → List X → List X
-shown hidden c s = filter (λ x. not (hidden c x)) s
+abbrev pub without_hidden : {C X : Type 0} → (C → X → Bool) → C → List X → List X
+without_hidden hidden c s = filter (λ x. not (hidden c x)) s
 
 -- x is the greatest of the values
 pub record IsGreatest {X : Type 0} (order : X → X → Ordering) (s : List X) (x : X) : Type 0 where
@@ -57,4 +53,4 @@ is_covered order dominates x items = list_any (λ y. is_eq (order y x) || domina
 -- how many items at the front are greater than x
 abbrev pub count_above : {X : Type 0} → (X → X → Ordering) → X → List X → ℕ
 count_above order x [] = 0
-count_above order x (y ∷ ys) = cond (is_gt (order y x)) (suc (count_above order x ys)) 0
+count_above order x (y ∷ ys) = if is_gt (order y x) then suc (count_above order x ys) else 0

@@ -12,7 +12,7 @@ ghost use Rattle.std.specs.Prelude.{◌≡◌, Bool, true, false, ◌||◌, not,
 ghost use Rattle.std.specs.Ordering.{is_eq};
 ghost use Rattle.std.specs.declared.cmp.Ordering.{Ordering};
 ghost use Rattle.std.specs.List.{filter};
-ghost use Rattle.fleet_front.specs.Front.{RankedLaws, IsFront, IsCovered, IsGreatest, shown, is_covered, count_above};
+ghost use Rattle.fleet_front.specs.Front.{RankedLaws, IsFront, IsCovered, IsGreatest, without_hidden, is_covered, count_above};
 
 use std::alloc::{AllocError, Allocator, Global};
 use std::cmp::Ordering;
@@ -103,8 +103,8 @@ impl<T: Ranked, A: Allocator> Front<T, A> {
     /// Drops what the cut hides: what is left is the front of what the cut shows.
     pub fn drop_hidden(&mut self, cut: &T::Cut)
         ensures front { (s : List T) → IsFront T.order T.dominates s self.old
-            → IsFront T.order T.dominates (shown T.hidden cut.now s) self.new }
-        ensures items { self.new ≡ shown T.hidden cut.now self.old }
+            → IsFront T.order T.dominates (without_hidden T.hidden cut.now s) self.new }
+        ensures items { self.new ≡ without_hidden T.hidden cut.now self.old }
     {
         keep_shown(&mut self.items, cut);
     }
@@ -112,8 +112,8 @@ impl<T: Ranked, A: Allocator> Front<T, A> {
     /// The greatest value of the set that the cut does not hide, if there is one.
     pub fn first_shown(&self, cut: &T::Cut) -> Option<&T>
         ensures { (s : List T) → IsFront T.order T.dominates s self.now
-            → MatchOption result (shown T.hidden cut.now s ≡ [])
-            (λ x. IsGreatest T.order (shown T.hidden cut.now s) x.now) }
+            → MatchOption result (without_hidden T.hidden cut.now s ≡ [])
+            (λ x. IsGreatest T.order (without_hidden T.hidden cut.now s) x.now) }
     {
         first_kept(&self.items, cut)
     }
@@ -156,7 +156,7 @@ fn drop_dominated<T: Ranked, A: Allocator>(items: &mut Vec<T, A>, value: &T)
 
 /// Keeps what the cut does not hide.
 fn keep_shown<T: Ranked, A: Allocator>(items: &mut Vec<T, A>, cut: &T::Cut)
-    ensures { items.new.items ≡ shown T.hidden cut.now items.old.items }
+    ensures { items.new.items ≡ without_hidden T.hidden cut.now items.old.items }
 {
     items.retain(
         |held: &T| -> bool
@@ -167,8 +167,8 @@ fn keep_shown<T: Ranked, A: Allocator>(items: &mut Vec<T, A>, cut: &T::Cut)
 
 /// The first item that the cut does not hide.
 fn first_kept<'a, T: Ranked>(items: &'a [T], cut: &T::Cut) -> Option<&'a T>
-    ensures { MatchOption result (shown T.hidden cut.now items.now ≡ [])
-        (λ x. (rest : List T) × (shown T.hidden cut.now items.now ≡ x.now ∷ rest)) }
+    ensures { MatchOption result (without_hidden T.hidden cut.now items.now ≡ [])
+        (λ x. (rest : List T) × (without_hidden T.hidden cut.now items.now ≡ x.now ∷ rest)) }
 {
     for held in items {
         if !held.hidden(cut) {

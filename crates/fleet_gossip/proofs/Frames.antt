@@ -2,72 +2,62 @@
 use Rattle.std.proofs.Common.{◌≡◌, ℕ, inl, inr, List, [], ◌∷◌, ◌++◌, length, refl, sym, ap, ◌∙◌, subst, arith, length-append, append_assoc}
 use Rattle.std.proofs.lemmas.List.{append-nil}
 use Rattle.fleet_wire.specs.Number.{u16_octets}
-use Rattle.fleet_observe.specs.Members.{Has}
-use Rattle.fleet_observe.specs.Fact.{Fact, IsFact, AreFacts}
+use Rattle.fleet_observe.specs.Observation.{ObservationData, IsObservation, AreObservations}
 use Rattle.fleet_gossip.specs.Entry.{octet, entry_octets}
 use Rattle.fleet_gossip.specs.Frame.{magic, version, entries, frame_octets, SpellsFrame}
 use Rattle.fleet_gossip.specs.Faults.{AnyNumber, EntryFails, EntriesFail, entry_fails, more_octets, CountFails, VersionFails, MagicFails, FrameFails}
 use Rattle.fleet_gossip.specs.declared.fault.FrameFault.{FrameFault}
 use Rattle.fleet_gossip.specs.declared.fault.FrameFault.TheVariants.{BadMagic, BadVersion, Truncated}
-use Rattle.fleet_gossip.proofs.Numbers.{octet_exact, u16_exact}
+use Rattle.fleet_wire.proofs.Lemmas.{u16_exact, u16_long}
+use Rattle.fleet_gossip.proofs.Numbers.{octet_exact, octet_long}
 use Rattle.fleet_gossip.proofs.Fields.{field_or_fault, one_field}
-use Rattle.fleet_gossip.proofs.Rows.{Aligned, same, longer, shorter, aligned, row_or_fault, one_row_fault}
-use Rattle.fleet_gossip.proofs.Bodies.{has_left}
+use Rattle.fleet_gossip.proofs.Rows.{Aligned, same, longer, shorter, align, row_or_fault, one_row_fault}
+use Rattle.fleet_name.proofs.Lemmas.{has_left, has_right}
 use Rattle.fleet_gossip.proofs.Entries.{entry_of, entry_or_fault, one_entry_fault, entry_exact}
 
-pub facts_front : (before after : List Fact) → AreFacts (before ++ after) → AreFacts before
+pub facts_front : (before after : List ObservationData) → AreObservations (before ++ after) → AreObservations before
 facts_front before after l = λ o h. l o (has_left before after o h)
 
-facts_one_more : (before : List Fact) (o : Fact) (more : List Fact) → AreFacts (before ++ o ∷ more) → AreFacts (before ++ o ∷ [])
-facts_one_more before o more l = facts_front (before ++ o ∷ []) more (subst (λ (x : List Fact). AreFacts x) (sym (append_assoc before (o ∷ []) more)) l)
+facts_one_more : (before : List ObservationData) (o : ObservationData) (more : List ObservationData) → AreObservations (before ++ o ∷ more) → AreObservations (before ++ o ∷ [])
+facts_one_more before o more l = facts_front (before ++ o ∷ []) more (subst (λ (x : List ObservationData). AreObservations x) (sym (append_assoc before (o ∷ []) more)) l)
 
-has_last : (before : List Fact) (o : Fact) → Has (before ++ o ∷ []) o
-has_last [] o = inl refl
-has_last (x ∷ before) o = inr (has_last before o)
-
-pub facts_push : (before : List Fact) (o : Fact) → AreFacts before → IsFact o → AreFacts (before ++ o ∷ [])
-facts_push [] o l is = λ x h. elim h [ inl e ↦ subst (λ (y : Fact). IsFact y) e is | inr h' ↦ absurd h' ]
+pub facts_push : (before : List ObservationData) (o : ObservationData) → AreObservations before → IsObservation o → AreObservations (before ++ o ∷ [])
+facts_push [] o l is = λ x h. elim h [ inl e ↦ subst (λ (y : ObservationData). IsObservation y) e is | inr h' ↦ absurd h' ]
 facts_push (y ∷ before) o l is = λ x h. elim h [ inl e ↦ l x (inl e) | inr h' ↦ facts_push before o (λ z k. l z (inr k)) is x h' ]
 
-tells : (before : List Fact) (o p : Fact) (r s : List ℕ) → AreFacts (before ++ o ∷ []) → AreFacts (before ++ p ∷ []) → entry_octets o ++ r ≡ entry_octets p ++ s → (o ≡ p) × (r ≡ s)
-tells before o p r s l l' e = entry_exact o p (entry_of o (l o (has_last before o))) (entry_of p (l' p (has_last before p))) r s e
+tells : (before : List ObservationData) (o p : ObservationData) (r s : List ℕ) → AreObservations (before ++ o ∷ []) → AreObservations (before ++ p ∷ []) → entry_octets o ++ r ≡ entry_octets p ++ s → (o ≡ p) × (r ≡ s)
+tells before o p r s l l' e = entry_exact o p (entry_of o (l o (has_right before (o ∷ []) o (inl refl)))) (entry_of p (l' p (has_right before (p ∷ []) p (inl refl)))) r s e
 
-next_or_fault : (before : List Fact) (o : Fact) (rest octets : List ℕ) (f : FrameFault) → AreFacts (before ++ o ∷ []) → octets ≡ entry_octets o ++ rest → EntryFails octets f → ⊥
-next_or_fault before o rest octets f l is h = entry_or_fault o (entry_of o (l o (has_last before o))) rest f octets is h
+next_or_fault : (before : List ObservationData) (o : ObservationData) (rest octets : List ℕ) (f : FrameFault) → AreObservations (before ++ o ∷ []) → octets ≡ entry_octets o ++ rest → EntryFails octets f → ⊥
+next_or_fault before o rest octets f l is h = entry_or_fault o (entry_of o (l o (has_right before (o ∷ []) o (inl refl)))) rest f octets is h
 
-rows_of : (a b : List Fact) (r s : List ℕ) → AreFacts a → AreFacts b → entries a ++ r ≡ entries b ++ s → Aligned Fact entry_octets a b r s
-rows_of a b r s l l' e = aligned Fact entry_octets AreFacts facts_one_more tells a b r s l l' e
+rows_of : (a b : List ObservationData) (r s : List ℕ) → AreObservations a → AreObservations b → entries a ++ r ≡ entries b ++ s → Aligned ObservationData entry_octets a b r s
+rows_of a b r s l l' e = align ObservationData entry_octets AreObservations facts_one_more tells a b r s l l' e
 
-rows_same : (a b : List Fact) (r s : List ℕ) → length a ≡ length b → Aligned Fact entry_octets a b r s → (a ≡ b) × (r ≡ s)
+rows_same : (a b : List ObservationData) (r s : List ℕ) → length a ≡ length b → Aligned ObservationData entry_octets a b r s → (a ≡ b) × (r ≡ s)
 rows_same a b r s n (same e e') = (e, e')
 rows_same a b r s n (longer y more e e') = absurd (omega (arith, n, ap length e, length-append a (y ∷ more)))
 rows_same a b r s n (shorter x more e e') = absurd (omega (arith, n, ap length e, length-append b (x ∷ more)))
 
-entries_exact : (a b : List Fact) (r s : List ℕ) → AreFacts a → AreFacts b → length a ≡ length b → entries a ++ r ≡ entries b ++ s → (a ≡ b) × (r ≡ s)
+entries_exact : (a b : List ObservationData) (r s : List ℕ) → AreObservations a → AreObservations b → length a ≡ length b → entries a ++ r ≡ entries b ++ s → (a ≡ b) × (r ≡ s)
 entries_exact a b r s l l' n e = rows_same a b r s n (rows_of a b r s l l' e)
 
-entries_or_fault : (facts : List Fact) (octets : List ℕ) (f : FrameFault) → AreFacts facts → octets ≡ entries facts ++ [] → EntriesFail (length facts) octets f → ⊥
+entries_or_fault : (facts : List ObservationData) (octets : List ℕ) (f : FrameFault) → AreObservations facts → octets ≡ entries facts ++ [] → EntriesFail (length facts) octets f → ⊥
 entries_or_fault facts octets f l is (entry_fails before r e l' few h) =
-    row_or_fault Fact entry_octets AreFacts facts_one_more tells (λ b. EntryFails) next_or_fault before facts r [] f l' l (sym e ∙ is) few h
+    row_or_fault ObservationData entry_octets AreObservations facts_one_more tells (λ b. EntryFails) next_or_fault before facts r [] f l' l (sym e ∙ is) few h
 entries_or_fault facts octets f l is (more_octets all r e l' n some e') =
     let h = entries_exact all facts r [] l' l n (sym e ∙ is) in omega (arith, some, ap length h.1)
 
 one_entries_fault : (count : ℕ) (octets : List ℕ) (f g : FrameFault) → EntriesFail count octets f → EntriesFail count octets g → f ≡ g
 one_entries_fault count octets f g (entry_fails a r e l few h) (entry_fails b s e' l' few' h') =
-    one_row_fault Fact entry_octets AreFacts facts_one_more tells (λ x. EntryFails) next_or_fault (λ x rest f' g' k k'. one_entry_fault rest f' g' k k') a b r s f g l l' (sym e ∙ e') h h'
+    one_row_fault ObservationData entry_octets AreObservations facts_one_more tells (λ x. EntryFails) next_or_fault (λ x rest f' g' k k'. one_entry_fault rest f' g' k k') a b r s f g l l' (sym e ∙ e') h h'
 one_entries_fault count octets f g (entry_fails a r e l few h) (more_octets b s e' l' n some is) =
-    absurd (row_or_fault Fact entry_octets AreFacts facts_one_more tells (λ x. EntryFails) next_or_fault a b r s f l l' (sym e ∙ e') (omega (arith, few, n)) h)
+    absurd (row_or_fault ObservationData entry_octets AreObservations facts_one_more tells (λ x. EntryFails) next_or_fault a b r s f l l' (sym e ∙ e') (omega (arith, few, n)) h)
 one_entries_fault count octets f g (more_octets b s e' l' n some is) (entry_fails a r e l few h) =
-    absurd (row_or_fault Fact entry_octets AreFacts facts_one_more tells (λ x. EntryFails) next_or_fault a b r s g l l' (sym e ∙ e') (omega (arith, few, n)) h)
+    absurd (row_or_fault ObservationData entry_octets AreObservations facts_one_more tells (λ x. EntryFails) next_or_fault a b r s g l l' (sym e ∙ e') (omega (arith, few, n)) h)
 one_entries_fault count octets f g (more_octets a r e l n some is) (more_octets b s e' l' n' some' is') = is ∙ sym is'
 
-octet_long : (n : ℕ) → length (octet n) ≡ 1
-octet_long n = refl
-
-u16_long : (n : ℕ) → length (u16_octets n) ≡ 2
-u16_long n = refl
-
-pub one_list : (octets : List ℕ) (a b : List Fact) → SpellsFrame octets a → SpellsFrame octets b → a ≡ b
+pub one_list : (octets : List ℕ) (a b : List ObservationData) → SpellsFrame octets a → SpellsFrame octets b → a ≡ b
 one_list octets a b one two =
     let e : frame_octets a ≡ frame_octets b = sym one.spelled ∙ two.spelled in
     let m = u16_exact magic magic _ _ e in
@@ -75,14 +65,14 @@ one_list octets a b one two =
     let n = u16_exact (length a) (length b) (entries a) (entries b) v.1 in
     (entries_exact a b [] [] one.lawful two.lawful n.0 (ap (λ (x : List ℕ). x ++ []) n.1)).0
 
-magic_or_fault : (facts : List Fact) (octets : List ℕ) (f : FrameFault) → AreFacts facts → octets ≡ frame_octets facts → MagicFails octets f → ⊥
+magic_or_fault : (facts : List ObservationData) (octets : List ℕ) (f : FrameFault) → AreObservations facts → octets ≡ frame_octets facts → MagicFails octets f → ⊥
 magic_or_fault facts octets f l e h =
     field_or_fault u16_octets 2 (λ n. n ≡ magic) BadMagic (λ n. VersionFails) u16_long u16_exact magic (octet version ++ (u16_octets (length facts) ++ entries facts)) octets f e refl
     (λ h'. field_or_fault octet 1 (λ n. n ≡ version) BadVersion (λ n. CountFails) octet_long octet_exact version (u16_octets (length facts) ++ entries facts) _ f refl refl
     (λ h''. field_or_fault u16_octets 2 AnyNumber Truncated EntriesFail u16_long u16_exact (length facts) (entries facts) _ f refl tt
     (λ k. entries_or_fault facts (entries facts) f l (sym (append-nil (entries facts))) k) h'') h') h
 
-pub list_or_fault : (octets : List ℕ) (facts : List Fact) (f : FrameFault) → SpellsFrame octets facts → FrameFails octets f → ⊥
+pub list_or_fault : (octets : List ℕ) (facts : List ObservationData) (f : FrameFault) → SpellsFrame octets facts → FrameFails octets f → ⊥
 list_or_fault octets facts f is (inl h) = omega (arith, h.0, is.fits)
 list_or_fault octets facts f is (inr h) = magic_or_fault facts octets f is.lawful is.spelled h.1
 

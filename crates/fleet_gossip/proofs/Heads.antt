@@ -1,40 +1,34 @@
 -- What fails behind the first numbers of an entry.
-use Rattle.std.proofs.Common.{◌≡◌, ℕ, List, ◌++◌, refl, sym, ap, ◌∙◌, arith, Option, Some, None, Bor}
+use Rattle.std.proofs.Common.{◌≡◌, ℕ, List, ◌++◌, refl, sym, ap, ◌∙◌, Bor}
 use Rattle.fleet_name.specs.Name.{wire, IsWire}
 use Rattle.fleet_wire.specs.Number.{u16_octets, u32_octets}
 use Rattle.fleet_observe.specs.declared.kind.Kind.{Kind}
-use Rattle.fleet_observe.specs.declared.kind.Kind.TheVariants.{NameError, NoData, Positive}
-use Rattle.fleet_observe.specs.Checks.{denied_kind, IsRankOf, IsLifeOf, IsTypeOf}
-use Rattle.fleet_observe.specs.Fact.{Fact, IsFact, kind_number}
-use Rattle.fleet_gossip.specs.Entry.{octet, u64_octets, entry_octets, IsKind, IsMoment, IsBodyOf}
+use Rattle.fleet_observe.specs.Checks.{IsRankOf, IsLifeOf, IsTypeOf}
+use Rattle.fleet_observe.specs.Observation.{ObservationData, IsObservation, kind_number}
+use Rattle.fleet_gossip.specs.Entry.{octet, u64_octets, entry_octets, IsMoment, IsBodyOf}
 use Rattle.fleet_gossip.specs.Faults.{behind, NamedFails, behind_name, BodyFails, TypeFails, LifeFails, StampFails, RankFails, EntryFails}
 use Rattle.fleet_gossip.specs.Steps.{IsField, IsHead, IsPart}
-use Rattle.fleet_gossip.specs.Tells.{Tells}
+use Rattle.fleet_gossip.specs.EntryOf.{IsEntryOf}
 use Rattle.fleet_gossip.specs.declared.fault.FrameFault.{FrameFault}
 use Rattle.fleet_gossip.specs.declared.head.Head.{Head}
 use Rattle.fleet_gossip.proofs.Entries.{fact_of, entry_split}
 
 module _ (octets rest : List ℕ) (f : FrameFault) where
-  pub behind_kind : (kind : ℕ) → IsField octet IsKind octets kind rest → RankFails kind rest f → EntryFails octets f
-  behind_kind kind is h = behind kind rest is.whole is.lawful h
+  pub behind_kind : (kind : Kind) → octets ≡ octet (kind_number kind) ++ rest → RankFails kind rest f → EntryFails octets f
+  behind_kind kind is h = behind (kind_number kind) rest is (kind, refl) (kind, refl, h)
 
-  pub behind_rank : (kind rank : ℕ) → IsField octet (IsRankOf kind) octets rank rest → StampFails kind rest f → RankFails kind octets f
+  pub behind_rank : (kind : Kind) (rank : ℕ) → IsField octet (IsRankOf kind) octets rank rest → StampFails kind rest f → RankFails kind octets f
   behind_rank kind rank is h = behind rank rest is.whole is.lawful h
 
-  pub behind_stamp : (kind stamp : ℕ) → IsField u64_octets IsMoment octets stamp rest → LifeFails kind rest f → StampFails kind octets f
+  pub behind_stamp : (kind : Kind) (stamp : ℕ) → IsField u64_octets IsMoment octets stamp rest → LifeFails kind rest f → StampFails kind octets f
   behind_stamp kind stamp is h = behind stamp rest is.whole is.lawful h
 
-  pub behind_life : (kind life : ℕ) → IsField u32_octets (IsLifeOf kind) octets life rest → NamedFails kind rest f → LifeFails kind octets f
+  pub behind_life : (kind : Kind) (life : ℕ) → IsField u32_octets (IsLifeOf kind) octets life rest → NamedFails kind rest f → LifeFails kind octets f
   behind_life kind life is h = behind life rest is.whole is.lawful h
 
-is_kind : (kind : Kind) → IsKind (kind_number kind)
-is_kind NameError = omega arith
-is_kind NoData = omega arith
-is_kind Positive = omega arith
-
-pub behind_head : (octets rest : List ℕ) (f : FrameFault) (head : Head) → IsHead octets head rest → NamedFails (kind_number head.kind) rest f → EntryFails octets f
+pub behind_head : (octets rest : List ℕ) (f : FrameFault) (head : Head) → IsHead octets head rest → NamedFails head.kind rest f → EntryFails octets f
 behind_head octets rest f head is h =
-    behind (kind_number head.kind) _ is.whole (is_kind head.kind)
+    behind_kind octets _ f head.kind is.whole
     (behind head.rank _ refl is.lawful.rank
     (behind head.stamp _ refl is.lawful.stamp
     (behind head.life rest refl is.lawful.life h)))
@@ -44,29 +38,27 @@ module _ (octets named part typed : List ℕ) (head : Head) (is : IsHead octets 
   name_stands : named ≡ wire at.lawful.name ++ typed
   name_stands = at.whole ∙ ap (λ (x : List ℕ). x ++ typed) at.lawful.whole
 
-  pub type_fails : (f : FrameFault) → TypeFails (kind_number head.kind) at.lawful.name typed f → EntryFails octets f
+  pub type_fails : (f : FrameFault) → TypeFails head.kind at.lawful.name typed f → EntryFails octets f
   type_fails f h = behind_head octets named f head is (behind_name at.lawful.name typed name_stands at.lawful.named h)
 
-  module _ (rest : List ℕ) (rtype : ℕ) (t : IsField u16_octets (IsTypeOf (kind_number head.kind)) typed rtype rest) where
-    pub body_fails : (f : FrameFault) → BodyFails (kind_number head.kind) at.lawful.name rtype rest f → EntryFails octets f
+  module _ (rest : List ℕ) (rtype : ℕ) (t : IsField u16_octets (IsTypeOf head.kind) typed rtype rest) where
+    pub body_fails : (f : FrameFault) → BodyFails head.kind at.lawful.name rtype rest f → EntryFails octets f
     body_fails f h = type_fails f (behind rtype rest t.whole t.lawful h)
 
-    module _ (body left : List ℕ) (b : IsPart (IsBodyOf (kind_number head.kind) at.lawful.name rtype) rest body left) where
+    module _ (body left : List ℕ) (b : IsPart (IsBodyOf head.kind at.lawful.name rtype) rest body left) where
       -- the observation that stands there
-      pub fact_read : Fact
-      fact_read = record { kind = kind_number head.kind; name = at.lawful.name; rtype = rtype; body = body; rank = head.rank; stamp = head.stamp; life = head.life }
+      pub fact_read : ObservationData
+      fact_read = record { kind = head.kind; name = at.lawful.name; rtype = rtype; body = body; rank = head.rank; stamp = head.stamp; life = head.life }
 
-      fact_lawful : IsFact fact_read
+      fact_lawful : IsObservation fact_read
       unfolding fact_read
       fact_lawful = fact_of fact_read (record {
-        kind = is_kind head.kind;
         rank = is.lawful.rank;
         stamp = is.lawful.stamp;
         life = is.lawful.life;
         name = at.lawful.named;
         rtype = t.lawful;
-        positive = b.lawful.0;
-        negative = b.lawful.1;
+        body = b.lawful;
       })
 
       pub fact_whole : octets ≡ entry_octets fact_read ++ left
@@ -75,7 +67,7 @@ module _ (octets named part typed : List ℕ) (head : Head) (is : IsHead octets 
           let tail : named ≡ wire at.lawful.name ++ (u16_octets rtype ++ (body ++ left)) = name_stands ∙ ap (λ (x : List ℕ). wire at.lawful.name ++ x) (t.whole ∙ ap (λ (x : List ℕ). u16_octets rtype ++ x) b.whole) in
           is.whole ∙ (ap (λ (x : List ℕ). octet (kind_number head.kind) ++ (octet head.rank ++ (u64_octets head.stamp ++ (u32_octets head.life ++ x)))) tail ∙ sym (entry_split fact_read left))
 
-      pub entry_read : (name_ref body_ref : Bor (List ℕ)) → name_ref.now ≡ part → body_ref.now ≡ body → Tells (record { head = head; name = name_ref; rtype = rtype; body = body_ref }) fact_read
+      pub entry_read : (name_ref body_ref : Bor (List ℕ)) → name_ref.now ≡ part → body_ref.now ≡ body → IsEntryOf (record { head = head; name = name_ref; rtype = rtype; body = body_ref }) fact_read
       unfolding fact_read
       entry_read name_ref body_ref n e = record {
         lawful = fact_lawful;
@@ -87,8 +79,3 @@ module _ (octets named part typed : List ℕ) (head : Head) (is : IsHead octets 
         rtype = refl;
         body = e;
       }
-
--- a denial of a type, or of all of them, is none of data
-pub denied_not : (rtype : Option ℕ) → denied_kind rtype ≡ 3 → ⊥
-denied_not None e = omega (arith, e)
-denied_not (Some rtype) e = omega (arith, e)

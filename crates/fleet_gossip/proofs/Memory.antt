@@ -1,8 +1,10 @@
 -- No fault of octets is want of memory.
 use Rattle.std.proofs.Common.{◌≡◌, ℕ, List, sym, ◌∙◌, inl, inr}
-use Rattle.fleet_gossip.specs.Faults.{FieldFails, cut, refused, behind, LabelFails, missing, long, cut_label, capital, NameFails, label_fails, RdataFails, cut_rdata, refused_rdata, SizedFails, RdatasFail, rdata_fails, NegativeFails, owner_fails, stranger, soa_fails, as_body, BodyFails, NamedFails, name_fails, behind_name, EntryFails, EntriesFail, entry_fails, more_octets, FrameFails}
+use Rattle.fleet_observe.specs.declared.kind.Kind.{Kind}
+use Rattle.fleet_observe.specs.declared.kind.Kind.TheVariants.{NameError, NoData, Positive}
+use Rattle.fleet_gossip.specs.Faults.{FieldFails, cut, refused, behind, OctetsFail, cut_octets, refused_octets, NameFails, label_fails, SizedFails, RdatasFail, rdata_fails, NegativeFails, owner_fails, stranger, soa_fails, BodyFails, NamedFails, name_fails, behind_name, EntryFails, EntriesFail, entry_fails, more_octets, FrameFails}
 use Rattle.fleet_gossip.specs.declared.fault.FrameFault.{FrameFault}
-use Rattle.fleet_gossip.specs.declared.fault.FrameFault.TheVariants.{BadMagic, BadVersion, TooLong, Truncated, BadKind, BadRank, BadMoment, BadLife, BadName, BadBody, Trailing, OutOfMemory}
+use Rattle.fleet_gossip.specs.declared.fault.FrameFault.TheVariants.{TooLong, Truncated, BadName, BadBody, Trailing, OutOfMemory}
 
 -- it is another fault than want of memory
 abbrev pub IsOther : FrameFault → Type 0
@@ -26,58 +28,40 @@ field_other spelled size Lawful refusal Behind octets f other further (cut short
 field_other spelled size Lawful refusal Behind octets f other further (refused n rest is unlike e) = is_other f refusal e other
 field_other spelled size Lawful refusal Behind octets f other further (behind n rest is lawful h) = further n rest h
 
-label_other : (before : List (List ℕ)) (octets : List ℕ) (f : FrameFault) → LabelFails before octets f → IsOther f
-label_other before octets f (missing is e) = is_other f Truncated e cut_other
-label_other before octets f (long size rest is some unlike e) = is_other f BadName e name_other
-label_other before octets f (cut_label size rest is room short e) = is_other f Truncated e cut_other
-label_other before octets f (capital label rest is room unlike e) = is_other f BadName e name_other
+octets_other : (Lawful : List ℕ → Type 0) (refusal : FrameFault) (size : ℕ) (octets : List ℕ) (f : FrameFault) → IsOther refusal → OctetsFail Lawful refusal size octets f → IsOther f
+octets_other Lawful refusal size octets f other (cut_octets short e) = is_other f Truncated e cut_other
+octets_other Lawful refusal size octets f other (refused_octets taken rest is n unlike e) = is_other f refusal e other
 
-name_fault_other : (octets : List ℕ) (f : FrameFault) → NameFails octets f → IsOther f
-name_fault_other octets f (label_fails before rest is named h) = label_other before rest f h
-
-rdata_other : (Lawful : List ℕ → Type 0) (size : ℕ) (octets : List ℕ) (f : FrameFault) → RdataFails Lawful size octets f → IsOther f
-rdata_other Lawful size octets f (cut_rdata short e) = is_other f Truncated e cut_other
-rdata_other Lawful size octets f (refused_rdata rdata rest is n unlike e) = is_other f BadBody e body_other
+name_fault_other : (refusal : FrameFault) → IsOther refusal → (octets : List ℕ) (f : FrameFault) → NameFails refusal octets f → IsOther f
+name_fault_other refusal other octets f (label_fails before rest is named h) =
+    field_other _ _ _ _ _ rest f other (λ n r k. octets_other _ refusal n r f other k) h
 
 sized_other : (Lawful : List ℕ → Type 0) (octets : List ℕ) (f : FrameFault) → SizedFails Lawful octets f → IsOther f
-sized_other Lawful octets f h = field_other _ _ _ _ _ octets f cut_other (λ n rest k. rdata_other Lawful n rest f k) h
+sized_other Lawful octets f h = field_other _ _ _ _ _ octets f cut_other (λ n rest k. octets_other Lawful BadBody n rest f body_other k) h
 
 rdatas_other : (rtype count : ℕ) (octets : List ℕ) (f : FrameFault) → RdatasFail rtype count octets f → IsOther f
 rdatas_other rtype count octets f (rdata_fails before rest is first few h) = sized_other _ rest f h
 
-as_body_other : (f : FrameFault) → IsOther f → IsOther (as_body f)
-as_body_other BadMagic other = other
-as_body_other BadVersion other = other
-as_body_other TooLong other = other
-as_body_other Truncated other = other
-as_body_other BadKind other = other
-as_body_other BadRank other = other
-as_body_other BadMoment other = other
-as_body_other BadLife other = other
-as_body_other BadName other = body_other
-as_body_other BadBody other = other
-as_body_other Trailing other = other
-as_body_other OutOfMemory other = other
-
 negative_other : (name : List (List ℕ)) (octets : List ℕ) (f : FrameFault) → NegativeFails name octets f → IsOther f
-negative_other name octets f (owner_fails g h e) = is_other f (as_body g) e (as_body_other g (name_fault_other octets g h))
+negative_other name octets f (owner_fails h) = name_fault_other BadBody body_other octets f h
 negative_other name octets f (stranger owner rest is named unlike e) = is_other f BadBody e body_other
 negative_other name octets f (soa_fails owner rest is named under h) = sized_other _ rest f h
 
-body_fault_other : (kind : ℕ) (name : List (List ℕ)) (rtype : ℕ) (octets : List ℕ) (f : FrameFault) → BodyFails kind name rtype octets f → IsOther f
-body_fault_other kind name rtype octets f (inl h) = field_other _ _ _ _ _ octets f body_other (λ n rest k. rdatas_other rtype n rest f k) h.1
-body_fault_other kind name rtype octets f (inr h) = negative_other name octets f h.1
+body_fault_other : (kind : Kind) (name : List (List ℕ)) (rtype : ℕ) (octets : List ℕ) (f : FrameFault) → BodyFails kind name rtype octets f → IsOther f
+body_fault_other Positive name rtype octets f h = field_other _ _ _ _ _ octets f body_other (λ n rest k. rdatas_other rtype n rest f k) h
+body_fault_other NoData name rtype octets f h = negative_other name octets f h
+body_fault_other NameError name rtype octets f h = negative_other name octets f h
 
-named_other : (kind : ℕ) (octets : List ℕ) (f : FrameFault) → NamedFails kind octets f → IsOther f
-named_other kind octets f (name_fails h) = name_fault_other octets f h
+named_other : (kind : Kind) (octets : List ℕ) (f : FrameFault) → NamedFails kind octets f → IsOther f
+named_other kind octets f (name_fails h) = name_fault_other BadName name_other octets f h
 named_other kind octets f (behind_name name rest is named h) = field_other _ _ _ _ _ rest f (λ e. cc) (λ n r k. body_fault_other kind name n r f k) h
 
 entry_other : (octets : List ℕ) (f : FrameFault) → EntryFails octets f → IsOther f
 entry_other octets f h =
     field_other _ _ _ _ _ octets f (λ e. cc)
-    (λ kind a. field_other _ _ _ _ _ a f (λ e. cc)
+    (λ number a is. field_other _ _ _ _ _ a f (λ e. cc)
     (λ rank b. field_other _ _ _ _ _ b f (λ e. cc)
-    (λ stamp d. field_other _ _ _ _ _ d f (λ e. cc) (λ life r k. named_other kind r f k)))) h
+    (λ stamp d. field_other _ _ _ _ _ d f (λ e. cc) (λ life r k. named_other is.0 r f k))) is.2) h
 
 entries_other : (count : ℕ) (octets : List ℕ) (f : FrameFault) → EntriesFail count octets f → IsOther f
 entries_other count octets f (entry_fails facts rest is lawful few h) = entry_other rest f h

@@ -2,36 +2,36 @@
 use Rattle.std.proofs.Common.{◌≡◌, ℕ, ◌+◌, ◌<◌, ◌≤◌, List, [], ◌∷◌, ◌++◌, length, refl, sym, ap, ◌∙◌, subst, arith, length-append}
 use Rattle.std.proofs.lemmas.Grind.{flat_map-append}
 use Rattle.std.proofs.lemmas.List.{append-nil}
-use Rattle.fleet_observe.specs.Fact.{Fact}
+use Rattle.fleet_observe.specs.Observation.{ObservationData}
 use Rattle.fleet_gossip.specs.Entry.{entry_octets}
 use Rattle.fleet_gossip.specs.Frame.{entries, frame_octets, SpellsFrame}
 use Rattle.fleet_gossip.specs.Packed.{IsFull, IsPacked, none, more}
 
-pub frame_length : (facts : List Fact) → length (frame_octets facts) ≡ 5 + length (entries facts)
+pub frame_length : (facts : List ObservationData) → length (frame_octets facts) ≡ 5 + length (entries facts)
 frame_length facts = omega arith
 
-pub entries_push : (facts : List Fact) (o : Fact) → entries (facts ++ o ∷ []) ≡ entries facts ++ entry_octets o
+pub entries_push : (facts : List ObservationData) (o : ObservationData) → entries (facts ++ o ∷ []) ≡ entries facts ++ entry_octets o
 entries_push facts o = rw (flat_map-append, append-nil) refl
 
-pub frame_push : (facts : List Fact) (o : Fact) → length (frame_octets (facts ++ o ∷ [])) ≡ length (frame_octets facts) + length (entry_octets o)
+pub frame_push : (facts : List ObservationData) (o : ObservationData) → length (frame_octets (facts ++ o ∷ [])) ≡ length (frame_octets facts) + length (entry_octets o)
 frame_push facts o = omega (arith, ap length (entries_push facts o), length-append (entries facts) (entry_octets o))
 
-frame_grows : (facts : List Fact) (o : Fact) (others : List Fact) → length (frame_octets (facts ++ o ∷ [])) ≤ length (frame_octets (facts ++ o ∷ others))
+frame_grows : (facts : List ObservationData) (o : ObservationData) (others : List ObservationData) → length (frame_octets (facts ++ o ∷ [])) ≤ length (frame_octets (facts ++ o ∷ others))
 frame_grows facts o others =
     omega (arith, frame_push facts o, ap length (flat_map-append entry_octets facts (o ∷ others)), length-append (entries facts) (entries (o ∷ others)), length-append (entry_octets o) (entries others))
 
 -- two ways to split a list
-data Splits (a b c d : List Fact) : Type 0 where
+data Splits (a b c d : List ObservationData) : Type 0 where
   same : a ≡ c → b ≡ d → Splits a b c d
-  later : (x : Fact) (m : List Fact) → c ≡ a ++ x ∷ m → b ≡ x ∷ (m ++ d) → Splits a b c d
-  sooner : (x : Fact) (m : List Fact) → a ≡ c ++ x ∷ m → d ≡ x ∷ (m ++ b) → Splits a b c d
+  later : (x : ObservationData) (m : List ObservationData) → c ≡ a ++ x ∷ m → b ≡ x ∷ (m ++ d) → Splits a b c d
+  sooner : (x : ObservationData) (m : List ObservationData) → a ≡ c ++ x ∷ m → d ≡ x ∷ (m ++ b) → Splits a b c d
 
-one_more : (x y : Fact) (a b c d : List Fact) → x ≡ y → Splits a b c d → Splits (x ∷ a) b (y ∷ c) d
-one_more x y a b c d e (same p q) = same (ap (λ (z : Fact). z ∷ a) e ∙ ap (λ (zs : List Fact). y ∷ zs) p) q
-one_more x y a b c d e (later z m p q) = later z m (ap (λ (zs : List Fact). y ∷ zs) p ∙ ap (λ (w : Fact). w ∷ (a ++ z ∷ m)) (sym e)) q
-one_more x y a b c d e (sooner z m p q) = sooner z m (ap (λ (zs : List Fact). x ∷ zs) p ∙ ap (λ (w : Fact). w ∷ (c ++ z ∷ m)) e) q
+one_more : (x y : ObservationData) (a b c d : List ObservationData) → x ≡ y → Splits a b c d → Splits (x ∷ a) b (y ∷ c) d
+one_more x y a b c d e (same p q) = same (ap (λ (z : ObservationData). z ∷ a) e ∙ ap (λ (zs : List ObservationData). y ∷ zs) p) q
+one_more x y a b c d e (later z m p q) = later z m (ap (λ (zs : List ObservationData). y ∷ zs) p ∙ ap (λ (w : ObservationData). w ∷ (a ++ z ∷ m)) (sym e)) q
+one_more x y a b c d e (sooner z m p q) = sooner z m (ap (λ (zs : List ObservationData). x ∷ zs) p ∙ ap (λ (w : ObservationData). w ∷ (c ++ z ∷ m)) e) q
 
-splits : (a b c d : List Fact) → a ++ b ≡ c ++ d → Splits a b c d
+splits : (a b c d : List ObservationData) → a ++ b ≡ c ++ d → Splits a b c d
 splits [] b [] d e = same refl e
 splits [] b (y ∷ c) d e = later y c refl e
 splits (x ∷ a) b [] d e = sooner x a refl (sym e)
@@ -40,15 +40,15 @@ splits (x ∷ a) b (y ∷ c) d e =
     one_more x y a b c d h (splits a b c d t)
 
 -- where a part ends that is full, no longer one fits a frame
-too_long : (part rest longer : List Fact) (x : Fact) (m other : List Fact) (octets : List ℕ) → IsFull part rest → rest ≡ x ∷ other → longer ≡ part ++ x ∷ m → SpellsFrame octets longer → ⊥
-too_long part rest longer x m other octets full e is spells =
-    let over = subst (λ (z : List Fact). IsFull part z) e full in
-    omega (arith, over, frame_grows part x m, spells.fits, ap length spells.spelled, ap (λ (z : List Fact). length (frame_octets z)) is)
+no_longer_part : (part rest longer : List ObservationData) (x : ObservationData) (m other : List ObservationData) (octets : List ℕ) → IsFull part rest → rest ≡ x ∷ other → longer ≡ part ++ x ∷ m → SpellsFrame octets longer → ⊥
+no_longer_part part rest longer x m other octets full e is spells =
+    let over = subst (λ (z : List ObservationData). IsFull part z) e full in
+    omega (arith, over, frame_grows part x m, spells.fits, ap length spells.spelled, ap (λ (z : List ObservationData). length (frame_octets z)) is)
 
-no_part : (facts part rest : List Fact) → facts ≡ [] → facts ≡ part ++ rest → 0 < length part → ⊥
+no_part : (facts part rest : List ObservationData) → facts ≡ [] → facts ≡ part ++ rest → 0 < length part → ⊥
 no_part facts part rest e e' some = omega (arith, ap length e, ap length e', length-append part rest, some)
 
-pub one_packing : (facts : List Fact) (a b : List (List ℕ)) → IsPacked facts a → IsPacked facts b → a ≡ b
+pub one_packing : (facts : List ObservationData) (a b : List (List ℕ)) → IsPacked facts a → IsPacked facts b → a ≡ b
 one_packing facts a b (none e is) (none e' is') = is ∙ sym is'
 one_packing facts a b (none e is) (more part rest first others e' some spells full packed is') = absurd (no_part facts part rest e e' some)
 one_packing facts a b (more part rest first others e some spells full packed is) (none e' is') = absurd (no_part facts part rest e' e some)
@@ -56,8 +56,8 @@ one_packing facts a b (more part rest first others e some spells full packed is)
     elim (splits part rest part' rest' (sym e ∙ e')) [
       | same p q ↦
           let one : first ≡ first' = spells.spelled ∙ (ap frame_octets p ∙ sym spells'.spelled) in
-          let two : others ≡ others' = one_packing rest others others' packed (subst (λ (z : List Fact). IsPacked z others') (sym q) packed') in
+          let two : others ≡ others' = one_packing rest others others' packed (subst (λ (z : List ObservationData). IsPacked z others') (sym q) packed') in
           is ∙ (ap (λ (z : List ℕ). z ∷ others) one ∙ (ap (λ (z : List (List ℕ)). first' ∷ z) two ∙ sym is'))
-      | later x m p q ↦ absurd (too_long part rest part' x m (m ++ rest') first' full q p spells')
-      | sooner x m p q ↦ absurd (too_long part' rest' part x m (m ++ rest) first full' q p spells)
+      | later x m p q ↦ absurd (no_longer_part part rest part' x m (m ++ rest') first' full q p spells')
+      | sooner x m p q ↦ absurd (no_longer_part part' rest' part x m (m ++ rest) first full' q p spells)
     ]

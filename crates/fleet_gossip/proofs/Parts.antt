@@ -2,7 +2,7 @@
 use Rattle.std.proofs.Common.{ℕ, List, length, sym, ap, ◌∙◌, subst, arith, length-append}
 use Rattle.fleet_gossip.specs.Steps.{IsCut, AreTaken, IsPart, IsSizeOf}
 use Rattle.fleet_gossip.specs.declared.fault.FrameFault.{FrameFault}
-use Rattle.fleet_gossip.proofs.Names.{split_same}
+use Rattle.fleet_name.proofs.Lemmas.{split_same}
 
 module _ (Lawful : List ℕ → Type 0) (octets : List ℕ) (size : ℕ) (found : IsSizeOf Lawful octets size) where
   -- so many octets taken are the part

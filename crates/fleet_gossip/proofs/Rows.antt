@@ -18,20 +18,20 @@ module _ (X : Type 0) (spelled : X → List ℕ) where
   module _ (Lawful : List X → Type 0)
       (front : (before : List X) (x : X) (more : List X) → Lawful (before ++ x ∷ more) → Lawful (before ++ x ∷ []))
       (exact : (before : List X) (x y : X) (r s : List ℕ) → Lawful (before ++ x ∷ []) → Lawful (before ++ y ∷ []) → spelled x ++ r ≡ spelled y ++ s → (x ≡ y) × (r ≡ s)) where
-    behind : (before xs ys : List X) (r s : List ℕ) → Lawful (before ++ xs) → Lawful (before ++ ys) → flat_map spelled xs ++ r ≡ flat_map spelled ys ++ s → Aligned X spelled xs ys r s
-    behind before [] [] r s l l' e = same refl e
-    behind before [] (y ∷ ys) r s l l' e = longer y ys refl (e ∙ append_assoc (spelled y) (flat_map spelled ys) s)
-    behind before (x ∷ xs) [] r s l l' e = shorter x xs refl (sym e ∙ append_assoc (spelled x) (flat_map spelled xs) r)
-    behind before (x ∷ xs) (y ∷ ys) r s l l' e =
+    align_behind : (before xs ys : List X) (r s : List ℕ) → Lawful (before ++ xs) → Lawful (before ++ ys) → flat_map spelled xs ++ r ≡ flat_map spelled ys ++ s → Aligned X spelled xs ys r s
+    align_behind before [] [] r s l l' e = same refl e
+    align_behind before [] (y ∷ ys) r s l l' e = longer y ys refl (e ∙ append_assoc (spelled y) (flat_map spelled ys) s)
+    align_behind before (x ∷ xs) [] r s l l' e = shorter x xs refl (sym e ∙ append_assoc (spelled x) (flat_map spelled xs) r)
+    align_behind before (x ∷ xs) (y ∷ ys) r s l l' e =
         let whole : spelled x ++ (flat_map spelled xs ++ r) ≡ spelled y ++ (flat_map spelled ys ++ s) = sym (append_assoc (spelled x) (flat_map spelled xs) r) ∙ (e ∙ append_assoc (spelled y) (flat_map spelled ys) s) in
         let first = exact before x y (flat_map spelled xs ++ r) (flat_map spelled ys ++ s) (front before x xs l) (front before y ys l') whole in
         let left : Lawful ((before ++ x ∷ []) ++ xs) = subst (λ (z : List X). Lawful z) (sym (append_assoc before (x ∷ []) xs)) l in
         let swapped : Lawful (before ++ x ∷ ys) = subst (λ (z : X). Lawful (before ++ z ∷ ys)) (sym first.0) l' in
         let right : Lawful ((before ++ x ∷ []) ++ ys) = subst (λ (z : List X). Lawful z) (sym (append_assoc before (x ∷ []) ys)) swapped in
-        one_more x y xs ys r s first.0 (behind (before ++ x ∷ []) xs ys r s left right first.1)
+        one_more x y xs ys r s first.0 (align_behind (before ++ x ∷ []) xs ys r s left right first.1)
 
-    pub aligned : (xs ys : List X) (r s : List ℕ) → Lawful xs → Lawful ys → flat_map spelled xs ++ r ≡ flat_map spelled ys ++ s → Aligned X spelled xs ys r s
-    aligned xs ys r s l l' e = behind [] xs ys r s l l' e
+    pub align : (xs ys : List X) (r s : List ℕ) → Lawful xs → Lawful ys → flat_map spelled xs ++ r ≡ flat_map spelled ys ++ s → Aligned X spelled xs ys r s
+    align xs ys r s l l' e = align_behind [] xs ys r s l l' e
 
     module _ (Fails : List X → List ℕ → FrameFault → Type 0)
         (never : (before : List X) (y : X) (rest octets : List ℕ) (f : FrameFault) → Lawful (before ++ y ∷ []) → octets ≡ spelled y ++ rest → Fails before octets f → ⊥) where
@@ -39,13 +39,13 @@ module _ (X : Type 0) (spelled : X → List ℕ) where
       next_never before ys y more r s f l e is h = never before y s r f (front before y more (subst (λ (z : List X). Lawful z) e l)) is h
 
       -- where so many stand in a row, none fails behind fewer of them
-      fewer : (before ys : List X) (r s : List ℕ) (f : FrameFault) → Lawful ys → length before < length ys → Fails before r f → Aligned X spelled before ys r s → ⊥
-      fewer before ys r s f l few h (same e e') = omega (arith, few, ap length e)
-      fewer before ys r s f l few h (longer y more e is) = next_never before ys y more r (flat_map spelled more ++ s) f l e is h
-      fewer before ys r s f l few h (shorter x more e is) = omega (arith, few, ap length e, length-append ys (x ∷ more))
+      fails_late : (before ys : List X) (r s : List ℕ) (f : FrameFault) → Lawful ys → length before < length ys → Fails before r f → Aligned X spelled before ys r s → ⊥
+      fails_late before ys r s f l few h (same e e') = omega (arith, few, ap length e)
+      fails_late before ys r s f l few h (longer y more e is) = next_never before ys y more r (flat_map spelled more ++ s) f l e is h
+      fails_late before ys r s f l few h (shorter x more e is) = omega (arith, few, ap length e, length-append ys (x ∷ more))
 
       pub row_or_fault : (before ys : List X) (r s : List ℕ) (f : FrameFault) → Lawful before → Lawful ys → flat_map spelled before ++ r ≡ flat_map spelled ys ++ s → length before < length ys → Fails before r f → ⊥
-      row_or_fault before ys r s f l l' e few h = fewer before ys r s f l' few h (aligned before ys r s l l' e)
+      row_or_fault before ys r s f l l' e few h = fails_late before ys r s f l' few h (align before ys r s l l' e)
 
       module _ (one : (before : List X) (rest : List ℕ) (f g : FrameFault) → Fails before rest f → Fails before rest g → f ≡ g) where
         one_of : (xs ys : List X) (r s : List ℕ) (f g : FrameFault) → Lawful xs → Lawful ys → Fails xs r f → Fails ys s g → Aligned X spelled xs ys r s → f ≡ g
@@ -54,4 +54,4 @@ module _ (X : Type 0) (spelled : X → List ℕ) where
         one_of xs ys r s f g l l' h h' (shorter x more e is) = absurd (next_never ys xs x more s (flat_map spelled more ++ r) g l e is h')
 
         pub one_row_fault : (xs ys : List X) (r s : List ℕ) (f g : FrameFault) → Lawful xs → Lawful ys → flat_map spelled xs ++ r ≡ flat_map spelled ys ++ s → Fails xs r f → Fails ys s g → f ≡ g
-        one_row_fault xs ys r s f g l l' e h h' = one_of xs ys r s f g l l' h h' (aligned xs ys r s l l' e)
+        one_row_fault xs ys r s f g l l' e h h' = one_of xs ys r s f g l l' h h' (align xs ys r s l l' e)

@@ -1,14 +1,7 @@
 -- A name without its first labels.
-use Rattle.std.proofs.Common.{◌≡◌, ℕ, ◌+◌, ◌<◌, ◌≤◌, List, [], ◌∷◌, ◌++◌, length, get_or, drop, refl, sym, ap, ◌∙◌, arith, length-append, append_assoc}
-use Rattle.std.specs.List.{flat_map}
-use Rattle.fleet_name.specs.Name.{frame, wire, IsName, IsUnder}
-use Rattle.fleet_gossip.proofs.Names.{name_exact}
-
-wire-cons : (label : List ℕ) (name : List (List ℕ)) → wire (label ∷ name) ≡ frame label ++ wire name
-wire-cons label name = append_assoc (frame label) (flat_map frame name) (0 ∷ [])
-
-pub wire_long : (name : List (List ℕ)) → 1 ≤ length (wire name)
-wire_long name = omega (arith, length-append (flat_map frame name) (0 ∷ []))
+use Rattle.std.proofs.Common.{◌≡◌, ℕ, ◌+◌, ◌<◌, ◌≤◌, List, [], ◌∷◌, ◌++◌, length, get_or, drop, refl, sym, ap, ◌∙◌, arith, length-append}
+use Rattle.fleet_name.specs.Name.{label_octets, wire, IsName, IsUnder}
+use Rattle.fleet_name.proofs.Lemmas.{wire_cons, wire_some, wire_exact, named_rest}
 
 drop_front : (xs ys : List ℕ) → drop (length xs) (xs ++ ys) ≡ ys
 drop_front [] ys = refl
@@ -23,23 +16,21 @@ module _ (rest : List ℕ) (first : ℕ) (is_first : first ≡ get_or rest 0 0) 
     pub within : first + 1 ≤ length rest
     pub cut : drop (first + 1) rest ≡ wire behind
 
-  pub cut_off : (left : List (List ℕ)) → rest ≡ wire left → 1 < length rest → IsCut left
-  cut_off [] e some = absurd (omega (arith, some, ap length e))
-  cut_off (label ∷ left) e some =
-      let whole : rest ≡ length label ∷ (label ++ wire left) = e ∙ wire-cons label left in
+  pub drop_first : (left : List (List ℕ)) → rest ≡ wire left → 1 < length rest → IsCut left
+  drop_first [] e some = absurd (omega (arith, some, ap length e))
+  drop_first (label ∷ left) e some =
+      let whole : rest ≡ length label ∷ (label ++ wire left) = e ∙ wire_cons label left in
       let n : first ≡ length label = is_first ∙ ap (λ (x : List ℕ). get_or x 0 0) whole in
       record {
         label = label;
         behind = left;
         left_is = refl;
-        within = omega (arith, n, ap length whole, length-append label (wire left), wire_long left);
+        within = omega (arith, n, ap length whole, length-append label (wire left), wire_some left);
         cut = rw (whole, n) (grind (arith, drop_front label (wire left)));
       }
 
 pub name_behind : (left : List (List ℕ)) (label : List ℕ) (behind : List (List ℕ)) → left ≡ label ∷ behind → IsName left → IsName behind
-name_behind left label behind e named =
-    let all : IsName (label ∷ behind) = rw (← e) named in
-    record { labels = all.labels.1; fits = omega (arith, all.fits, ap length (wire-cons label behind), length-append (frame label) (wire behind)) }
+name_behind left label behind e named = named_rest label behind (rw (← e) named)
 
 pub under_behind : (left : List (List ℕ)) (label : List ℕ) (behind a : List (List ℕ)) → left ≡ label ∷ behind → length (wire a) < length (wire left) → IsUnder left a → IsUnder behind a
 under_behind left label behind a e long ([], is) = absurd (omega (arith, long, ap (λ (x : List (List ℕ)). length (wire x)) is))
@@ -51,14 +42,11 @@ under_before left label behind a e (front, is) = (label ∷ front, e ∙ ap (λ 
 pub under_same : (left a : List (List ℕ)) → length (wire left) ≤ length (wire a) → IsUnder left a → left ≡ a
 under_same left a short ([], is) = is
 under_same left a short (x ∷ front, is) =
-    absurd (omega (arith, short, ap (λ (y : List (List ℕ)). length (wire y)) is, ap length (wire-cons x (front ++ a)), length-append (frame x) (wire (front ++ a)), longer front a))
+    absurd (omega (arith, short, ap (λ (y : List (List ℕ)). length (wire y)) is, ap length (wire_cons x (front ++ a)), length-append (label_octets x) (wire (front ++ a)), longer front a))
   where
     longer : (front a : List (List ℕ)) → length (wire a) ≤ length (wire (front ++ a))
     longer [] a = omega arith
-    longer (y ∷ front) a = omega (arith, longer front a, ap length (wire-cons y (front ++ a)), length-append (frame y) (wire (front ++ a)))
+    longer (y ∷ front) a = omega (arith, longer front a, ap length (wire_cons y (front ++ a)), length-append (label_octets y) (wire (front ++ a)))
 
-pub under_self : (left a : List (List ℕ)) → IsName left → IsName a → wire left ≡ wire a → IsUnder left a
-under_self left a named named' e = ([], (name_exact left a [] [] named named' (ap (λ (x : List ℕ). x ++ []) e)).0)
-
-pub names_same : (a b : List (List ℕ)) → IsName a → IsName b → wire a ≡ wire b → a ≡ b
-names_same a b named named' e = (name_exact a b [] [] named named' (ap (λ (x : List ℕ). x ++ []) e)).0
+pub under_self : (left a : List (List ℕ)) → wire left ≡ wire a → IsUnder left a
+under_self left a e = ([], wire_exact left a e)

@@ -1,17 +1,22 @@
 -- Why octets are no frame: the first fault, in reading order. The octets of each definition are
 -- those that are left.
-use Rattle.std.specs.Prelude.{◌≡◌, ◌≢◌, ℕ, ◌+◌, ◌<◌, ◌≤◌, ◌⊎◌, List, [], ◌∷◌, ◌++◌, length}
+use Rattle.std.specs.Prelude.{◌≡◌, ℕ, ◌+◌, ◌<◌, ◌≤◌, ◌⊎◌, List, [], ◌∷◌, ◌++◌, length}
 use Rattle.std.specs.List.{flat_map}
-use Rattle.fleet_name.specs.Name.{frame, wire, lower, IsName, IsUnder}
+use Rattle.fleet_name.specs.Name.{label_octets, wire, lower, IsName, IsUnder}
+use Rattle.fleet_name.specs.declared.bounds.TheConstants.{LONGEST_LABEL, LONGEST_NAME}
 use Rattle.fleet_wire.specs.Number.{u16_octets, u32_octets}
 use Rattle.fleet_wire.specs.Shape.{IsPlain}
-use Rattle.fleet_observe.specs.Body.{sized}
+use Rattle.fleet_wire.specs.declared.rtype.TheConstants.{SOA}
+use Rattle.fleet_observe.specs.Body.{octets_with_length}
 use Rattle.fleet_observe.specs.Checks.{IsRankOf, IsLifeOf, IsTypeOf, IsCountOf}
-use Rattle.fleet_observe.specs.Fact.{Fact, AreFacts}
-use Rattle.fleet_gossip.specs.Entry.{octet, u64_octets, IsKind, IsMoment, AreFirstRdatas}
+use Rattle.fleet_observe.specs.Observation.{ObservationData, AreObservations}
+use Rattle.fleet_observe.specs.declared.kind.Kind.{Kind}
+use Rattle.fleet_observe.specs.declared.kind.Kind.TheVariants.{NameError, NoData, Positive}
+use Rattle.fleet_gossip.specs.Entry.{octet, u64_octets, IsKind, IsKindNumber, IsMoment, AreFirstRdatas}
 use Rattle.fleet_gossip.specs.Frame.{magic, version, entries, frame_octets}
 use Rattle.fleet_gossip.specs.declared.fault.FrameFault.{FrameFault}
-use Rattle.fleet_gossip.specs.declared.fault.FrameFault.TheVariants.{BadMagic, BadVersion, TooLong, Truncated, BadKind, BadRank, BadMoment, BadLife, BadName, BadBody, Trailing, OutOfMemory}
+use Rattle.fleet_gossip.specs.declared.fault.FrameFault.TheVariants.{BadMagic, BadVersion, TooLong, Truncated, BadKind, BadRank, BadMoment, BadLife, BadName, BadBody, Trailing}
+use Rattle.fleet_gossip.specs.declared.bounds.TheConstants.{LONGEST_FRAME}
 
 -- The first fault of a number and of what stands behind it: some of its octets are missing, it is
 -- not lawful, or it is and what stands behind it fails.
@@ -30,50 +35,51 @@ pub data FieldFails (spelled : ℕ → List ℕ) (size : ℕ) (Lawful : ℕ → 
 abbrev pub AnyNumber : ℕ → Type 0
 AnyNumber n = Unit {0}
 
--- so many octets may stand behind these labels: 1 to 63, and the name with its zero octet has at
--- most 255
+-- the first fault of so many octets: some are missing, or they are not lawful there
+pub data OctetsFail (Lawful : List ℕ → Type 0) (refusal : FrameFault) (size : ℕ)
+    (octets : List ℕ) (f : FrameFault) : Type 0 where
+  cut_octets : length octets < size → f ≡ Truncated → OctetsFail Lawful refusal size octets f
+  refused_octets : (taken rest : List ℕ) → octets ≡ taken ++ rest → length taken ≡ size
+      → (Lawful taken → ⊥)
+      → f ≡ refusal
+      → OctetsFail Lawful refusal size octets f
+
+-- a label of so many octets may stand behind these labels: it is no longer than the longest one,
+-- and the name with its zero octet no longer than the longest name
 pub record IsRoom (before : List (List ℕ)) (size : ℕ) : Type 0 where
   pub some : 0 < size
-  pub short : size ≤ 63
-  pub fits : length (wire before) + size + 1 ≤ 255
+  pub short : size ≤ LONGEST_LABEL
+  pub fits : length (wire before) + size + 1 ≤ LONGEST_NAME
 
--- The first fault of the label that stands behind others: its length octet is missing; it is too
--- long, or the name is; some of its octets are missing; one of them is a capital letter.
-pub data LabelFails (before : List (List ℕ)) (octets : List ℕ) (f : FrameFault) : Type 0 where
-  missing : octets ≡ [] → f ≡ Truncated → LabelFails before octets f
-  long : (size : ℕ) (rest : List ℕ) → octets ≡ size ∷ rest → 0 < size → (IsRoom before size → ⊥)
-      → f ≡ BadName
-      → LabelFails before octets f
-  cut_label : (size : ℕ) (rest : List ℕ) → octets ≡ size ∷ rest → IsRoom before size
-      → length rest < size
-      → f ≡ Truncated
-      → LabelFails before octets f
-  capital : (label rest : List ℕ) → octets ≡ frame label ++ rest → IsRoom before (length label)
-      → (lower label ≡ label → ⊥) → f ≡ BadName
-      → LabelFails before octets f
+-- a length octet that may stand behind these labels: the zero octet, or that of a label with room
+abbrev pub IsLengthOctet : List (List ℕ) → ℕ → Type 0
+IsLengthOctet before size = 0 < size → IsRoom before size
+
+-- in lower case
+abbrev pub IsLower : List ℕ → Type 0
+IsLower label = lower label ≡ label
+
+-- The first fault of the label that stands behind others, or of the zero octet: of its length
+-- octet, where it is too long, or the name is; or of its octets, where one is a capital letter.
+abbrev pub LabelFails : FrameFault → List (List ℕ) → List ℕ → FrameFault → Type 0
+LabelFails refusal before =
+    FieldFails octet 1 (IsLengthOctet before) refusal (OctetsFail IsLower refusal)
 
 -- the first fault of a name: behind the labels of one, the next fails
-pub data NameFails (octets : List ℕ) (f : FrameFault) : Type 0 where
-  label_fails : (before : List (List ℕ)) (rest : List ℕ) → octets ≡ flat_map frame before ++ rest
-      → IsName before → LabelFails before rest f
-      → NameFails octets f
-
--- the first fault of so many octets of RDATA: some are missing, or they are not lawful there
-pub data RdataFails (Lawful : List ℕ → Type 0) (size : ℕ) (octets : List ℕ) (f : FrameFault)
-    : Type 0 where
-  cut_rdata : length octets < size → f ≡ Truncated → RdataFails Lawful size octets f
-  refused_rdata : (rdata rest : List ℕ) → octets ≡ rdata ++ rest → length rdata ≡ size
-      → (Lawful rdata → ⊥)
-      → f ≡ BadBody
-      → RdataFails Lawful size octets f
+pub data NameFails (refusal : FrameFault) (octets : List ℕ) (f : FrameFault) : Type 0 where
+  label_fails : (before : List (List ℕ)) (rest : List ℕ)
+      → octets ≡ flat_map label_octets before ++ rest
+      → IsName before → LabelFails refusal before rest f
+      → NameFails refusal octets f
 
 -- the first fault of RDATA behind its length
 abbrev pub SizedFails : (List ℕ → Type 0) → List ℕ → FrameFault → Type 0
-SizedFails Lawful = FieldFails u16_octets 2 AnyNumber Truncated (RdataFails Lawful)
+SizedFails Lawful = FieldFails u16_octets 2 AnyNumber Truncated (OctetsFail Lawful BadBody)
 
 -- the first fault of so many RDATAs: behind fewer of them, the next fails
 pub data RdatasFail (rtype count : ℕ) (octets : List ℕ) (f : FrameFault) : Type 0 where
-  rdata_fails : (before : List (List ℕ)) (rest : List ℕ) → octets ≡ flat_map sized before ++ rest
+  rdata_fails : (before : List (List ℕ)) (rest : List ℕ)
+      → octets ≡ flat_map octets_with_length before ++ rest
       → AreFirstRdatas rtype before → length before < count
       → SizedFails (λ rdata. AreFirstRdatas rtype (before ++ rdata ∷ [])) rest f
       → RdatasFail rtype count octets f
@@ -82,59 +88,58 @@ pub data RdatasFail (rtype count : ℕ) (octets : List ℕ) (f : FrameFault) : T
 abbrev pub PositiveFails : ℕ → List ℕ → FrameFault → Type 0
 PositiveFails rtype = FieldFails u16_octets 2 (IsCountOf rtype) BadBody (RdatasFail rtype)
 
--- what a body tells of the fault of the name in it
-abbrev pub as_body : FrameFault → FrameFault
-as_body BadName = BadBody
-as_body f = f
-
 -- The first fault of a negative body: of the SOA's owner, that this is neither the name nor an
 -- ancestor of it, or of the SOA's RDATA.
 pub data NegativeFails (name : List (List ℕ)) (octets : List ℕ) (f : FrameFault) : Type 0 where
-  owner_fails : (g : FrameFault) → NameFails octets g → f ≡ as_body g → NegativeFails name octets f
+  owner_fails : NameFails BadBody octets f → NegativeFails name octets f
   stranger : (owner : List (List ℕ)) (rest : List ℕ) → octets ≡ wire owner ++ rest → IsName owner
       → (IsUnder name owner → ⊥) → f ≡ BadBody
       → NegativeFails name octets f
   soa_fails : (owner : List (List ℕ)) (rest : List ℕ) → octets ≡ wire owner ++ rest → IsName owner
-      → IsUnder name owner → SizedFails (IsPlain 6) rest f
+      → IsUnder name owner → SizedFails (IsPlain SOA) rest f
       → NegativeFails name octets f
 
 -- the first fault of a body, by kind
-abbrev pub BodyFails : ℕ → List (List ℕ) → ℕ → List ℕ → FrameFault → Type 0
-BodyFails kind name rtype octets f =
-    ((kind ≡ 3) × PositiveFails rtype octets f) ⊎ ((kind ≢ 3) × NegativeFails name octets f)
+abbrev pub BodyFails : Kind → List (List ℕ) → ℕ → List ℕ → FrameFault → Type 0
+BodyFails Positive name rtype = PositiveFails rtype
+BodyFails NoData name rtype = NegativeFails name
+BodyFails NameError name rtype = NegativeFails name
 
--- The first fault of an entry, from its type on, from its name, life, stamp and rank on, and of the
--- whole.
-abbrev pub TypeFails : ℕ → List (List ℕ) → List ℕ → FrameFault → Type 0
+-- The first fault of an entry, from its type on, from its name, life, stamp and rank on, behind the
+-- number of its kind, and of the whole.
+abbrev pub TypeFails : Kind → List (List ℕ) → List ℕ → FrameFault → Type 0
 TypeFails kind name = FieldFails u16_octets 2 (IsTypeOf kind) BadKind (BodyFails kind name)
 
-pub data NamedFails (kind : ℕ) (octets : List ℕ) (f : FrameFault) : Type 0 where
-  name_fails : NameFails octets f → NamedFails kind octets f
+pub data NamedFails (kind : Kind) (octets : List ℕ) (f : FrameFault) : Type 0 where
+  name_fails : NameFails BadName octets f → NamedFails kind octets f
   behind_name : (name : List (List ℕ)) (rest : List ℕ) → octets ≡ wire name ++ rest → IsName name
       → TypeFails kind name rest f
       → NamedFails kind octets f
 
-abbrev pub LifeFails : ℕ → List ℕ → FrameFault → Type 0
+abbrev pub LifeFails : Kind → List ℕ → FrameFault → Type 0
 LifeFails kind = FieldFails u32_octets 4 (IsLifeOf kind) BadLife (λ life. NamedFails kind)
 
-abbrev pub StampFails : ℕ → List ℕ → FrameFault → Type 0
+abbrev pub StampFails : Kind → List ℕ → FrameFault → Type 0
 StampFails kind = FieldFails u64_octets 8 IsMoment BadMoment (λ stamp. LifeFails kind)
 
-abbrev pub RankFails : ℕ → List ℕ → FrameFault → Type 0
+abbrev pub RankFails : Kind → List ℕ → FrameFault → Type 0
 RankFails kind = FieldFails octet 1 (IsRankOf kind) BadRank (λ rank. StampFails kind)
 
+abbrev pub KindFails : ℕ → List ℕ → FrameFault → Type 0
+KindFails number octets f = (kind : Kind) × IsKind number kind × RankFails kind octets f
+
 abbrev pub EntryFails : List ℕ → FrameFault → Type 0
-EntryFails = FieldFails octet 1 IsKind BadKind RankFails
+EntryFails = FieldFails octet 1 IsKindNumber BadKind KindFails
 
 -- the first fault of so many entries: behind fewer of them the next fails, or octets stand behind
 -- them all
 pub data EntriesFail (count : ℕ) (octets : List ℕ) (f : FrameFault) : Type 0 where
-  entry_fails : (facts : List Fact) (rest : List ℕ) → octets ≡ entries facts ++ rest
-      → AreFacts facts
+  entry_fails : (facts : List ObservationData) (rest : List ℕ) → octets ≡ entries facts ++ rest
+      → AreObservations facts
       → length facts < count → EntryFails rest f
       → EntriesFail count octets f
-  more_octets : (facts : List Fact) (rest : List ℕ) → octets ≡ entries facts ++ rest
-      → AreFacts facts
+  more_octets : (facts : List ObservationData) (rest : List ℕ) → octets ≡ entries facts ++ rest
+      → AreObservations facts
       → length facts ≡ count → 0 < length rest → f ≡ Trailing
       → EntriesFail count octets f
 
@@ -151,13 +156,9 @@ MagicFails = FieldFails u16_octets 2 (λ n. n ≡ magic) BadMagic (λ n. Version
 -- the first fault of a frame
 abbrev pub FrameFails : List ℕ → FrameFault → Type 0
 FrameFails octets f =
-    ((16384 < length octets) × (f ≡ TooLong)) ⊎ ((length octets ≤ 16384) × MagicFails octets f)
+    ((LONGEST_FRAME < length octets) × (f ≡ TooLong))
+    ⊎ ((length octets ≤ LONGEST_FRAME) × MagicFails octets f)
 
 -- these observations would make too long a frame
-abbrev pub IsTooLong : List Fact → FrameFault → Type 0
-IsTooLong facts f = (f ≡ TooLong) × (16384 < length (frame_octets facts))
-
--- what a reader or a writer tells: want of memory anywhere, every other fault only where it is the
--- first
-abbrev pub OrMemory : FrameFault → Type 0 → Type 0
-OrMemory f First = (f ≡ OutOfMemory) ⊎ First
+abbrev pub IsTooLong : List ObservationData → FrameFault → Type 0
+IsTooLong facts f = (f ≡ TooLong) × (LONGEST_FRAME < length (frame_octets facts))

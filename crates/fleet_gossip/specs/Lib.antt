@@ -3,5 +3,5 @@ pub mod Frame
 pub mod Faults
 pub mod Packed
 pub mod Steps
-pub mod Tells
+pub mod EntryOf
 pub mod Packs

@@ -1,25 +1,28 @@
 -- How far a list is packed.
 use Rattle.std.specs.Prelude.{◌≡◌, ℕ, ◌≤◌, List, [], ◌++◌, length}
-use Rattle.fleet_observe.specs.Fact.{Fact, AreFacts}
+use Rattle.fleet_observe.specs.Observation.{ObservationData, AreObservations}
 use Rattle.fleet_gossip.specs.Frame.{entries, frame_octets}
 use Rattle.fleet_gossip.specs.Packed.{IsPacked}
 use Rattle.fleet_gossip.specs.declared.packer.Packer.{Packer}
+use Rattle.fleet_gossip.specs.declared.bounds.TheConstants.{LONGEST_FRAME}
 
 -- These finished frames, and so many entries of the one in the making, hold what was taken:
 -- whatever comes, with its frames behind them they pack it all.
-pub record Hold (frames : List (List ℕ)) (octets : List ℕ) (count : ℕ) (taken : List Fact)
+pub record Hold (frames : List (List ℕ)) (octets : List ℕ) (count : ℕ)
+    (taken : List ObservationData)
     : Type 0 where
-  pub part : List Fact
-  pub lawful : AreFacts part
+  pub part : List ObservationData
+  pub lawful : AreObservations part
   pub counted : count ≡ length part
   pub none : taken ≡ [] → part ≡ []
   pub spelled : octets ≡ entries part
-  pub fits : length (frame_octets part) ≤ 16384
-  pub goes_on : (rest : List Fact) (others : List (List ℕ)) → IsPacked (part ++ rest) others
+  pub fits : length (frame_octets part) ≤ LONGEST_FRAME
+  pub goes_on : (rest : List ObservationData) (others : List (List ℕ))
+      → IsPacked (part ++ rest) others
       → IsPacked (taken ++ rest) (frames ++ others)
 
-abbrev pub Packs : {A : Type 0} → Packer A → List Fact → Type 0
+abbrev pub Packs : {A : Type 0} → Packer A → List ObservationData → Type 0
 Packs packer taken = Hold packer.frames.items packer.entries.items packer.count taken
 
 abbrev pub IsPacking : {A : Type 0} → Packer A → Type 0
-IsPacking packer = (taken : List Fact) × Packs packer taken
+IsPacking packer = (taken : List ObservationData) × Packs packer taken

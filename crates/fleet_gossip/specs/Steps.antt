@@ -4,17 +4,18 @@ use Rattle.std.specs.declared.cmp.Ordering.TheVariants.{Less}
 use Rattle.std.specs.List.{flat_map}
 use Rattle.std.specs.Ordering.{nat_cmp}
 use Rattle.std.specs.Cmp.Lexicographic.{slice_cmp}
-use Rattle.fleet_name.specs.Name.{frame as framed, wire, lower, IsName, IsUnder}
+use Rattle.fleet_name.specs.Name.{label_octets as framed, wire, lower, IsName, IsUnder}
 use Rattle.fleet_wire.specs.Number.{u16_octets, u32_octets}
-use Rattle.fleet_observe.specs.Body.{sized, positive_body, negative_body}
+use Rattle.fleet_observe.specs.Body.{octets_with_length, positive_body, negative_body}
 use Rattle.fleet_observe.specs.Checks.{IsRankOf, IsLifeOf}
-use Rattle.fleet_observe.specs.Fact.{Fact, AreFacts, kind_number}
+use Rattle.fleet_observe.specs.Observation.{ObservationData, AreObservations, kind_number}
 use Rattle.fleet_gossip.specs.Entry.{octet, u64_octets, IsMoment, AreFirstRdatas}
 use Rattle.fleet_gossip.specs.Frame.{magic, version, entries, frame_octets}
 use Rattle.fleet_gossip.specs.Faults.{FieldFails, IsRoom}
 use Rattle.fleet_gossip.specs.declared.fault.FrameFault.{FrameFault}
 use Rattle.fleet_gossip.specs.declared.fault.FrameFault.TheVariants.{Truncated}
 use Rattle.fleet_gossip.specs.declared.head.Head.{Head}
+use Rattle.fleet_gossip.specs.declared.bounds.TheConstants.{LONGEST_FRAME}
 
 -- a lawful number stands at the front of octets, and the rest behind it
 pub record IsField (spelled : ℕ → List ℕ) (Lawful : ℕ → Type 0) (octets : List ℕ) (number : ℕ)
@@ -40,9 +41,9 @@ pub record AreTaken (octets : List ℕ) (size : ℕ) (taken rest : List ℕ) : T
 
 -- an entry may begin with these numbers
 pub record IsLawfulHead (head : Head) : Type 0 where
-  pub rank : IsRankOf (kind_number head.kind) head.rank
+  pub rank : IsRankOf head.kind head.rank
   pub stamp : IsMoment head.stamp
-  pub life : IsLifeOf (kind_number head.kind) head.life
+  pub life : IsLifeOf head.kind head.life
 
 -- the first numbers of an entry stand at the front, and the rest behind them
 pub record IsHead (octets : List ℕ) (head : Head) (rest : List ℕ) : Type 0 where
@@ -92,7 +93,7 @@ EndWith rdatas last = (before : List (List ℕ)) × (rdatas ≡ before ++ last �
 -- their body has `long` octets
 pub record AreFirstOf (rtype count : ℕ) (octets : List ℕ) (long : ℕ) (rest : List ℕ) : Type 0 where
   pub rdatas : List (List ℕ)
-  pub whole : octets ≡ flat_map sized rdatas ++ rest
+  pub whole : octets ≡ flat_map octets_with_length rdatas ++ rest
   pub lawful : AreFirstRdatas rtype rdatas
   pub counted : length rdatas ≡ count
   pub size : long ≡ length (positive_body rdatas)
@@ -115,25 +116,25 @@ IsOpened octets count rest =
     octets ≡ u16_octets magic ++ (octet version ++ (u16_octets count ++ rest))
 
 -- so many entries stand at the front, and the rest behind them
-pub record AreEntries (octets : List ℕ) (count : ℕ) (facts : List Fact) (rest : List ℕ)
+pub record AreEntries (octets : List ℕ) (count : ℕ) (facts : List ObservationData) (rest : List ℕ)
     : Type 0 where
   pub whole : octets ≡ entries facts ++ rest
-  pub lawful : AreFacts facts
+  pub lawful : AreObservations facts
   pub counted : length facts ≡ count
 
 -- octets that are just so many lawful entries
 pub record StandEntries (octets : List ℕ) (count : ℕ) : Type 0 where
-  pub facts : List Fact
+  pub facts : List ObservationData
   pub are : AreEntries octets count facts []
 
 -- a frame has so many entries, and these octets are all of them
 pub record AreEntriesOf (frame : List ℕ) (count : ℕ) (octets : List ℕ) : Type 0 where
   pub opened : IsOpened frame count octets
-  pub fits : length frame ≤ 16384
+  pub fits : length frame ≤ LONGEST_FRAME
   pub stand : StandEntries octets count
 
 -- the frame of these observations has so many octets, which fit
-pub record FitsFrame (facts : List Fact) (size : ℕ) : Type 0 where
-  pub lawful : AreFacts facts
+pub record FitsFrame (facts : List ObservationData) (size : ℕ) : Type 0 where
+  pub lawful : AreObservations facts
   pub counted : size ≡ length (frame_octets facts)
-  pub fits : size ≤ 16384
+  pub fits : size ≤ LONGEST_FRAME

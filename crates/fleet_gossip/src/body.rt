@@ -2,24 +2,23 @@
 
 ghost use Rattle.std.specs.Prelude.{◌≡◌, ℕ, ◌≤◌, ◌++◌, ◌∷◌, [], ◌↔◌, List, length, IsTrue, MatchOption, MatchResult};
 ghost use Rattle.fleet_name.specs.Name.{wire, IsName, IsWire};
-ghost use Rattle.fleet_observe.specs.Body.{sized, positive_body, IsPositiveBody, IsNegativeBody};
-ghost use Rattle.fleet_observe.specs.Fact.{kind_number};
+ghost use Rattle.fleet_observe.specs.Body.{octets_with_length, positive_body, IsPositiveBody, IsNegativeBody};
+ghost use Rattle.fleet_observe.specs.declared.bounds.TheConstants.{LONGEST_BODY};
 ghost use Rattle.fleet_gossip.specs.Entry.{AreFirstRdatas, IsBodyOf};
-ghost use Rattle.fleet_gossip.specs.Faults.{as_body as told_of_body, SizedFails, RdatasFail, PositiveFails, NegativeFails, BodyFails};
+ghost use Rattle.fleet_gossip.specs.Faults.{SizedFails, RdatasFail, PositiveFails, NegativeFails, BodyFails};
 ghost use Rattle.fleet_gossip.specs.Steps.{AnyRdata, IsAbove, EndWith, IsPart, IsSizeOf, AreFirstOf, IsOwnerOf};
 
 use crate::fault::FrameFault;
 use crate::name::{is_under, read_name};
 use crate::reader::Reader;
-use fleet_observe::{Kind, LONGEST_BODY, is_count_of};
+use fleet_observe::bounds::LONGEST_BODY;
+use fleet_observe::{Kind, is_count_of};
 use fleet_wire::plain_rdata;
-
-/// The type of the record on whose word a name or data are denied (RFC 1035 3.2.2).
-const SOA: u16 = 6;
+use fleet_wire::rtype::SOA;
 
 /// RDATA behind its length.
 pub(crate) fn read_sized<'a>(reader: &mut Reader<'a>) -> Result<&'a [u8], FrameFault>
-    ensures { MatchResult result (λ r. reader.old ≡ sized r.now ++ reader.new)
+    ensures { MatchResult result (λ r. reader.old ≡ octets_with_length r.now ++ reader.new)
         (SizedFails AnyRdata reader.old) }
 {
     let size = reader.read_u16()?;
@@ -41,7 +40,7 @@ fn is_above(last: Option<&[u8]>, rdata: &[u8]) -> bool
 /// Whether the RDATA may stand behind others, of which that is the last and which make a body of
 /// `size` octets.
 fn is_next(rtype: u16, last: Option<&[u8]>, size: usize, rdata: &[u8]) -> bool
-    requires { size ≤ 8192 }
+    requires { size ≤ LONGEST_BODY }
     ensures { (before : List (List ℕ))
         → MatchOption last.entry (before ≡ []) (λ r. EndWith before r.now)
         → AreFirstRdatas rtype before → size ≡ length (positive_body before)
@@ -87,16 +86,6 @@ fn positive_size(octets: &[u8], rtype: u16) -> Result<usize, FrameFault>
     read_rdatas(&mut reader, rtype, count)
 }
 
-/// What a body tells of the name in it.
-fn as_body(fault: FrameFault) -> FrameFault
-    ensures { result ≡ told_of_body fault }
-{
-    match fault {
-        FrameFault::BadName => FrameFault::BadBody,
-        other => other,
-    }
-}
-
 /// The owner of the SOA of a denial of the name.
 fn read_owner<'a>(reader: &mut Reader<'a>, name: &[u8]) -> Result<&'a [u8], FrameFault>
     requires { IsWire name.now }
@@ -104,15 +93,11 @@ fn read_owner<'a>(reader: &mut Reader<'a>, name: &[u8]) -> Result<&'a [u8], Fram
         → MatchResult result (λ r. IsPart (IsOwnerOf n) reader.old r.now reader.new)
         (NegativeFails n reader.old) }
 {
-    match read_name(reader) {
-        Err(fault) => Err(as_body(fault)),
-        Ok(owner) => {
-            if !is_under(name, owner) {
-                return Err(FrameFault::BadBody);
-            }
-            Ok(owner)
-        }
+    let owner = read_name(reader, FrameFault::BadBody)?;
+    if !is_under(name, owner) {
+        return Err(FrameFault::BadBody);
     }
+    Ok(owner)
 }
 
 /// How many octets the body at the front has, which is that of a denial of the name.
@@ -135,9 +120,8 @@ fn negative_size(octets: &[u8], name: &[u8]) -> Result<usize, FrameFault>
 fn body_size(octets: &[u8], kind: Kind, name: &[u8], rtype: u16) -> Result<usize, FrameFault>
     requires { IsWire name.now }
     ensures { (n : List (List ℕ)) → IsName n → name.now ≡ wire n
-        → MatchResult result
-        (λ size. IsSizeOf (IsBodyOf (kind_number kind) n rtype) octets.now size)
-        (BodyFails (kind_number kind) n rtype octets.now) }
+        → MatchResult result (λ size. IsSizeOf (IsBodyOf kind n rtype) octets.now size)
+        (BodyFails kind n rtype octets.now) }
 {
     match kind {
         Kind::Positive => positive_size(octets, rtype),
@@ -155,9 +139,8 @@ pub(crate) fn read_body<'a>(
 ) -> Result<&'a [u8], FrameFault>
     requires { IsWire name.now }
     ensures { (n : List (List ℕ)) → IsName n → name.now ≡ wire n
-        → MatchResult result
-        (λ r. IsPart (IsBodyOf (kind_number kind) n rtype) reader.old r.now reader.new)
-        (BodyFails (kind_number kind) n rtype reader.old) }
+        → MatchResult result (λ r. IsPart (IsBodyOf kind n rtype) reader.old r.now reader.new)
+        (BodyFails kind n rtype reader.old) }
 {
     let size = body_size(reader.rest(), kind, name, rtype)?;
     reader.take(size)

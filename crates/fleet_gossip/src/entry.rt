@@ -3,12 +3,13 @@
 ghost use Rattle.std.specs.Prelude.{◌≡◌, ℕ, ◌++◌, List, IfOk, MatchResult};
 ghost use Rattle.fleet_name.specs.Name.{wire, IsName, IsWire};
 ghost use Rattle.fleet_observe.specs.Body.{positive_body, negative_body};
-ghost use Rattle.fleet_observe.specs.Fact.{Fact, kind_number};
+ghost use Rattle.fleet_observe.specs.Observation.{ObservationData};
+ghost use Rattle.fleet_observe.specs.declared.kind.Kind.TheVariants.{Positive};
 ghost use Rattle.fleet_observe.specs.Checks.{denied_kind, denied_type};
 ghost use Rattle.fleet_gossip.specs.Entry.{entry_octets};
 ghost use Rattle.fleet_gossip.specs.Faults.{EntryFails};
 ghost use Rattle.fleet_gossip.specs.Steps.{IsRdatasBody, IsSoaBody};
-ghost use Rattle.fleet_gossip.specs.Tells.{Tells};
+ghost use Rattle.fleet_gossip.specs.EntryOf.{IsEntryOf};
 
 use crate::body::{read_body, read_sized};
 use crate::fault::FrameFault;
@@ -21,7 +22,7 @@ use std::alloc::{AllocError, Allocator};
 
 /// An entry that was read, and is lawful. Its name and its body are octets of the frame.
 #[derive(Clone, Copy)]
-pub(crate) struct Entry<'a> {
+pub(crate) struct FrameEntry<'a> {
     pub head: Head,
     pub name: &'a [u8],
     pub rtype: u16,
@@ -29,16 +30,17 @@ pub(crate) struct Entry<'a> {
 }
 
 /// The entry that is read next. This takes no memory.
-pub(crate) fn read_entry<'a>(reader: &mut Reader<'a>) -> Result<Entry<'a>, FrameFault>
+pub(crate) fn read_entry<'a>(reader: &mut Reader<'a>) -> Result<FrameEntry<'a>, FrameFault>
     ensures { MatchResult result
-        (λ entry. (o : Fact) × Tells entry o × (reader.old ≡ entry_octets o ++ reader.new))
+        (λ entry. (o : ObservationData) × IsEntryOf entry o
+        × (reader.old ≡ entry_octets o ++ reader.new))
         (EntryFails reader.old) }
 {
     let head = read_head(reader)?;
-    let name = read_name(reader)?;
+    let name = read_name(reader, FrameFault::BadName)?;
     let rtype = read_type(reader, head.kind)?;
     let body = read_body(reader, head.kind, name, rtype)?;
-    Ok(Entry {
+    Ok(FrameEntry {
         head,
         name,
         rtype,
@@ -84,7 +86,7 @@ fn copy_soa<A: Allocator + Copy>(alloc: A, body: &[u8]) -> Result<Soa<A>, AllocE
         IsName soa.owner × (body.now ≡ negative_body soa.owner soa.rdata)) }
 {
     let mut reader = Reader::new(body);
-    let Ok(owner) = read_name(&mut reader) else {
+    let Ok(owner) = read_name(&mut reader, FrameFault::BadBody) else {
         unreachable!()
     };
     let Ok(rdata) = read_sized(&mut reader) else {
@@ -99,12 +101,12 @@ fn copy_soa<A: Allocator + Copy>(alloc: A, body: &[u8]) -> Result<Soa<A>, AllocE
     })
 }
 
-impl Entry<'_> {
+impl FrameEntry<'_> {
     /// The observation of a positive entry.
     fn to_records<A: Allocator + Copy>(&self, alloc: A) -> Result<Observation<A>, AllocError>
-        requires tells { (o : Fact) × Tells self.now o }
-        requires kind { kind_number self.now.head.kind ≡ 3 }
-        ensures { IfOk result (λ made. (o : Fact) → Tells self.now o → made ≡ o) }
+        requires tells { (o : ObservationData) × IsEntryOf self.now o }
+        requires kind { self.now.head.kind ≡ Positive }
+        ensures { IfOk result (λ made. (o : ObservationData) → IsEntryOf self.now o → made ≡ o) }
     {
         let name = copy_name(alloc, self.name)?;
         let rdatas = copy_rdatas(alloc, self.body)?;
@@ -123,10 +125,10 @@ impl Entry<'_> {
         alloc: A,
         rtype: Option<u16>,
     ) -> Result<Observation<A>, AllocError>
-        requires tells { (o : Fact) × Tells self.now o }
-        requires kind { kind_number self.now.head.kind ≡ denied_kind rtype }
+        requires tells { (o : ObservationData) × IsEntryOf self.now o }
+        requires kind { self.now.head.kind ≡ denied_kind rtype }
         requires rtype { self.now.rtype ≡ denied_type rtype }
-        ensures { IfOk result (λ made. (o : Fact) → Tells self.now o → made ≡ o) }
+        ensures { IfOk result (λ made. (o : ObservationData) → IsEntryOf self.now o → made ≡ o) }
     {
         let name = copy_name(alloc, self.name)?;
         let soa = copy_soa(alloc, self.body)?;
@@ -144,8 +146,8 @@ impl Entry<'_> {
         &self,
         alloc: A,
     ) -> Result<Observation<A>, AllocError>
-        requires { (o : Fact) × Tells self.now o }
-        ensures { IfOk result (λ made. (o : Fact) → Tells self.now o → made ≡ o) }
+        requires { (o : ObservationData) × IsEntryOf self.now o }
+        ensures { IfOk result (λ made. (o : ObservationData) → IsEntryOf self.now o → made ≡ o) }
     {
         match self.head.kind {
             Kind::Positive => self.to_records(alloc),

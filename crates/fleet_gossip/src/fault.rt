@@ -16,7 +16,7 @@ pub enum FrameFault {
     /// Its version is not 1.
     #[error("bad version")]
     BadVersion,
-    /// It has more than 16384 octets. This is told before all else.
+    /// It has more than `LONGEST_FRAME` octets. This is told before all else.
     #[error("too long")]
     TooLong,
     /// It ends before what it says.
@@ -29,21 +29,21 @@ pub enum FrameFault {
     /// A rank other than 1, 2 or 3, or 2 where the observation is not positive.
     #[error("bad rank")]
     BadRank,
-    /// A stamp of more than 2^40 seconds.
+    /// A stamp of more than `LATEST` seconds.
     #[error("bad moment")]
     BadMoment,
-    /// A life of 0 seconds, of more than 86400, or of more than 10800 where the observation is not
-    /// positive.
+    /// A life of 0 seconds, of more than `LONGEST_LIFE`, or of more than `LONGEST_DENIAL` where the
+    /// observation is not positive.
     #[error("bad life")]
     BadLife,
-    /// A label of more than 63 octets, a name of more than 255 with its zero octet, or a capital
-    /// letter in it (RFC 1035 2.3.4).
+    /// A label of more than `LONGEST_LABEL` octets, a name of more than `LONGEST_NAME` with its
+    /// zero octet, or a capital letter in it (RFC 1035 2.3.4).
     #[error("bad name")]
     BadName,
-    /// Positive: no RDATA, more than one of an alias (CNAME), a body of more than 8192 octets,
-    /// RDATA that is not of its type's shape with names in full and in lower case, or RDATA that
-    /// doesn't stand above the one before it. Negative: an owner that is no name, or neither the
-    /// observation's name nor an ancestor of it, or RDATA that is not of the shape of an SOA.
+    /// Positive: no RDATA, more than one of an alias (CNAME), a body of more than `LONGEST_BODY`
+    /// octets, RDATA that is not of its type's shape with names in full and in lower case, or RDATA
+    /// that doesn't stand above the one before it. Negative: an owner that is no name, or neither
+    /// the observation's name nor an ancestor of it, or RDATA that is not of the shape of an SOA.
     #[error("bad body")]
     BadBody,
     /// Octets behind the last entry.

@@ -1,12 +1,15 @@
 //! Frames: read and written.
 
 ghost use Rattle.std.specs.Prelude.{◌≡◌, ◌<◌, List, [], length, IfOk, IfErr, OnErr, MatchOption, MatchResult, Err};
-ghost use Rattle.fleet_observe.specs.Fact.{Fact};
+ghost use Rattle.fleet_name.specs.Fault.{OrMemory};
+ghost use Rattle.fleet_observe.specs.Observation.{ObservationData};
 ghost use Rattle.fleet_gossip.specs.Frame.{frame_octets, SpellsFrame, HasEntries};
-ghost use Rattle.fleet_gossip.specs.Faults.{EntriesFail, MagicFails, FrameFails, IsTooLong, OrMemory};
+ghost use Rattle.fleet_gossip.specs.Faults.{EntriesFail, MagicFails, FrameFails, IsTooLong};
 ghost use Rattle.fleet_gossip.specs.Steps.{IsOpened, AreEntries, StandEntries, AreEntriesOf, FitsFrame};
+ghost use Rattle.fleet_gossip.specs.declared.bounds.TheConstants.{LONGEST_FRAME};
 ghost use Rattle.fleet_gossip.specs.declared.fault.FrameFault.TheVariants.{TooLong, OutOfMemory};
 
+use crate::bounds::LONGEST_FRAME;
 use crate::entry::read_entry;
 use crate::fault::FrameFault;
 use crate::reader::Reader;
@@ -23,18 +26,15 @@ pub(crate) const VERSION: u8 = 1;
 /// How many octets stand before the entries of a frame.
 pub(crate) const OPENING: usize = 5;
 
-/// How many octets a frame has at most.
-pub(crate) const MAX_FRAME: usize = 16384;
-
 /// How many octets the frame of observations has, where it may have so many.
 fn frame_size<A: Allocator>(observations: &[Observation<A>]) -> Option<usize>
-    ensures { MatchOption result (16384 < length (frame_octets observations.now))
+    ensures { MatchOption result (LONGEST_FRAME < length (frame_octets observations.now))
         (FitsFrame observations.now) }
 {
     let mut size = OPENING;
     for observation in observations {
         size += entry_size(observation);
-        if size > MAX_FRAME {
+        if size > LONGEST_FRAME {
             return None;
         }
     }
@@ -43,15 +43,16 @@ fn frame_size<A: Allocator>(observations: &[Observation<A>]) -> Option<usize>
 
 /// The frame of observations, in their order: one allocation of just its octets.
 ///
-/// `TooLong` comes exactly where it would have more than 16384 octets, before any memory is asked
-/// for. Of the other faults there is only `OutOfMemory`.
+/// `TooLong` comes exactly where it would have more than `LONGEST_FRAME` octets, before any memory
+/// is asked for. Of the other faults there is only `OutOfMemory`.
 pub fn encode<A: Allocator>(
     alloc: A,
     observations: &[Observation<A>],
 ) -> Result<Vec<u8, A>, FrameFault>
     ensures spelled { IfOk result (λ frame. SpellsFrame frame.items observations.now) }
-    ensures fault { IfErr result (λ f. OrMemory f (IsTooLong observations.now f)) }
-    ensures too_long { 16384 < length (frame_octets observations.now) → result ≡ Err TooLong }
+    ensures fault { IfErr result (λ f. OrMemory OutOfMemory f (IsTooLong observations.now f)) }
+    ensures too_long { LONGEST_FRAME < length (frame_octets observations.now)
+        → result ≡ Err TooLong }
 {
     let Some(size) = frame_size(observations) else {
         return Err(FrameFault::TooLong);
@@ -110,7 +111,7 @@ fn read_frame(octets: &[u8]) -> Result<Entries<'_>, FrameFault>
     ensures { MatchResult result (λ entries.
         AreEntriesOf octets.now entries.count entries.octets.now) (FrameFails octets.now) }
 {
-    if octets.len() > MAX_FRAME {
+    if octets.len() > LONGEST_FRAME {
         return Err(FrameFault::TooLong);
     }
     let mut reader = Reader::new(octets);
@@ -154,9 +155,9 @@ pub fn decode<A: Allocator + Copy>(
     octets: &[u8],
 ) -> Result<Vec<Observation<A>, A>, FrameFault>
     ensures found { IfOk result (λ v. SpellsFrame octets.now v.items) }
-    ensures fault { IfErr result (λ f. OrMemory f (FrameFails octets.now f)) }
+    ensures fault { IfErr result (λ f. OrMemory OutOfMemory f (FrameFails octets.now f)) }
     // Where a list is spelled, only want of memory keeps it from being read.
-    ensures only { (facts : List Fact) → SpellsFrame octets.now facts
+    ensures only { (facts : List ObservationData) → SpellsFrame octets.now facts
         → IfErr result (λ f. f ≡ OutOfMemory) }
     // Want of memory is told only where a list is spelled that has something in it.
     ensures memory { IfErr result (λ f. f ≡ OutOfMemory → HasEntries octets.now) }

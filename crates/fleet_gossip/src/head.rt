@@ -1,10 +1,10 @@
 //! The first numbers of an entry: kind, rank, stamp and life.
 
-ghost use Rattle.std.specs.Prelude.{MatchResult};
+ghost use Rattle.std.specs.Prelude.{◌≡◌, ◌++◌, MatchResult};
 ghost use Rattle.fleet_wire.specs.Number.{u16_octets, u32_octets};
-ghost use Rattle.fleet_observe.specs.Fact.{kind_number};
+ghost use Rattle.fleet_observe.specs.Observation.{kind_number};
 ghost use Rattle.fleet_observe.specs.Checks.{IsRankOf, IsLifeOf, IsTypeOf};
-ghost use Rattle.fleet_gossip.specs.Entry.{octet, u64_octets, IsKind, IsMoment};
+ghost use Rattle.fleet_gossip.specs.Entry.{octet, u64_octets, IsKindNumber, IsMoment};
 ghost use Rattle.fleet_gossip.specs.Faults.{EntryFails};
 ghost use Rattle.fleet_gossip.specs.Steps.{IsField, NoField, IsHead};
 ghost use Rattle.fleet_gossip.specs.declared.fault.FrameFault.TheVariants.{BadKind, BadRank, BadMoment, BadLife};
@@ -24,8 +24,8 @@ pub(crate) struct Head {
 }
 
 fn read_kind(reader: &mut Reader<'_>) -> Result<Kind, FrameFault>
-    ensures { MatchResult result (λ r. IsField octet IsKind reader.old (kind_number r) reader.new)
-        (NoField octet 1 IsKind BadKind reader.old) }
+    ensures { MatchResult result (λ kind. reader.old ≡ octet (kind_number kind) ++ reader.new)
+        (NoField octet 1 IsKindNumber BadKind reader.old) }
 {
     let number = reader.read_u8()?;
     match number {
@@ -37,9 +37,8 @@ fn read_kind(reader: &mut Reader<'_>) -> Result<Kind, FrameFault>
 }
 
 fn read_rank(reader: &mut Reader<'_>, kind: Kind) -> Result<u8, FrameFault>
-    ensures { MatchResult result
-        (λ r. IsField octet (IsRankOf (kind_number kind)) reader.old r reader.new)
-        (NoField octet 1 (IsRankOf (kind_number kind)) BadRank reader.old) }
+    ensures { MatchResult result (λ r. IsField octet (IsRankOf kind) reader.old r reader.new)
+        (NoField octet 1 (IsRankOf kind) BadRank reader.old) }
 {
     let rank = reader.read_u8()?;
     if !is_rank_of(kind, rank) {
@@ -60,9 +59,8 @@ fn read_stamp(reader: &mut Reader<'_>) -> Result<Moment, FrameFault>
 }
 
 fn read_life(reader: &mut Reader<'_>, kind: Kind) -> Result<u32, FrameFault>
-    ensures { MatchResult result
-        (λ r. IsField u32_octets (IsLifeOf (kind_number kind)) reader.old r reader.new)
-        (NoField u32_octets 4 (IsLifeOf (kind_number kind)) BadLife reader.old) }
+    ensures { MatchResult result (λ r. IsField u32_octets (IsLifeOf kind) reader.old r reader.new)
+        (NoField u32_octets 4 (IsLifeOf kind) BadLife reader.old) }
 {
     let life = reader.read_u32()?;
     if !is_life_of(kind, life) {
@@ -89,9 +87,8 @@ pub(crate) fn read_head(reader: &mut Reader<'_>) -> Result<Head, FrameFault>
 
 /// The type of an entry of the kind.
 pub(crate) fn read_type(reader: &mut Reader<'_>, kind: Kind) -> Result<u16, FrameFault>
-    ensures { MatchResult result
-        (λ r. IsField u16_octets (IsTypeOf (kind_number kind)) reader.old r reader.new)
-        (NoField u16_octets 2 (IsTypeOf (kind_number kind)) BadKind reader.old) }
+    ensures { MatchResult result (λ r. IsField u16_octets (IsTypeOf kind) reader.old r reader.new)
+        (NoField u16_octets 2 (IsTypeOf kind) BadKind reader.old) }
 {
     let rtype = reader.read_u16()?;
     if !is_type_of(kind, rtype) {

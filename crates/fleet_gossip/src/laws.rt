@@ -1,27 +1,31 @@
 //! Laws of frames.
 
 ghost use Rattle.std.specs.Prelude.{◌≡◌, ℕ, ◌≤◌, List, [], ◌∷◌, length};
-ghost use Rattle.fleet_observe.specs.Fact.{Fact, IsFact};
+ghost use Rattle.fleet_observe.specs.Observation.{ObservationData, IsObservation};
 ghost use Rattle.fleet_gossip.specs.Frame.{frame_octets, SpellsFrame};
 ghost use Rattle.fleet_gossip.specs.Faults.{FrameFails};
 ghost use Rattle.fleet_gossip.specs.Packed.{IsPacked};
+ghost use Rattle.fleet_gossip.specs.declared.bounds.TheConstants.{LONGEST_FRAME};
 ghost use Rattle.fleet_gossip.specs.declared.fault.FrameFault.{FrameFault};
 
 /// Octets spell one list of observations at most.
 pub fn one_list()
-    ensures { (octets : List ℕ) (a b : List Fact) → SpellsFrame octets a → SpellsFrame octets b
+    ensures { (octets : List ℕ) (a b : List ObservationData) → SpellsFrame octets a
+        → SpellsFrame octets b
         → a ≡ b }
 {}
 
 /// A list has one frame at most.
 pub fn one_spelling()
-    ensures { (facts : List Fact) (a b : List ℕ) → SpellsFrame a facts → SpellsFrame b facts
+    ensures { (facts : List ObservationData) (a b : List ℕ) → SpellsFrame a facts
+        → SpellsFrame b facts
         → a ≡ b }
 {}
 
 /// A frame that spells a list has no fault.
 pub fn list_or_fault()
-    ensures { (octets : List ℕ) (facts : List Fact) (f : FrameFault) → SpellsFrame octets facts
+    ensures { (octets : List ℕ) (facts : List ObservationData) (f : FrameFault)
+        → SpellsFrame octets facts
         → FrameFails octets f → ⊥ }
 {}
 
@@ -33,11 +37,13 @@ pub fn one_fault()
 
 /// An observation alone always fits a frame, whatever its name and body.
 pub fn entry_fits()
-    ensures { (o : Fact) → IsFact o → length (frame_octets (o ∷ [])) ≤ 16384 }
+    ensures { (o : ObservationData) → IsObservation o
+        → length (frame_octets (o ∷ [])) ≤ LONGEST_FRAME }
 {}
 
 /// A list has one packing at most: its frames are determined.
 pub fn one_packing()
-    ensures { (facts : List Fact) (a b : List (List ℕ)) → IsPacked facts a → IsPacked facts b
+    ensures { (facts : List ObservationData) (a b : List (List ℕ)) → IsPacked facts a
+        → IsPacked facts b
         → a ≡ b }
 {}

@@ -1,13 +1,14 @@
 //! Frames: observations as octets, as sites tell them to each other.
 //!
 //! A frame has the octets 44 47, a version of one octet, 1, a count of two octets, so many entries,
-//! and nothing behind them; at most 16384 octets. An entry has a kind of one octet (1 name error, 2
-//! no data, 3 positive), a rank of one octet, a stamp of eight octets and a life of four, both in
-//! seconds, a name, a type of two octets and a body. All numbers are big-endian; names stand in
-//! full and in lower case (RFC 1035 3.1).
+//! and nothing behind them; at most `LONGEST_FRAME` octets. An entry has a kind of one octet (1
+//! name error, 2 no data, 3 positive), a rank of one octet, a stamp of eight octets and a life of
+//! four, both in seconds, a name, a type of two octets and a body. All numbers are big-endian;
+//! names stand in full and in lower case (RFC 1035 3.1).
 #![tactic(auto)]
 
 mod body;
+pub mod bounds;
 mod entry;
 mod fault;
 mod frame;

@@ -2,48 +2,50 @@
 
 ghost use Rattle.std.specs.Prelude.{◌≡◌, ℕ, ◌≤◌, ◌↔◌, List, length, IsTrue, MatchResult};
 ghost use Rattle.fleet_name.specs.Name.{wire, IsName, IsUnder, IsWire};
+ghost use Rattle.fleet_name.specs.declared.bounds.TheConstants.{LONGEST_NAME};
 ghost use Rattle.fleet_gossip.specs.Faults.{LabelFails, NameFails};
 ghost use Rattle.fleet_gossip.specs.Steps.{IsLabelAt, IsPart, IsSizeOf};
 
 use crate::fault::FrameFault;
 use crate::reader::Reader;
+use fleet_name::bounds::{LONGEST_LABEL, LONGEST_NAME};
 use fleet_name::is_lower;
-
-/// How many octets a label, and a name with its zero octet, have at most (RFC 1035 2.3.4).
-const MAX_LABEL: usize = 63;
-
-const MAX_NAME: usize = 255;
 
 /// The label behind others that have `used` octets with a final zero: none of octets is the end of
 /// the name.
-fn read_label<'a>(reader: &mut Reader<'a>, used: usize) -> Result<&'a [u8], FrameFault>
-    requires { used ≤ 255 }
+fn read_label<'a>(
+    reader: &mut Reader<'a>,
+    used: usize,
+    refusal: FrameFault,
+) -> Result<&'a [u8], FrameFault>
+    requires { used ≤ LONGEST_NAME }
     ensures { (before : List (List ℕ)) → length (wire before) ≡ used
         → MatchResult result (λ r. IsLabelAt before reader.old r.now reader.new)
-        (LabelFails before reader.old) }
+        (LabelFails refusal before reader.old) }
 {
     let size = usize::from(reader.read_u8()?);
     if size == 0 {
         return Ok(&[]);
     }
-    if size > MAX_LABEL || used + size + 1 > MAX_NAME {
-        return Err(FrameFault::BadName);
+    if size > LONGEST_LABEL || used + size + 1 > LONGEST_NAME {
+        return Err(refusal);
     }
     let label = reader.take(size)?;
     if !is_lower(label) {
-        return Err(FrameFault::BadName);
+        return Err(refusal);
     }
     Ok(label)
 }
 
 /// How many octets the name that is read next has.
-fn name_size(octets: &[u8]) -> Result<usize, FrameFault>
-    ensures { MatchResult result (λ size. IsSizeOf IsWire octets.now size) (NameFails octets.now) }
+fn name_size(octets: &[u8], refusal: FrameFault) -> Result<usize, FrameFault>
+    ensures { MatchResult result (λ size. IsSizeOf IsWire octets.now size)
+        (NameFails refusal octets.now) }
 {
     let mut reader = Reader::new(octets);
     let mut size = 1;
     loop {
-        let label = read_label(&mut reader, size)?;
+        let label = read_label(&mut reader, size, refusal)?;
         if label.is_empty() {
             return Ok(size);
         }
@@ -51,12 +53,16 @@ fn name_size(octets: &[u8]) -> Result<usize, FrameFault>
     }
 }
 
-/// The octets of the name that is read next.
-pub(crate) fn read_name<'a>(reader: &mut Reader<'a>) -> Result<&'a [u8], FrameFault>
+/// The octets of the name that is read next; a label or a name that is too long, or has a capital
+/// letter, gives the refusal.
+pub(crate) fn read_name<'a>(
+    reader: &mut Reader<'a>,
+    refusal: FrameFault,
+) -> Result<&'a [u8], FrameFault>
     ensures { MatchResult result (λ r. IsPart IsWire reader.old r.now reader.new)
-        (NameFails reader.old) }
+        (NameFails refusal reader.old) }
 {
-    let size = name_size(reader.rest())?;
+    let size = name_size(reader.rest(), refusal)?;
     reader.take(size)
 }
 

@@ -2,13 +2,15 @@
 
 ghost use Rattle.std.specs.Prelude.{◌≡◌, ◌≢◌, ◌+◌, ◌<◌, ◌≤◌, ◌++◌, ◌∷◌, [], List, length, IfOk, OnOk, OnErr};
 ghost use Rattle.fleet_wire.specs.Number.{u16_octets};
-ghost use Rattle.fleet_observe.specs.Fact.{Fact};
+ghost use Rattle.fleet_observe.specs.Observation.{ObservationData};
 ghost use Rattle.fleet_gossip.specs.Entry.{octet};
 ghost use Rattle.fleet_gossip.specs.Frame.{magic, version};
 ghost use Rattle.fleet_gossip.specs.Packed.{IsPacked};
 ghost use Rattle.fleet_gossip.specs.Packs.{Packs, IsPacking};
+ghost use Rattle.fleet_gossip.specs.declared.bounds.TheConstants.{LONGEST_FRAME};
 
-use crate::frame::{MAX_FRAME, OPENING};
+use crate::bounds::LONGEST_FRAME;
+use crate::frame::OPENING;
 use crate::writer::{entry_size, push_entry, push_opening};
 use fleet_cache::Cache;
 use fleet_name::Octets;
@@ -42,7 +44,7 @@ impl<A: Allocator + Copy> Packer<A> {
 
     /// Finishes the frame in the making.
     fn close(&mut self) -> Result<(), AllocError>
-        requires { length self.old.entries.items ≤ 16384 }
+        requires { length self.old.entries.items ≤ LONGEST_FRAME }
         ensures frames { OnOk result (self.new.frames.items
             ≡ self.old.frames.items
             ++ (u16_octets magic
@@ -62,10 +64,10 @@ impl<A: Allocator + Copy> Packer<A> {
     /// Adds an observation behind the others.
     pub fn add(&mut self, observation: &Observation<A>) -> Result<(), AllocError>
         requires { IsPacking self.old }
-        ensures { OnOk result ((taken : List Fact) → Packs self.old taken
+        ensures { OnOk result ((taken : List ObservationData) → Packs self.old taken
             → Packs self.new (taken ++ observation.now ∷ [])) }
     {
-        if OPENING + self.entries.len() + entry_size(observation) > MAX_FRAME {
+        if OPENING + self.entries.len() + entry_size(observation) > LONGEST_FRAME {
             self.close()?;
         }
         push_entry(&mut self.entries, observation)?;
@@ -76,9 +78,10 @@ impl<A: Allocator + Copy> Packer<A> {
     /// The frames of all that was added.
     pub fn finish(mut self) -> Result<Vec<Octets<A>, A>, AllocError>
         requires { IsPacking self }
-        ensures memory { OnErr result ((taken : List Fact) → Packs self taken → taken ≢ []) }
+        ensures memory { OnErr result
+            ((taken : List ObservationData) → Packs self taken → taken ≢ []) }
         ensures packed { IfOk result (λ frames.
-            (taken : List Fact) → Packs self taken → IsPacked taken frames.items) }
+            (taken : List ObservationData) → Packs self taken → IsPacked taken frames.items) }
     {
         if self.count == 0 {
             return Ok(self.frames);
@@ -89,8 +92,8 @@ impl<A: Allocator + Copy> Packer<A> {
 }
 
 /// The frames of observations, in their order: each observation goes into the frame of the one
-/// before it where that then has at most 16384 octets, else it begins a new frame. An empty list
-/// has none, and takes no memory.
+/// before it where that then has at most `LONGEST_FRAME` octets, else it begins a new frame. An
+/// empty list has none, and takes no memory.
 pub fn pack<A: Allocator + Copy>(
     alloc: A,
     observations: &[Observation<A>],

@@ -2,9 +2,10 @@
 
 ghost use Rattle.std.specs.Prelude.{◌≡◌, ◌≤◌, ◌++◌, length, OnOk};
 ghost use Rattle.fleet_wire.specs.Number.{u16_octets, u32_octets};
-ghost use Rattle.fleet_observe.specs.Fact.{IsFact};
+ghost use Rattle.fleet_observe.specs.Observation.{IsObservation, kind_number};
 ghost use Rattle.fleet_gossip.specs.Entry.{octet, u64_octets, entry_octets};
 ghost use Rattle.fleet_gossip.specs.Frame.{magic, version};
+ghost use Rattle.fleet_gossip.specs.declared.bounds.TheConstants.{LONGEST_ENTRY};
 
 use crate::frame::{MAGIC, VERSION};
 use fleet_observe::Observation;
@@ -45,7 +46,7 @@ fn push_head<A: Allocator>(
 ) -> Result<(), AllocError>
     ensures { OnOk result (out.new.items
         ≡ out.old.items
-        ++ (octet observation.now.kind
+        ++ (octet (kind_number observation.now.kind)
         ++ (octet observation.now.rank
         ++ (u64_octets observation.now.stamp ++ u32_octets observation.now.life)))) }
 {
@@ -71,8 +72,8 @@ pub(crate) fn push_entry<A: Allocator>(
 /// How many octets the entry of an observation has.
 pub(crate) fn entry_size<A: Allocator>(observation: &Observation<A>) -> usize
     ensures value { result ≡ length (entry_octets observation.now) }
-    ensures bounded { result ≤ 8463 }
-    ensures lawful { IsFact observation.now }
+    ensures bounded { result ≤ LONGEST_ENTRY }
+    ensures lawful { IsObservation observation.now }
 {
     let fixed = 16;
     fixed + observation.name().octets().len() + observation.body_len()

@@ -1,6 +1,7 @@
 -- Why a label can't be added to a name.
-use Rattle.std.specs.Prelude.{◌≡◌, ℕ, ◌+◌, List, length, Option, Some, None, if◌then◌else◌, nat_eq, nat_lt}
+use Rattle.std.specs.Prelude.{◌≡◌, ◌⊎◌, ℕ, ◌+◌, List, length, Option, Some, None, if◌then◌else◌, nat_eq, nat_lt}
 use Rattle.fleet_name.specs.Name.{wire}
+use Rattle.fleet_name.specs.declared.bounds.TheConstants.{LONGEST_LABEL, LONGEST_NAME}
 use Rattle.fleet_name.specs.declared.fault.NameFault.{NameFault}
 use Rattle.fleet_name.specs.declared.fault.NameFault.TheVariants.{EmptyLabel, LongLabel, LongName, OutOfMemory}
 
@@ -8,12 +9,13 @@ use Rattle.fleet_name.specs.declared.fault.NameFault.TheVariants.{EmptyLabel, Lo
 abbrev pub push_fault : List (List ℕ) → List ℕ → Option NameFault
 push_fault name label =
     if nat_eq (length label) 0 then Some EmptyLabel else
-    if nat_lt 63 (length label) then Some LongLabel else
-    if nat_lt 255 (length (wire name) + length label + 1) then Some LongName else None
+    if nat_lt LONGEST_LABEL (length label) then Some LongLabel else
+    if nat_lt LONGEST_NAME (length (wire name) + length label + 1) then Some LongName else None
 
--- a fault is the first one, and want of memory is told only where there is none
+-- a fault is the first one, or want of memory where there is none
 abbrev pub IsFirst : NameFault → Option NameFault → Type 0
-IsFirst OutOfMemory first = first ≡ None
-IsFirst EmptyLabel first = first ≡ Some EmptyLabel
-IsFirst LongLabel first = first ≡ Some LongLabel
-IsFirst LongName first = first ≡ Some LongName
+IsFirst fault first = (first ≡ Some fault) ⊎ ((fault ≡ OutOfMemory) × (first ≡ None))
+
+-- a fault is want of memory, or what comes first
+abbrev pub OrMemory : {F : Type 0} → F → F → Type 0 → Type 0
+OrMemory memory f First = (f ≡ memory) ⊎ First

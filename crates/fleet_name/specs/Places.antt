@@ -1,5 +1,10 @@
--- Places of a list.
-use Rattle.std.specs.Prelude.{◌≡◌, ℕ, List, Option, Some, None, slice_get}
+-- What a list has in it, and where.
+use Rattle.std.specs.Prelude.{◌≡◌, ◌⊎◌, ℕ, List, [], ◌∷◌, Option, Some, None, slice_get}
+
+-- x is one of the values
+abbrev pub Has : {X : Type 0} → List X → X → Type 0
+Has [] x = ⊥
+Has (y ∷ ys) x = (y ≡ x) ⊎ Has ys x
 
 -- x stands at the place i
 abbrev pub At : {X : Type 0} → List X → ℕ → X → Type 0

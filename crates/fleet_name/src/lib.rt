@@ -1,6 +1,7 @@
 //! Names of the domain name system (RFC 1035 2.3.4, 3.1), and octets that contracts see as a list.
 #![tactic(auto)]
 
+pub mod bounds;
 mod fault;
 mod laws;
 mod name;

@@ -2,23 +2,19 @@
 
 ghost use Rattle.std.specs.Prelude.{◌≡◌, ◌≢◌, ℕ, ◌+◌, ◌-◌, ◌<◌, ◌≤◌, List, [], ◌∷◌, ◌++◌, ◌↔◌, length, take, drop, IfOk, IfErr, OnOk, OnErr, IsTrue, MatchOption, MatchResult, None, vec_len, vec_capacity};
 ghost use Rattle.std.specs.String.{string_bytes};
-ghost use Rattle.fleet_name.specs.Name.{frame, wire, lower, lower_all, labels_of, IsName, IsUnder, IsSpelling, IsWire, IsSuffix};
+ghost use Rattle.fleet_name.specs.Name.{label_octets, wire, lower, lower_all, labels_of, IsName, IsUnder, IsSpelling, IsWire, IsSuffix};
 ghost use Rattle.fleet_name.specs.Fault.{push_fault, IsFirst};
+ghost use Rattle.fleet_name.specs.declared.bounds.TheConstants.{LONGEST_LABEL};
 ghost use Rattle.fleet_name.specs.declared.fault.NameFault.TheVariants.{OutOfMemory};
 ghost use Rattle.fleet_name.specs.Text.{label_text, text_of};
 ghost use Rattle.std.specs.List.{flat_map};
 
+use crate::bounds::{LONGEST_LABEL, LONGEST_NAME};
 use crate::fault::NameFault;
 use crate::text::push_label;
 use std::alloc::{AllocError, Allocator, Global};
 use std::cmp::Ordering;
 use std::marker::Model;
-
-/// The most octets of a label (RFC 1035 2.3.4).
-const LONGEST_LABEL: usize = 63;
-
-/// The most octets of a name in full (RFC 1035 2.3.4).
-const LONGEST_NAME: usize = 255;
 
 /// A name: its labels in lower case, each of 1 to 63 octets, at most 255 octets in full (RFC 1035
 /// 2.3.4, 3.1). Contracts see it as the list of its labels. It takes one allocation.
@@ -247,10 +243,10 @@ fn lower_octets(octets: &mut [u8])
 /// Adds a label in lower case before the zero that ends the octets.
 fn append_label<A: Allocator>(octets: &mut Vec<u8, A>, label: &[u8]) -> Result<(), AllocError>
     requires some { 0 < length octets.old.items }
-    requires short { length label.now ≤ 63 }
+    requires short { length label.now ≤ LONGEST_LABEL }
     ensures ok { OnOk result (octets.new.items
         ≡ take (length octets.old.items - 1) octets.old.items
-        ++ (frame (lower label.now) ++ 0 ∷ [])) }
+        ++ (label_octets (lower label.now) ++ 0 ∷ [])) }
     ensures err { OnErr result (octets.new.items ≡ octets.old.items) }
 {
     octets.reserve(label.len() + 1)?;

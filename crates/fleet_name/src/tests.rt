@@ -8,7 +8,7 @@ use std::test::Fail;
 /// The labels `a.b`, `\` and one octet zero.
 const SPELLED: &[u8; 9] = b"\x03a.b\x01\\\x01\x00\x00";
 
-fn spelled(alloc: Global) -> Result<Name, Fail> {
+fn name_with_escapes(alloc: Global) -> Result<Name, Fail> {
     let mut name = Name::root(alloc)?;
     for label in [b"A.B".as_slice(), b"\\".as_slice(), b"\x00".as_slice()] {
         name.push(label)?;
@@ -20,7 +20,7 @@ fn spelled(alloc: Global) -> Result<Name, Fail> {
 fn writes_text_with_escapes(rt: HostRuntime) -> Result<(), Fail> {
     let root = Name::root(rt.alloc())?;
     assert_eq!(rt; root.write_text(rt.alloc())?.as_str(), ".");
-    let name = spelled(rt.alloc())?;
+    let name = name_with_escapes(rt.alloc())?;
     assert_eq!(rt; name.octets(), SPELLED.as_slice());
     assert_eq!(rt; name.write_text(rt.alloc())?.as_str(), "a\\.b.\\\\.\\000.");
     Ok(())
@@ -28,7 +28,7 @@ fn writes_text_with_escapes(rt: HostRuntime) -> Result<(), Fail> {
 
 #[test]
 fn copies_are_equal(rt: HostRuntime) -> Result<(), Fail> {
-    let name = spelled(rt.alloc())?;
+    let name = name_with_escapes(rt.alloc())?;
     let copy = Name::copy_of(rt.alloc(), name.octets())?.try_clone()?;
     assert_eq!(rt; copy.labels(), 3);
     assert!(rt; copy.same(&name));
@@ -61,7 +61,7 @@ fn a_long_name_is_refused(rt: HostRuntime) -> Result<(), Fail> {
 
 #[test]
 fn suffixes_are_ancestors(rt: HostRuntime) -> Result<(), Fail> {
-    let name = spelled(rt.alloc())?;
+    let name = name_with_escapes(rt.alloc())?;
     let mut parent = Name::root(rt.alloc())?;
     parent.push(b"\\")?;
     parent.push(b"\x00")?;

@@ -7,21 +7,23 @@ use Rattle.std.specs.Ordering.{nat_cmp, ordering_reverse}
 use Rattle.std.specs.Cmp.Lexicographic.{slice_cmp}
 use Rattle.std.proofs.lemmas.Cmp.{nat_list_cmp_total}
 use Rattle.fleet_name.specs.Name.{wire, labels_of, IsName}
-use Rattle.fleet_wire.specs.Record.{Told, IsPlainRecord}
-use Rattle.fleet_wire.specs.Message.{Reply, IsRead}
+use Rattle.fleet_wire.specs.Record.{RecordData, IsPlainRecord}
+use Rattle.fleet_wire.specs.Message.{MessageData, IsRead}
 use Rattle.fleet_observe.specs.Members.{Has, IsAscending}
-use Rattle.fleet_observe.specs.RrSet.{Set, IsRrSet, InSet, IsOnly, read_ttl}
+use Rattle.fleet_observe.specs.RrSet.{RrSetData, IsRrSet, InSet, IsOnly, read_ttl}
 use Rattle.fleet_observe.specs.Walk.{ArePlainRecords, IsPath, AreLinks, last, Ends, EndsFound}
-use Rattle.fleet_observe.specs.Digest.{SoaSet, Ending, WithRecords, WithoutData, WithoutName, WithCode, CutOff, Summary, target_of, denied_by, IsLawfulSet, IsLawfulLink, IsLawfulSoa, IsLawfulEnd, IsLawful}
+use Rattle.fleet_observe.specs.Digest.{SoaData, EndData, WithRecords, WithoutData, WithoutName, WithCode, CutOff, DigestData, target_of, denied_by, IsLawfulSet, IsLawfulLink, IsLawfulSoa, IsLawfulEnd, IsLawful}
 use Rattle.fleet_observe.specs.Meaning.{IsSoaOf, TellsWalk, IsEnd, Tells, IsMeaning, IsAuthority, IsServed, AsksWalk}
 use Rattle.fleet_observe.proofs.Sets.{read_bound}
 use Rattle.fleet_observe.proofs.Soas.{first_member}
-use Rattle.fleet_observe.proofs.Spelling.{labels_of-wire}
+use Rattle.fleet_name.proofs.Lemmas.{labels_of-wire}
 use Rattle.fleet_observe.proofs.Walks.{links_length}
+use Rattle.fleet_wire.specs.declared.rtype.TheConstants.{CNAME, NS}
+use Rattle.fleet_observe.specs.declared.bounds.TheConstants.{LONGEST_DENIAL, MOST_LINKS}
 
-pub all_plain : (s : List Told) → AllByRecursion IsPlainRecord s → ArePlainRecords s
+pub all_plain : (s : List RecordData) → AllByRecursion IsPlainRecord s → ArePlainRecords s
 all_plain [] all r h = absurd h
-all_plain (x ∷ s) all r (inl e) = subst (λ (y : Told). IsPlainRecord y) e all.0
+all_plain (x ∷ s) all r (inl e) = subst (λ (y : RecordData). IsPlainRecord y) e all.0
 all_plain (x ∷ s) all r (inr h) = all_plain s all.1 r h
 
 pub not_below_itself : (d : List ℕ) → ¬ (slice_cmp nat_cmp d d ≡ Less)
@@ -42,11 +44,11 @@ alone_of (d ∷ e ∷ ds) up some same =
 some_of : (ds : List (List ℕ)) (d : List ℕ) → Has ds d → ¬ (ds ≡ [])
 some_of ds d h e = let nowhere = rw e at h in nowhere
 
-pub set_some : (s : List Told) (n : List (List ℕ)) (t : ℕ) (x : Set) → IsRrSet s n t x → (d : List ℕ) × InSet s n t d
+pub set_some : (s : List RecordData) (n : List (List ℕ)) (t : ℕ) (x : RrSetData) → IsRrSet s n t x → (d : List ℕ) × InSet s n t d
 set_some s n t x is = (is.ttl.carrier.rdata, record { carrier = is.ttl.carrier; member = is.ttl.member; belongs = is.ttl.belongs; rdata = refl })
 
 -- an RRset of plain records
-pub set_lawful : (s : List Told) (n : List (List ℕ)) (t : ℕ) (x : Set) → ArePlainRecords s → IsRrSet s n t x → (t ≡ 5 → (d e : List ℕ) → InSet s n t d → InSet s n t e → d ≡ e) → IsLawfulSet x
+pub set_lawful : (s : List RecordData) (n : List (List ℕ)) (t : ℕ) (x : RrSetData) → ArePlainRecords s → IsRrSet s n t x → (t ≡ CNAME → (d e : List ℕ) → InSet s n t d → InSet s n t e → d ≡ e) → IsLawfulSet x
 set_lawful s n t x plain is single =
     let one = set_some s n t x is in let carrier = is.ttl.carrier in
     let named : IsName n = subst IsName is.ttl.belongs.owner (plain carrier is.ttl.member).name in
@@ -63,39 +65,39 @@ set_lawful s n t x plain is single =
       alone = λ alias. ap length (alone_of x.rdatas is.ascending some (λ d e h k. single (sym is.rtype ∙ alias) d e (is.of_section d h) (is.of_section e k))).1;
     }
 
-only_same : (s : List Told) (n : List (List ℕ)) (t : ℕ) (m : List ℕ) → IsOnly s n t m → (d e : List ℕ) → InSet s n t d → InSet s n t e → d ≡ e
+only_same : (s : List RecordData) (n : List (List ℕ)) (t : ℕ) (m : List ℕ) → IsOnly s n t m → (d e : List ℕ) → InSet s n t d → InSet s n t e → d ≡ e
 only_same s n t m only d e h k = sym (only.only d h) ∙ only.only e k
 
-pub links_lawful : (s : List Told) (t : ℕ) (n : List (List ℕ)) (later : List (List (List ℕ))) (chain : List Set) → ArePlainRecords s → IsPath s t n later → AreLinks s n later chain → (x : Set) → Has chain x → IsLawfulLink x
+pub links_lawful : (s : List RecordData) (t : ℕ) (n : List (List ℕ)) (later : List (List (List ℕ))) (chain : List RrSetData) → ArePlainRecords s → IsPath s t n later → AreLinks s n later chain → (x : RrSetData) → Has chain x → IsLawfulLink x
 links_lawful s t n [] [] plain p l x h = absurd h
 links_lawful s t n [] (y ∷ chain) plain p l x h = absurd l
 links_lawful s t n (m ∷ later) [] plain p l x h = absurd l
 links_lawful s t n (m ∷ later) (y ∷ chain) plain p l x (inl e) =
-    subst IsLawfulLink e (record { set = set_lawful s n 5 y plain l.0 (λ _. only_same s n 5 (wire m) p.0.target); alias = l.0.rtype })
+    subst IsLawfulLink e (record { set = set_lawful s n CNAME y plain l.0 (λ _. only_same s n CNAME (wire m) p.0.target); alias = l.0.rtype })
 links_lawful s t n (m ∷ later) (y ∷ chain) plain p l x (inr h) = links_lawful s t m later chain plain p.1 l.1 x h
 
-target_is : (s : List Told) (n m : List (List ℕ)) (ds : List (List ℕ)) → IsOnly s n 5 (wire m) → IsName m → ¬ (ds ≡ []) → ((d : List ℕ) → Has ds d → InSet s n 5 d) → target_of n ds ≡ m
+target_is : (s : List RecordData) (n m : List (List ℕ)) (ds : List (List ℕ)) → IsOnly s n CNAME (wire m) → IsName m → ¬ (ds ≡ []) → ((d : List ℕ) → Has ds d → InSet s n CNAME d) → target_of n ds ≡ m
 target_is s n m [] only named some of = absurd (some refl)
-target_is s n m (d ∷ ds) only named some of = ap labels_of (sym (only.only d (of d (inl refl)))) ∙ labels_of-wire m named
+target_is s n m (d ∷ ds) only named some of = ap labels_of (sym (only.only d (of d (inl refl)))) ∙ labels_of-wire m named.labels
 
 -- the name that a chain denies is the one where the walk ends
-pub denied_is : (s : List Told) (t : ℕ) (n : List (List ℕ)) (later : List (List (List ℕ))) (chain : List Set) → IsPath s t n later → AreLinks s n later chain → denied_by n chain ≡ last n later
+pub denied_is : (s : List RecordData) (t : ℕ) (n : List (List ℕ)) (later : List (List (List ℕ))) (chain : List RrSetData) → IsPath s t n later → AreLinks s n later chain → denied_by n chain ≡ last n later
 denied_is s t n [] [] p l = refl
 denied_is s t n [] (y ∷ chain) p l = absurd l
 denied_is s t n (m ∷ later) [] p l = absurd l
 denied_is s t n (m ∷ later) (y ∷ chain) p l =
-    let one = set_some s n 5 y l.0 in
+    let one = set_some s n CNAME y l.0 in
     let k = target_is s n m y.rdatas p.0.target p.0.named (some_of y.rdatas one.0 (l.0.whole one.0 one.1)) l.0.of_section in
     ap (λ (x : List (List ℕ)). denied_by x chain) k ∙ denied_is s t m later chain p.1 l.1
 
-pub last_named : (s : List Told) (t : ℕ) (n : List (List ℕ)) (later : List (List (List ℕ))) → IsName n → IsPath s t n later → IsName (last n later)
+pub last_named : (s : List RecordData) (t : ℕ) (n : List (List ℕ)) (later : List (List (List ℕ))) → IsName n → IsPath s t n later → IsName (last n later)
 last_named s t n [] named p = named
 last_named s t n (m ∷ later) named p = last_named s t m later p.0.named p.1
 
-three_hours : (a b c : ℕ) → min (min a b) 10800 ≤ 10800
+three_hours : (a b c : ℕ) → min (min a b) LONGEST_DENIAL ≤ LONGEST_DENIAL
 three_hours a b c = omega arith
 
-pub soa_lawful : (s : List Told) (n : List (List ℕ)) (x : SoaSet) → ArePlainRecords s → IsSoaOf s n x → IsLawfulSoa n x
+pub soa_lawful : (s : List RecordData) (n : List (List ℕ)) (x : SoaData) → ArePlainRecords s → IsSoaOf s n x → IsLawfulSoa n x
 soa_lawful s n x plain is =
     let r = is.carrier in let p = plain r (first_member s r is.counts.first) in
     record {
@@ -105,11 +107,11 @@ soa_lawful s n x plain is =
       plain = rw is.rdata (rw is.counts.first.soa.rtype at p.rdata);
     }
 
-found_single : (s : List Told) (t : ℕ) (n : List (List ℕ)) (d : List ℕ) → InSet s n t d → Ends s t n → EndsFound s t n
+found_single : (s : List RecordData) (t : ℕ) (n : List (List ℕ)) (d : List ℕ) → InSet s n t d → Ends s t n → EndsFound s t n
 found_single s t n d h (inl found) = found
 found_single s t n d h (inr bare) = absurd (bare.without d h)
 
-end_lawful : (r : Reply) (n : List (List ℕ)) (e : Ending) → ArePlainRecords r.answer → ArePlainRecords r.authority → Ends r.answer r.question.rtype n → IsEnd r n e → IsLawfulEnd n e
+end_lawful : (r : MessageData) (n : List (List ℕ)) (e : EndData) → ArePlainRecords r.answer → ArePlainRecords r.authority → Ends r.answer r.question.rtype n → IsEnd r n e → IsLawfulEnd n e
 end_lawful r n (WithRecords x) plain plain' ends is =
     let one = set_some r.answer n r.question.rtype x is in
     set_lawful r.answer n r.question.rtype x plain is (found_single r.answer r.question.rtype n one.0 one.1 ends).single
@@ -121,12 +123,12 @@ end_lawful r n (WithCode c) plain plain' ends is = absurd is
 end_lawful r n CutOff plain plain' ends is = absurd is
 
 -- chain and end
-record IsLawfulWalk (n : List (List ℕ)) (chain : List Set) (e : Ending) : Type 0 where
-  chain_is : (x : Set) → Has chain x → IsLawfulLink x
-  short : length chain ≤ 8
+record IsLawfulWalk (n : List (List ℕ)) (chain : List RrSetData) (e : EndData) : Type 0 where
+  chain_is : (x : RrSetData) → Has chain x → IsLawfulLink x
+  short : length chain ≤ MOST_LINKS
   end_is : IsLawfulEnd (denied_by n chain) e
 
-walk_lawful : (r : Reply) (chain : List Set) (e : Ending) → IsRead r → TellsWalk r chain e → IsLawfulWalk r.question.name chain e
+walk_lawful : (r : MessageData) (chain : List RrSetData) (e : EndData) → IsRead r → TellsWalk r chain e → IsLawfulWalk r.question.name chain e
 walk_lawful r chain e read t =
     let plain = all_plain r.answer read.answer in let path = t.walk.path in
     let denied = denied_is r.answer r.question.rtype r.question.name t.later chain path t.links in
@@ -136,24 +138,24 @@ walk_lawful r chain e read t =
       end_is = rw denied (end_lawful r (last r.question.name t.later) e plain (all_plain r.authority read.authority) t.walk.ends t.end_is);
     }
 
-none_in : (chain : List Set) → chain ≡ [] → (x : Set) → Has chain x → IsLawfulLink x
+none_in : (chain : List RrSetData) → chain ≡ [] → (x : RrSetData) → Has chain x → IsLawfulLink x
 none_in chain e x h = let nowhere = rw e at h in absurd nowhere
 
-tells_lawful : (r : Reply) (chain : List Set) (e : Ending) → IsRead r → Tells r chain e → IsLawfulWalk r.question.name chain e
+tells_lawful : (r : MessageData) (chain : List RrSetData) (e : EndData) → IsRead r → Tells r chain e → IsLawfulWalk r.question.name chain e
 tells_lawful r chain (WithRecords x) read t = walk_lawful r chain (WithRecords x) read t
 tells_lawful r chain (WithoutData x) read t = walk_lawful r chain (WithoutData x) read t
 tells_lawful r chain (WithoutName x) read t = walk_lawful r chain (WithoutName x) read t
 tells_lawful r chain (WithCode c) read t = record { chain_is = none_in chain t.4; short = rw t.4 (omega arith); end_is = rw t.3 read.header.rcode }
 tells_lawful r chain CutOff read t = record { chain_is = none_in chain t.1; short = rw t.1 (omega arith); end_is = tt }
 
-apart : ¬ (◌≡◌ {A = ℕ} 2 5)
+apart : ¬ (◌≡◌ {A = ℕ} NS CNAME)
 apart e = omega (arith, e)
 
-ns_lawful : (r : Reply) (sets : List Set) → IsRead r → IsAuthority r sets → (x : Set) → Has sets x → IsLawfulSet x
+ns_lawful : (r : MessageData) (sets : List RrSetData) → IsRead r → IsAuthority r sets → (x : RrSetData) → Has sets x → IsLawfulSet x
 ns_lawful r sets read (inl a) x h = set_lawful r.authority x.name 2 x (all_plain r.authority read.authority) (a.1.each x h) (λ e. absurd (apart e))
 ns_lawful r sets read (inr a) x h = let nowhere = rw a.1 at h in absurd nowhere
 
-pub tells_by_walk : (r : Reply) (chain : List Set) (e : Ending) → TellsWalk r chain e → Tells r chain e
+pub tells_by_walk : (r : MessageData) (chain : List RrSetData) (e : EndData) → TellsWalk r chain e → Tells r chain e
 tells_by_walk r chain (WithRecords x) t = t
 tells_by_walk r chain (WithoutData x) t = t
 tells_by_walk r chain (WithoutName x) t = t
@@ -161,7 +163,7 @@ tells_by_walk r chain (WithCode x) t = absurd t.end_is
 tells_by_walk r chain CutOff t = absurd t.end_is
 
 -- what a reply means that asks for no walk
-pub short_meaning : (r : Reply) (name : List (List ℕ)) (rtype : ℕ) (aa : Bool) (chain : List Set) (e : Ending) (ns : List Set) → IsServed r → name ≡ r.question.name → rtype ≡ r.question.rtype → aa ≡ r.header.aa
+pub short_meaning : (r : MessageData) (name : List (List ℕ)) (rtype : ℕ) (aa : Bool) (chain : List RrSetData) (e : EndData) (ns : List RrSetData) → IsServed r → name ≡ r.question.name → rtype ≡ r.question.rtype → aa ≡ r.header.aa
     → chain ≡ [] → Tells r [] e → ¬ AsksWalk r → ns ≡ [] → IsMeaning r (record { name = name; rtype = rtype; aa = aa; chain = chain; end = e; ns = ns })
 short_meaning r name rtype aa chain e ns served one two three none tells idle bare = record {
   served = served;
@@ -173,7 +175,7 @@ short_meaning r name rtype aa chain e ns served one two three none tells idle ba
 }
 
 -- what a reply means whose walk was followed
-pub walked_meaning : (r : Reply) (name : List (List ℕ)) (rtype : ℕ) (aa : Bool) (chain : List Set) (e : Ending) (ns : List Set) → IsServed r → name ≡ r.question.name → rtype ≡ r.question.rtype → aa ≡ r.header.aa
+pub walked_meaning : (r : MessageData) (name : List (List ℕ)) (rtype : ℕ) (aa : Bool) (chain : List RrSetData) (e : EndData) (ns : List RrSetData) → IsServed r → name ≡ r.question.name → rtype ≡ r.question.rtype → aa ≡ r.header.aa
     → TellsWalk r chain e → IsAuthority r ns → IsMeaning r (record { name = name; rtype = rtype; aa = aa; chain = chain; end = e; ns = ns })
 walked_meaning r name rtype aa chain e ns served one two three tells authority = record {
   served = served;
@@ -184,7 +186,7 @@ walked_meaning r name rtype aa chain e ns served one two three tells authority =
   authority = authority;
 }
 
-pub lawful_meaning : (r : Reply) (d : Summary) → IsRead r → IsMeaning r d → IsLawful d
+pub lawful_meaning : (r : MessageData) (d : DigestData) → IsRead r → IsMeaning r d → IsLawful d
 lawful_meaning r d read is =
     let w = tells_lawful r d.chain d.end read is.tells in
     record {
@@ -197,8 +199,8 @@ lawful_meaning r d read is =
     }
 
 -- a reply that was cut off, or with another code, asks for no walk
-pub no_walk_cut : (r : Reply) → r.header.tc ≡ true → ¬ AsksWalk r
+pub no_walk_cut : (r : MessageData) → r.header.tc ≡ true → ¬ AsksWalk r
 no_walk_cut r cut asks = false≢true (sym asks.whole ∙ cut)
 
-pub no_walk_coded : (r : Reply) → ¬ (r.header.rcode ≡ 0) → ¬ (r.header.rcode ≡ 3) → ¬ AsksWalk r
+pub no_walk_coded : (r : MessageData) → ¬ (r.header.rcode ≡ 0) → ¬ (r.header.rcode ≡ 3) → ¬ AsksWalk r
 no_walk_coded r one two asks = elim asks.code [ inl e ↦ one e | inr e ↦ two e ]

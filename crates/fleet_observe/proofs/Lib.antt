@@ -2,7 +2,7 @@ pub mod Results
 pub mod Lists
 pub mod Lawful
 pub mod Orders
-pub mod Preferences
+pub mod Lemmas
 pub mod Bodies
 pub mod Spelling
 pub mod Sections

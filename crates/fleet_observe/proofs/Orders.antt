@@ -4,20 +4,16 @@ use Rattle.std.specs.declared.cmp.Ordering.{Ordering}
 use Rattle.std.specs.declared.cmp.Ordering.TheVariants.{Less, Equal, Greater}
 use Rattle.std.specs.Ordering.{nat_cmp, ordering_then, is_ne}
 use mathlib.Core.Bool.{false≢true}
+use Rattle.fleet_observe.proofs.Lemmas.{then_assoc}
 use Rattle.fleet_observe.proofs.Lists.{split_at}
 use Rattle.std.specs.Cmp.{nat_cmp_is}
 use Rattle.std.specs.List.{flat_map, AllByRecursion}
 use Rattle.std.proofs.lemmas.Cmp.{ranked}
-use Rattle.fleet_name.specs.Name.{frame, wire, IsLabel, IsName}
+use Rattle.fleet_name.specs.Name.{label_octets, wire, IsLabel, IsName}
 use Rattle.fleet_wire.specs.Number.{u16_octets}
-use Rattle.fleet_observe.specs.Body.{sized, negative_body}
-use Rattle.fleet_observe.specs.Fact.{Fact, expires}
+use Rattle.fleet_observe.specs.Body.{octets_with_length, negative_body}
+use Rattle.fleet_observe.specs.Observation.{ObservationData, expires, kind_number}
 use Rattle.fleet_observe.specs.Preference.{octets_cmp, name_cmp, preference}
-
-pub then_assoc : (a b c : Ordering) → ordering_then (ordering_then a b) c ≡ ordering_then a (ordering_then b c)
-then_assoc Less b c = refl
-then_assoc Equal b c = refl
-then_assoc Greater b c = refl
 
 -- parts of one length, and what stands behind them
 pub cmp_split : (xs ys s t : List ℕ) → length xs ≡ length ys → octets_cmp (xs ++ s) (ys ++ t) ≡ ordering_then (octets_cmp xs ys) (octets_cmp s t)
@@ -53,30 +49,30 @@ same_length n m Equal e r s f = f (ranked n m Equal e)
 same_length n m Greater e r s f = refl
 
 -- octets behind their number, and what stands behind them
-pub sized_split : (xs ys s t : List ℕ) → octets_cmp (sized xs ++ s) (sized ys ++ t) ≡ ordering_then (nat_cmp (length xs) (length ys)) (ordering_then (octets_cmp xs ys) (octets_cmp s t))
+pub sized_split : (xs ys s t : List ℕ) → octets_cmp (octets_with_length xs ++ s) (octets_with_length ys ++ t) ≡ ordering_then (nat_cmp (length xs) (length ys)) (ordering_then (octets_cmp xs ys) (octets_cmp s t))
 sized_split xs ys s t =
     cmp_split (u16_octets (length xs)) (u16_octets (length ys)) (xs ++ s) (ys ++ t) refl
     ∙ ap (λ o. ordering_then o (octets_cmp (xs ++ s) (ys ++ t))) (u16_cmp (length xs) (length ys))
     ∙ same_length (length xs) (length ys) (nat_cmp (length xs) (length ys)) refl (octets_cmp (xs ++ s) (ys ++ t)) (ordering_then (octets_cmp xs ys) (octets_cmp s t)) (cmp_split xs ys s t)
 
-sized_cmp : (xs ys : List ℕ) → octets_cmp (sized xs) (sized ys) ≡ ordering_then (nat_cmp (length xs) (length ys)) (octets_cmp xs ys)
+sized_cmp : (xs ys : List ℕ) → octets_cmp (octets_with_length xs) (octets_with_length ys) ≡ ordering_then (nat_cmp (length xs) (length ys)) (octets_cmp xs ys)
 sized_cmp xs ys =
     cmp_split (u16_octets (length xs)) (u16_octets (length ys)) xs ys refl
     ∙ ap (λ o. ordering_then o (octets_cmp xs ys)) (u16_cmp (length xs) (length ys))
 
 -- what stands behind sized octets decides only where these are equal
-pub sized_first : (xs ys s t : List ℕ) → octets_cmp (sized xs ++ s) (sized ys ++ t) ≡ ordering_then (octets_cmp (sized xs) (sized ys)) (octets_cmp s t)
+pub sized_first : (xs ys s t : List ℕ) → octets_cmp (octets_with_length xs ++ s) (octets_with_length ys ++ t) ≡ ordering_then (octets_cmp (octets_with_length xs) (octets_with_length ys)) (octets_cmp s t)
 sized_first xs ys s t =
     sized_split xs ys s t
     ∙ sym (then_assoc (nat_cmp (length xs) (length ys)) (octets_cmp xs ys) (octets_cmp s t))
     ∙ ap (λ o. ordering_then o (octets_cmp s t)) (sym (sized_cmp xs ys))
 
 -- the first items decide, then the others
-pub rdatas_step : (xs ys : List (List ℕ)) (i : ℕ) (x y : List ℕ) → i < length xs → i < length ys → x ≡ get_or xs i x → y ≡ get_or ys i y → octets_cmp (flat_map sized (drop i xs)) (flat_map sized (drop i ys)) ≡ ordering_then (octets_cmp (sized x) (sized y)) (octets_cmp (flat_map sized (drop (i + 1) xs)) (flat_map sized (drop (i + 1) ys)))
+pub rdatas_step : (xs ys : List (List ℕ)) (i : ℕ) (x y : List ℕ) → i < length xs → i < length ys → x ≡ get_or xs i x → y ≡ get_or ys i y → octets_cmp (flat_map octets_with_length (drop i xs)) (flat_map octets_with_length (drop i ys)) ≡ ordering_then (octets_cmp (octets_with_length x) (octets_with_length y)) (octets_cmp (flat_map octets_with_length (drop (i + 1) xs)) (flat_map octets_with_length (drop (i + 1) ys)))
 rdatas_step xs ys i x y h k e f =
-    ap (λ l. octets_cmp (flat_map sized l) (flat_map sized (drop i ys))) (split_at xs i x h e)
-    ∙ ap (λ l. octets_cmp (flat_map sized (x ∷ drop (i + 1) xs)) (flat_map sized l)) (split_at ys i y k f)
-    ∙ sized_first x y (flat_map sized (drop (i + 1) xs)) (flat_map sized (drop (i + 1) ys))
+    ap (λ l. octets_cmp (flat_map octets_with_length l) (flat_map octets_with_length (drop i ys))) (split_at xs i x h e)
+    ∙ ap (λ l. octets_cmp (flat_map octets_with_length (x ∷ drop (i + 1) xs)) (flat_map octets_with_length l)) (split_at ys i y k f)
+    ∙ sized_first x y (flat_map octets_with_length (drop (i + 1) xs)) (flat_map octets_with_length (drop (i + 1) ys))
 
 pub settled : (o r : Ordering) → is_ne o ≡ true → ordering_then o r ≡ o
 settled Less r e = refl
@@ -88,8 +84,8 @@ tied Less r e = absurd (false≢true (sym e))
 tied Equal r e = refl
 tied Greater r e = absurd (false≢true (sym e))
 
-behind_label : (l : List ℕ) (a : List (List ℕ)) (s : List ℕ) → ((l ++ flat_map frame a) ++ 0 ∷ []) ++ s ≡ l ++ (wire a ++ s)
-behind_label l a s = ap (λ x. x ++ s) (append_assoc l (flat_map frame a) (0 ∷ [])) ∙ append_assoc l (wire a) s
+behind_label : (l : List ℕ) (a : List (List ℕ)) (s : List ℕ) → ((l ++ flat_map label_octets a) ++ 0 ∷ []) ++ s ≡ l ++ (wire a ++ s)
+behind_label l a s = ap (λ x. x ++ s) (append_assoc l (flat_map label_octets a) (0 ∷ [])) ∙ append_assoc l (wire a) s
 
 tails : (l m : List ℕ) (a b : List (List ℕ)) (s t : List ℕ) → length l ≡ length m → octets_cmp (wire a ++ s) (wire b ++ t) ≡ ordering_then (octets_cmp (wire a) (wire b)) (octets_cmp s t) → octets_cmp (l ++ (wire a ++ s)) (m ++ (wire b ++ t)) ≡ ordering_then (octets_cmp (l ++ wire a) (m ++ wire b)) (octets_cmp s t)
 tails l m a b s t n rest =
@@ -105,16 +101,16 @@ wire_split [] (m ∷ b) s t h k = let first : Less ≡ nat_cmp 0 (length m) = na
 wire_split (l ∷ a) [] s t h k = let first : Greater ≡ nat_cmp (length l) 0 = nat_cmp_is (length l) 0 Greater h.0.some in rw (← first) refl
 wire_split (l ∷ a) (m ∷ b) s t h k =
     let n : Ordering = nat_cmp (length l) (length m) in
-    let long : octets_cmp (((l ++ flat_map frame a) ++ 0 ∷ []) ++ s) (((m ++ flat_map frame b) ++ 0 ∷ []) ++ t) ≡ octets_cmp (l ++ (wire a ++ s)) (m ++ (wire b ++ t)) = ap (λ x. octets_cmp x (((m ++ flat_map frame b) ++ 0 ∷ []) ++ t)) (behind_label l a s) ∙ ap (octets_cmp (l ++ (wire a ++ s))) (behind_label m b t) in
-    let short : octets_cmp ((l ++ flat_map frame a) ++ 0 ∷ []) ((m ++ flat_map frame b) ++ 0 ∷ []) ≡ octets_cmp (l ++ wire a) (m ++ wire b) = ap (λ x. octets_cmp x ((m ++ flat_map frame b) ++ 0 ∷ [])) (append_assoc l (flat_map frame a) (0 ∷ [])) ∙ ap (octets_cmp (l ++ wire a)) (append_assoc m (flat_map frame b) (0 ∷ [])) in
+    let long : octets_cmp (((l ++ flat_map label_octets a) ++ 0 ∷ []) ++ s) (((m ++ flat_map label_octets b) ++ 0 ∷ []) ++ t) ≡ octets_cmp (l ++ (wire a ++ s)) (m ++ (wire b ++ t)) = ap (λ x. octets_cmp x (((m ++ flat_map label_octets b) ++ 0 ∷ []) ++ t)) (behind_label l a s) ∙ ap (octets_cmp (l ++ (wire a ++ s))) (behind_label m b t) in
+    let short : octets_cmp ((l ++ flat_map label_octets a) ++ 0 ∷ []) ((m ++ flat_map label_octets b) ++ 0 ∷ []) ≡ octets_cmp (l ++ wire a) (m ++ wire b) = ap (λ x. octets_cmp x ((m ++ flat_map label_octets b) ++ 0 ∷ [])) (append_assoc l (flat_map label_octets a) (0 ∷ [])) ∙ ap (octets_cmp (l ++ wire a)) (append_assoc m (flat_map label_octets b) (0 ∷ [])) in
     ap (ordering_then n) long
     ∙ same_length (length l) (length m) n refl (octets_cmp (l ++ (wire a ++ s)) (m ++ (wire b ++ t))) (ordering_then (octets_cmp (l ++ wire a) (m ++ wire b)) (octets_cmp s t)) (λ e. tails l m a b s t e (wire_split a b s t h.1 k.1))
     ∙ sym (then_assoc n (octets_cmp (l ++ wire a) (m ++ wire b)) (octets_cmp s t))
     ∙ ap (λ o. ordering_then (ordering_then n o) (octets_cmp s t)) (sym short)
 
 -- the owner decides, then the RDATA
-pub negative_cmp : (a b : List (List ℕ)) (s t : List ℕ) → IsName a → IsName b → octets_cmp (negative_body a s) (negative_body b t) ≡ ordering_then (octets_cmp (wire a) (wire b)) (octets_cmp (sized s) (sized t))
-negative_cmp a b s t h k = wire_split a b (sized s) (sized t) h.labels k.labels
+pub negative_cmp : (a b : List (List ℕ)) (s t : List ℕ) → IsName a → IsName b → octets_cmp (negative_body a s) (negative_body b t) ≡ ordering_then (octets_cmp (wire a) (wire b)) (octets_cmp (octets_with_length s) (octets_with_length t))
+negative_cmp a b s t h k = wire_split a b (octets_with_length s) (octets_with_length t) h.labels k.labels
 
 -- one after the other, and all of them before the last one
 pub before_last : (a b c d e f last : Ordering) → ordering_then (ordering_then (ordering_then (ordering_then (ordering_then (ordering_then a b) c) d) e) f) last ≡ ordering_then a (ordering_then b (ordering_then c (ordering_then d (ordering_then e (ordering_then f last)))))
@@ -138,5 +134,5 @@ joined a b c d e f ab abc abcd abcde all last h i j k l =
     ap (λ o. ordering_then o last) whole ∙ before_last a b c d e f last
 
 -- the comparisons of two observations' parts make their preference
-pub preferred : (x y : Fact) (a b c d e f : Ordering) → a ≡ nat_cmp x.rank y.rank → b ≡ nat_cmp x.stamp y.stamp → c ≡ nat_cmp (expires x) (expires y) → d ≡ nat_cmp x.kind y.kind → e ≡ nat_cmp x.rtype y.rtype → f ≡ name_cmp x.name y.name → ordering_then a (ordering_then b (ordering_then c (ordering_then d (ordering_then e (ordering_then f (octets_cmp x.body y.body)))))) ≡ preference x y
+pub preferred : (x y : ObservationData) (a b c d e f : Ordering) → a ≡ nat_cmp x.rank y.rank → b ≡ nat_cmp x.stamp y.stamp → c ≡ nat_cmp (expires x) (expires y) → d ≡ nat_cmp (kind_number x.kind) (kind_number y.kind) → e ≡ nat_cmp x.rtype y.rtype → f ≡ name_cmp x.name y.name → ordering_then a (ordering_then b (ordering_then c (ordering_then d (ordering_then e (ordering_then f (octets_cmp x.body y.body)))))) ≡ preference x y
 preferred x y a b c d e f i j k l m n = rw (i, j, k, l, m, n) refl

@@ -1,21 +1,20 @@
 -- RDATAs in ascending order, and TTLs.
-use Rattle.std.proofs.Common.{◌≡◌, ℕ, suc, zero, ◌≤◌, ◌⊎◌, inl, inr, Bool, true, false, cond, min, nat_le, List, [], ◌∷◌, ◌++◌, ap, sym, ◌∙◌, refl, arith, subst}
+use Rattle.std.proofs.Common.{◌≡◌, ℕ, suc, zero, ◌≤◌, ◌⊎◌, inl, inr, Bool, true, false, if◌then◌else◌, min, nat_le, List, [], ◌∷◌, ◌++◌, ap, sym, ◌∙◌, refl, arith, subst}
 use mathlib.Core.Bool.{false≢true}
 use Rattle.std.specs.List.{insert}
 use Rattle.std.specs.declared.cmp.Ordering.{Ordering}
 use Rattle.std.specs.declared.cmp.Ordering.TheVariants.{Less, Equal, Greater}
 use Rattle.std.specs.Ordering.{nat_cmp, is_lt, ordering_reverse}
 use Rattle.std.specs.Cmp.Lexicographic.{slice_cmp}
+use Rattle.std.proofs.lemmas.Bool.{cases_Bool}
 use Rattle.std.proofs.lemmas.Cmp.{nat_list_cmp_total}
 use Rattle.std.proofs.lemmas.Map.Lookups.{exact_bytes}
-use Rattle.fleet_wire.specs.Record.{Told}
+use Rattle.fleet_wire.specs.Record.{RecordData}
 use Rattle.fleet_observe.specs.Members.{Has, IsAscending}
 use Rattle.fleet_observe.specs.RrSet.{Belongs, InSet, IsTtl, read_ttl, count_below}
-use Rattle.fleet_observe.proofs.Sections.{Has-left, Has-right, Has-cases, in_left, in_last, in_cases}
-
-bool_cases : (b : Bool) → (b ≡ true) ⊎ (b ≡ false)
-bool_cases true = inl refl
-bool_cases false = inr refl
+use Rattle.fleet_name.proofs.Lemmas.{has_left, has_right, has_either}
+use Rattle.fleet_observe.proofs.Sections.{in_left, in_last, in_cases}
+use Rattle.fleet_observe.specs.declared.bounds.TheConstants.{LONGEST_LIFE}
 
 less_from_test : (o : Ordering) → is_lt o ≡ true → o ≡ Less
 less_from_test Less e = refl
@@ -29,12 +28,12 @@ more_from_tests Greater e f = refl
 
 put : List ℕ → List (List ℕ) → List (List ℕ)
 put d [] = d ∷ []
-put d (y ∷ ys) = cond (is_lt (slice_cmp nat_cmp y d)) (y ∷ put d ys) (d ∷ y ∷ ys)
+put d (y ∷ ys) = if is_lt (slice_cmp nat_cmp y d) then y ∷ put d ys else d ∷ y ∷ ys
 
 insert_put : (d : List ℕ) (ys : List (List ℕ)) → insert ys (count_below d ys) d ≡ put d ys
 unfolding put
 insert_put d [] = refl
-insert_put d (y ∷ ys) = elim (bool_cases (is_lt (slice_cmp nat_cmp y d))) [
+insert_put d (y ∷ ys) = elim (cases_Bool (is_lt (slice_cmp nat_cmp y d))) [
   | inl k ↦ rw k (ap (λ (t : List (List ℕ)). y ∷ t) (insert_put d ys))
   | inr k ↦ rw k refl
 ]
@@ -43,7 +42,7 @@ from_put : (d : List ℕ) (ys : List (List ℕ)) (z : List ℕ) → Has (put d y
 unfolding put
 from_put d [] z (inl e) = inr e
 from_put d [] z (inr h) = absurd h
-from_put d (y ∷ ys) z h = elim (bool_cases (is_lt (slice_cmp nat_cmp y d))) [
+from_put d (y ∷ ys) z h = elim (cases_Bool (is_lt (slice_cmp nat_cmp y d))) [
   | inl k ↦ elim (rw k at h) [
     | inl e ↦ inl (inl e)
     | inr rest ↦ elim (from_put d ys z rest) [ inl a ↦ inl (inr a) | inr e ↦ inr e ]
@@ -55,7 +54,7 @@ in_put : (d : List ℕ) (ys : List (List ℕ)) (z : List ℕ) → Has ys z ⊎ (
 unfolding put
 in_put d [] z (inl h) = absurd h
 in_put d [] z (inr e) = inl e
-in_put d (y ∷ ys) z h = elim (bool_cases (is_lt (slice_cmp nat_cmp y d))) [
+in_put d (y ∷ ys) z h = elim (cases_Bool (is_lt (slice_cmp nat_cmp y d))) [
   | inl k ↦ rw k (elim h [
     | inl old ↦ elim old [ inl e ↦ inl e | inr r ↦ inr (in_put d ys z (inl r)) ]
     | inr e ↦ inr (in_put d ys z (inr e))
@@ -66,7 +65,7 @@ in_put d (y ∷ ys) z h = elim (bool_cases (is_lt (slice_cmp nat_cmp y d))) [
 put_ascending : (d : List ℕ) (ys : List (List ℕ)) → ¬ Has ys d → IsAscending ys → IsAscending (put d ys)
 unfolding put
 put_ascending d [] out up = ((λ y h. absurd h), tt)
-put_ascending d (y ∷ ys) out up = elim (bool_cases (is_lt (slice_cmp nat_cmp y d))) [
+put_ascending d (y ∷ ys) out up = elim (cases_Bool (is_lt (slice_cmp nat_cmp y d))) [
   | inl k ↦ rw k (
     (λ z h. elim (from_put d ys z h) [ inl old ↦ up.0 z old | inr e ↦ subst (λ (x : List ℕ). slice_cmp nat_cmp y x ≡ Less) e (less_from_test _ k) ]),
     put_ascending d ys (λ h. out (inr h)) up.1,
@@ -83,7 +82,7 @@ pub insert_members : (d : List ℕ) (ys : List (List ℕ)) (at : ℕ) → at ≡
 insert_members d ys at is z = rw (is, insert_put d ys) (from_put d ys z, in_put d ys z)
 
 -- the RDATAs are those of the records so far
-pub record AreThose (s : List Told) (n : List (List ℕ)) (t : ℕ) (rdatas : List (List ℕ)) : Type 0 where
+pub record AreThose (s : List RecordData) (n : List (List ℕ)) (t : ℕ) (rdatas : List (List ℕ)) : Type 0 where
   pub ascending : IsAscending rdatas
   pub of_section : (d : List ℕ) → Has rdatas d → InSet s n t d
   pub whole : (d : List ℕ) → InSet s n t d → Has rdatas d
@@ -91,14 +90,14 @@ pub record AreThose (s : List Told) (n : List (List ℕ)) (t : ℕ) (rdatas : Li
 pub those_none : (n : List (List ℕ)) (t : ℕ) (rdatas : List (List ℕ)) → rdatas ≡ [] → AreThose [] n t rdatas
 those_none n t rdatas e = rw e (record { ascending = tt; of_section = λ d h. absurd h; whole = λ d h. absurd h.member })
 
-pub those_kept : (s : List Told) (n : List (List ℕ)) (t : ℕ) (r : Told) (rdatas : List (List ℕ)) → AreThose s n t rdatas → ¬ Belongs n t r → AreThose (s ++ r ∷ []) n t rdatas
+pub those_kept : (s : List RecordData) (n : List (List ℕ)) (t : ℕ) (r : RecordData) (rdatas : List (List ℕ)) → AreThose s n t rdatas → ¬ Belongs n t r → AreThose (s ++ r ∷ []) n t rdatas
 those_kept s n t r rdatas is out = record {
   ascending = is.ascending;
   of_section = λ d h. in_left s (r ∷ []) n t d (is.of_section d h);
   whole = λ d h. elim (in_cases s n t r d h) [ inl a ↦ is.whole d a | inr b ↦ absurd (out b.0) ];
 }
 
-pub those_more : (s : List Told) (n : List (List ℕ)) (t : ℕ) (r : Told) (old new : List (List ℕ)) → AreThose s n t old → Belongs n t r
+pub those_more : (s : List RecordData) (n : List (List ℕ)) (t : ℕ) (r : RecordData) (old new : List (List ℕ)) → AreThose s n t old → Belongs n t r
     → IsAscending new → ((d : List ℕ) → (Has new d → Has old d ⊎ (r.rdata ≡ d)) × (Has old d ⊎ (r.rdata ≡ d) → Has new d)) → AreThose (s ++ r ∷ []) n t new
 those_more s n t r old new is b up same = record {
   ascending = up;
@@ -109,35 +108,35 @@ those_more s n t r old new is b up same = record {
   whole = λ d h. elim (in_cases s n t r d h) [ inl a ↦ (same d).1 (inl (is.whole d a)) | inr k ↦ (same d).1 (inr k.1) ];
 }
 
--- the least TTL so far, at first a day
-pub record IsLeast (s : List Told) (n : List (List ℕ)) (t least : ℕ) : Type 0 where
-  pub bound : least ≤ 86400
-  pub under : (r : Told) → Has s r → Belongs n t r → least ≤ read_ttl r.ttl
-  pub found : (least ≡ 86400) ⊎ ((r : Told) × Has s r × Belongs n t r × (least ≡ read_ttl r.ttl))
+-- the least TTL so far, at first the longest life
+pub record IsLeast (s : List RecordData) (n : List (List ℕ)) (t least : ℕ) : Type 0 where
+  pub bound : least ≤ LONGEST_LIFE
+  pub under : (r : RecordData) → Has s r → Belongs n t r → least ≤ read_ttl r.ttl
+  pub found : (least ≡ LONGEST_LIFE) ⊎ ((r : RecordData) × Has s r × Belongs n t r × (least ≡ read_ttl r.ttl))
 
-pub least_none : (n : List (List ℕ)) (t : ℕ) → IsLeast [] n t 86400
+pub least_none : (n : List (List ℕ)) (t : ℕ) → IsLeast [] n t LONGEST_LIFE
 least_none n t = record { bound = omega arith; under = λ r h b. absurd h; found = inl refl }
 
-pub least_kept : (s : List Told) (n : List (List ℕ)) (t : ℕ) (r : Told) (least : ℕ) → IsLeast s n t least → ¬ Belongs n t r → IsLeast (s ++ r ∷ []) n t least
+pub least_kept : (s : List RecordData) (n : List (List ℕ)) (t : ℕ) (r : RecordData) (least : ℕ) → IsLeast s n t least → ¬ Belongs n t r → IsLeast (s ++ r ∷ []) n t least
 least_kept s n t r least is out = record {
   bound = is.bound;
-  under = λ x h b. elim (Has-cases s (r ∷ []) x h) [
+  under = λ x h b. elim (has_either s (r ∷ []) x h) [
     | inl a ↦ is.under x a b
-    | inr k ↦ elim k [ inl e ↦ absurd (out (subst (λ (y : Told). Belongs n t y) (sym e) b)) | inr nowhere ↦ absurd nowhere ]
+    | inr k ↦ elim k [ inl e ↦ absurd (out (subst (λ (y : RecordData). Belongs n t y) (sym e) b)) | inr nowhere ↦ absurd nowhere ]
   ];
-  found = elim is.found [ inl e ↦ inl e | inr f ↦ inr (f.0, Has-left s (r ∷ []) f.0 f.1, f.2, f.3) ];
+  found = elim is.found [ inl e ↦ inl e | inr f ↦ inr (f.0, has_left s (r ∷ []) f.0 f.1, f.2, f.3) ];
 }
 
-pub least_more : (s : List Told) (n : List (List ℕ)) (t : ℕ) (r : Told) (least new : ℕ) → IsLeast s n t least → Belongs n t r → new ≡ min (read_ttl r.ttl) least → IsLeast (s ++ r ∷ []) n t new
+pub least_more : (s : List RecordData) (n : List (List ℕ)) (t : ℕ) (r : RecordData) (least new : ℕ) → IsLeast s n t least → Belongs n t r → new ≡ min (read_ttl r.ttl) least → IsLeast (s ++ r ∷ []) n t new
 least_more s n t r least new is b e =
     let one : new ≤ read_ttl r.ttl = rw e (omega arith) in let two : new ≤ least = rw e (omega arith) in
     record {
       bound = omega (arith, is.bound);
-      under = λ x h k. elim (Has-cases s (r ∷ []) x h) [
+      under = λ x h k. elim (has_either s (r ∷ []) x h) [
         | inl a ↦ trans_le new least (read_ttl x.ttl) two (is.under x a k)
-        | inr last ↦ elim last [ inl same ↦ subst (λ (y : Told). new ≤ read_ttl y.ttl) same one | inr nowhere ↦ absurd nowhere ]
+        | inr last ↦ elim last [ inl same ↦ subst (λ (y : RecordData). new ≤ read_ttl y.ttl) same one | inr nowhere ↦ absurd nowhere ]
       ];
-      found = which (read_ttl r.ttl) least new e is.found (r, Has-right s (r ∷ []) r (inl refl), b, refl);
+      found = which (read_ttl r.ttl) least new e is.found (r, has_right s (r ∷ []) r (inl refl), b, refl);
     }
   where
     trans_le : (a b c : ℕ) → a ≤ b → b ≤ c → a ≤ c
@@ -151,20 +150,20 @@ least_more s n t r least new is b e =
     min_is : (a b : ℕ) → (min a b ≡ a) ⊎ (min a b ≡ b)
     min_is a b = elim (le_or a b) [ inl h ↦ inl (omega arith) | inr h ↦ inr (omega arith) ]
 
-    which : (a b new : ℕ) → new ≡ min a b → (b ≡ 86400) ⊎ ((x : Told) × Has s x × Belongs n t x × (b ≡ read_ttl x.ttl)) → ((x : Told) × Has (s ++ r ∷ []) x × Belongs n t x × (a ≡ read_ttl x.ttl))
-        → (new ≡ 86400) ⊎ ((x : Told) × Has (s ++ r ∷ []) x × Belongs n t x × (new ≡ read_ttl x.ttl))
+    which : (a b new : ℕ) → new ≡ min a b → (b ≡ LONGEST_LIFE) ⊎ ((x : RecordData) × Has s x × Belongs n t x × (b ≡ read_ttl x.ttl)) → ((x : RecordData) × Has (s ++ r ∷ []) x × Belongs n t x × (a ≡ read_ttl x.ttl))
+        → (new ≡ LONGEST_LIFE) ⊎ ((x : RecordData) × Has (s ++ r ∷ []) x × Belongs n t x × (new ≡ read_ttl x.ttl))
     which a b new e old here = elim (min_is a b) [
       | inl k ↦ inr (here.0, here.1, here.2, e ∙ (k ∙ here.3))
       | inr k ↦ elim old [
         | inl day ↦ inl (e ∙ (k ∙ day))
-        | inr f ↦ inr (f.0, Has-left s (r ∷ []) f.0 f.1, f.2, e ∙ (k ∙ f.3))
+        | inr f ↦ inr (f.0, has_left s (r ∷ []) f.0 f.1, f.2, e ∙ (k ∙ f.3))
       ]
     ]
 
-pub read_bound : (ttl : ℕ) → read_ttl ttl ≤ 86400
-read_bound ttl = elim (bool_cases (nat_le 2147483648 ttl)) [ inl k ↦ rw k (omega arith) | inr k ↦ rw k (omega arith) ]
+pub read_bound : (ttl : ℕ) → read_ttl ttl ≤ LONGEST_LIFE
+read_bound ttl = elim (cases_Bool (nat_le 2147483648 ttl)) [ inl k ↦ rw k (omega arith) | inr k ↦ rw k (omega arith) ]
 
-pub least_all : (s : List Told) (n : List (List ℕ)) (t least : ℕ) → (d : List ℕ) × InSet s n t d → IsLeast s n t least → IsTtl s n t least
+pub least_all : (s : List RecordData) (n : List (List ℕ)) (t least : ℕ) → (d : List ℕ) × InSet s n t d → IsLeast s n t least → IsTtl s n t least
 least_all s n t least some is = elim is.found [
   | inl day ↦ record {
     carrier = some.1.carrier;
@@ -176,5 +175,5 @@ least_all s n t least some is = elim is.found [
   | inr f ↦ record { carrier = f.0; member = f.1; belongs = f.2; is = f.3; least = is.under }
 ]
   where
-    exact : (r least : ℕ) → least ≡ 86400 → least ≤ r → r ≤ 86400 → least ≡ r
+    exact : (r least : ℕ) → least ≡ LONGEST_LIFE → least ≤ r → r ≤ LONGEST_LIFE → least ≡ r
     exact r least day low high = omega arith

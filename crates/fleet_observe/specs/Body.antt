@@ -5,36 +5,38 @@ use Rattle.std.specs.List.{flat_map}
 use Rattle.fleet_name.specs.Name.{wire, IsName, IsUnder}
 use Rattle.fleet_wire.specs.Number.{u16_octets}
 use Rattle.fleet_wire.specs.Shape.{IsPlain}
+use Rattle.fleet_wire.specs.declared.rtype.TheConstants.{CNAME, SOA}
 use Rattle.fleet_observe.specs.Members.{Has, IsAscending}
+use Rattle.fleet_observe.specs.declared.bounds.TheConstants.{LONGEST_BODY}
 
 -- octets behind their number
-abbrev pub sized : List ℕ → List ℕ
-sized octets = u16_octets (length octets) ++ octets
+abbrev pub octets_with_length : List ℕ → List ℕ
+octets_with_length octets = u16_octets (length octets) ++ octets
 
 -- RDATAs: how many, and each behind its length
 abbrev pub positive_body : List (List ℕ) → List ℕ
-positive_body rdatas = u16_octets (length rdatas) ++ flat_map sized rdatas
+positive_body rdatas = u16_octets (length rdatas) ++ flat_map octets_with_length rdatas
 
 -- the SOA of a denial: its owner in full, and its RDATA behind its length
 abbrev pub negative_body : List (List ℕ) → List ℕ → List ℕ
-negative_body owner rdata = wire owner ++ sized rdata
+negative_body owner rdata = wire owner ++ octets_with_length rdata
 
 -- RDATAs that an observation may hold: at least one, ascending, each of the type's shape with its
--- names in full and in lower case, one alone for an alias (CNAME, 5; RFC 2181 10.1), and of at most
--- 8192 octets together
+-- names in full and in lower case, one alone for an alias (RFC 2181 10.1), and of bounded length
+-- together
 pub record AreRdatas (rtype : ℕ) (rdatas : List (List ℕ)) : Type 0 where
   pub some : rdatas ≢ []
   pub ascending : IsAscending rdatas
   pub plain : (rdata : List ℕ) → Has rdatas rdata → IsPlain rtype rdata
-  pub alone : rtype ≡ 5 → length rdatas ≡ 1
-  pub short : length (positive_body rdatas) ≤ 8192
+  pub alone : rtype ≡ CNAME → length rdatas ≡ 1
+  pub short : length (positive_body rdatas) ≤ LONGEST_BODY
 
--- the SOA record (6) that stands for a denial of the name: its owner is the name or an ancestor
+-- the SOA record that stands for a denial of the name: its owner is the name or an ancestor
 -- (RFC 2308 5)
 pub record IsDenial (name owner : List (List ℕ)) (rdata : List ℕ) : Type 0 where
   pub named : IsName owner
   pub under : IsUnder name owner
-  pub plain : IsPlain 6 rdata
+  pub plain : IsPlain SOA rdata
 
 -- octets that are a positive body
 pub record IsPositiveBody (rtype : ℕ) (body : List ℕ) : Type 0 where

@@ -1,26 +1,35 @@
 -- What the values of an observation have to meet, and which of them fails first.
 use Rattle.std.specs.Prelude.{◌≡◌, ℕ, ◌<◌, List, Option, Some, None, unwrap_or}
 use Rattle.fleet_observe.specs.Body.{AreRdatas, IsDenial}
-use Rattle.fleet_observe.specs.Fact.{IsNegativeKind, IsRank, IsNegativeRank, IsLife, IsDataType}
+use Rattle.fleet_wire.specs.declared.rtype.TheConstants.{CNAME}
+use Rattle.fleet_observe.specs.Observation.{IsRank, IsDenialRank, IsLife, IsDataType}
+use Rattle.fleet_observe.specs.declared.bounds.TheConstants.{LONGEST_DENIAL, LONGEST_LIFE}
 use Rattle.fleet_observe.specs.declared.fault.ObservationFault.{ObservationFault}
 use Rattle.fleet_observe.specs.declared.fault.ObservationFault.TheVariants.{BadRank, BadLife, BadKind, BadBody}
+use Rattle.fleet_observe.specs.declared.kind.Kind.{Kind}
+use Rattle.fleet_observe.specs.declared.kind.Kind.TheVariants.{NameError, NoData, Positive}
 
 -- a rank that a kind has: 1, 2 or 3, and of a denial 1 or 3
-abbrev pub IsRankOf : ℕ → ℕ → Type 0
-IsRankOf kind rank = (kind ≡ 3 → IsRank rank) × (IsNegativeKind kind → IsNegativeRank rank)
+abbrev pub IsRankOf : Kind → ℕ → Type 0
+IsRankOf Positive rank = IsRank rank
+IsRankOf NoData rank = IsDenialRank rank
+IsRankOf NameError rank = IsDenialRank rank
 
 -- a life that a kind has, in seconds: at most a day, and of a denial at most three hours
-abbrev pub IsLifeOf : ℕ → ℕ → Type 0
-IsLifeOf kind life = IsLife 86400 life × (IsNegativeKind kind → IsLife 10800 life)
+abbrev pub IsLifeOf : Kind → ℕ → Type 0
+IsLifeOf Positive life = IsLife LONGEST_LIFE life
+IsLifeOf NoData life = IsLife LONGEST_DENIAL life
+IsLifeOf NameError life = IsLife LONGEST_DENIAL life
 
 -- a type that a kind has: a name error has none, the others one that data can have
-abbrev pub IsTypeOf : ℕ → ℕ → Type 0
-IsTypeOf kind rtype =
-    (kind ≡ 1 → rtype ≡ 0) × (kind ≡ 2 → IsDataType rtype) × (kind ≡ 3 → IsDataType rtype)
+abbrev pub IsTypeOf : Kind → ℕ → Type 0
+IsTypeOf Positive rtype = IsDataType rtype
+IsTypeOf NoData rtype = IsDataType rtype
+IsTypeOf NameError rtype = rtype ≡ 0
 
--- how many RDATAs a type has: at least one, and an alias (CNAME, 5) one alone (RFC 2181 10.1)
+-- how many RDATAs a type has: at least one, and an alias one alone (RFC 2181 10.1)
 abbrev pub IsCountOf : ℕ → ℕ → Type 0
-IsCountOf rtype count = (0 < count) × (rtype ≡ 5 → count ≡ 1)
+IsCountOf rtype count = (0 < count) × (rtype ≡ CNAME → count ≡ 1)
 
 -- of four checks the fault's is the first that fails
 abbrev pub IsFirstToFail : Type 0 → Type 0 → Type 0 → Type 0 → ObservationFault → Type 0
@@ -34,9 +43,9 @@ abbrev pub IsDeniedType : Option ℕ → Type 0
 IsDeniedType None = Unit {0}
 IsDeniedType (Some rtype) = IsDataType rtype
 
-abbrev pub denied_kind : Option ℕ → ℕ
-denied_kind None = 1
-denied_kind (Some rtype) = 2
+abbrev pub denied_kind : Option ℕ → Kind
+denied_kind None = NameError
+denied_kind (Some rtype) = NoData
 
 abbrev pub denied_type : Option ℕ → ℕ
 denied_type rtype = unwrap_or rtype 0
@@ -44,23 +53,24 @@ denied_type rtype = unwrap_or rtype 0
 -- these values make a positive observation
 pub record MakesPositive (rtype rank life : ℕ) (rdatas : List (List ℕ)) : Type 0 where
   pub ranked : IsRank rank
-  pub lasts : IsLife 86400 life
+  pub lasts : IsLife LONGEST_LIFE life
   pub typed : IsDataType rtype
   pub body : AreRdatas rtype rdatas
 
 abbrev pub IsPositiveFault : ℕ → ℕ → ℕ → List (List ℕ) → ObservationFault → Type 0
 IsPositiveFault rtype rank life rdatas =
-    IsFirstToFail (IsRank rank) (IsLife 86400 life) (IsDataType rtype) (AreRdatas rtype rdatas)
+    IsFirstToFail (IsRank rank) (IsLife LONGEST_LIFE life) (IsDataType rtype)
+    (AreRdatas rtype rdatas)
 
 -- these values make a negative one
 pub record MakesNegative (name : List (List ℕ)) (rtype : Option ℕ) (rank life : ℕ)
     (owner : List (List ℕ)) (rdata : List ℕ) : Type 0 where
-  pub ranked : IsNegativeRank rank
-  pub lasts : IsLife 10800 life
+  pub ranked : IsDenialRank rank
+  pub lasts : IsLife LONGEST_DENIAL life
   pub typed : IsDeniedType rtype
   pub body : IsDenial name owner rdata
 
 abbrev pub IsNegativeFault : List (List ℕ) → Option ℕ → ℕ → ℕ → List (List ℕ) → List ℕ
     → ObservationFault → Type 0
-IsNegativeFault name rtype rank life owner rdata = IsFirstToFail (IsNegativeRank rank)
-    (IsLife 10800 life) (IsDeniedType rtype) (IsDenial name owner rdata)
+IsNegativeFault name rtype rank life owner rdata = IsFirstToFail (IsDenialRank rank)
+    (IsLife LONGEST_DENIAL life) (IsDeniedType rtype) (IsDenial name owner rdata)

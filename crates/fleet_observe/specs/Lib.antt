@@ -1,9 +1,9 @@
 pub mod Members
 pub mod Body
-pub mod Fact
+pub mod Observation
 pub mod Preference
 pub mod Checks
-pub mod Held
+pub mod BodyParts
 pub mod RrSet
 pub mod Walk
 pub mod Digest

@@ -2,86 +2,88 @@
 use Rattle.std.specs.Prelude.{◌≡◌, ℕ, ◌-◌, ◌⊎◌, true, false, List, [], ◌∷◌, ◌++◌, length, min, Option, Some, None}
 use Rattle.fleet_name.specs.Name.{IsUnder}
 use Rattle.fleet_wire.specs.Number.{u32_at}
-use Rattle.fleet_wire.specs.Record.{Told}
-use Rattle.fleet_wire.specs.Message.{Reply}
+use Rattle.fleet_wire.specs.Record.{RecordData}
+use Rattle.fleet_wire.specs.Message.{MessageData}
+use Rattle.fleet_wire.specs.declared.rtype.TheConstants.{NS, SOA}
+use Rattle.fleet_observe.specs.declared.bounds.TheConstants.{LONGEST_DENIAL}
 use Rattle.fleet_observe.specs.declared.told.DigestFault.{DigestFault}
 use Rattle.fleet_observe.specs.declared.told.DigestFault.TheVariants.{NotReply, BadChain, OutOfMemory}
 use Rattle.fleet_observe.specs.Members.{Has}
-use Rattle.fleet_observe.specs.Fact.{IsDataType}
-use Rattle.fleet_observe.specs.RrSet.{Set, IsRrSet, read_ttl}
+use Rattle.fleet_observe.specs.Observation.{IsDataType}
+use Rattle.fleet_observe.specs.RrSet.{RrSetData, IsRrSet, read_ttl}
 use Rattle.fleet_observe.specs.Walk.{EndsBare, IsWalk, HasWalk, last, AreLinks}
-use Rattle.fleet_observe.specs.Digest.{SoaSet, Ending, WithRecords, WithoutData, WithoutName, WithCode, CutOff, Summary}
+use Rattle.fleet_observe.specs.Digest.{SoaData, EndData, WithRecords, WithoutData, WithoutName, WithCode, CutOff, DigestData}
 
 -- a reply to a question that is served: of class 1 and of a type that data can have
-pub record IsServed (r : Reply) : Type 0 where
+pub record IsServed (r : MessageData) : Type 0 where
   pub response : r.header.response ≡ true
   pub opcode : r.header.opcode ≡ 0
   pub class : r.question.class ≡ 1
   pub typed : IsDataType r.question.rtype
 
 -- the reply asks for a walk
-pub record AsksWalk (r : Reply) : Type 0 where
+pub record AsksWalk (r : MessageData) : Type 0 where
   pub whole : r.header.tc ≡ false
   pub code : (r.header.rcode ≡ 0) ⊎ (r.header.rcode ≡ 3)
 
 -- there is a walk from the question's name
-abbrev pub IsWalkable : Reply → Type 0
+abbrev pub IsWalkable : MessageData → Type 0
 IsWalkable r = HasWalk r.answer r.question.rtype r.question.name
 
 -- nothing is wrong with the reply: its question is served, and where it asks for a walk there is
 -- one
-abbrev pub IsSound : Reply → Type 0
+abbrev pub IsSound : MessageData → Type 0
 IsSound r = IsServed r × (AsksWalk r → IsWalkable r)
 
 -- why there is no digest, the first reason: want of memory only where nothing is wrong with the
 -- reply
-abbrev pub IsFault : Reply → DigestFault → Type 0
+abbrev pub IsFault : MessageData → DigestFault → Type 0
 IsFault r NotReply = ¬ IsServed r
 IsFault r BadChain = IsServed r × AsksWalk r × (¬ IsWalkable r)
 IsFault r OutOfMemory = IsSound r
 
-pub record IsSoaRecord (r : Told) : Type 0 where
+pub record IsSoaRecord (r : RecordData) : Type 0 where
   pub class : r.class ≡ 1
-  pub rtype : r.rtype ≡ 6
+  pub rtype : r.rtype ≡ SOA
 
 -- the first SOA of the section
-pub record IsFirstSoa (s : List Told) (r : Told) : Type 0 where
-  pub before : List Told
-  pub after : List Told
+pub record IsFirstSoa (s : List RecordData) (r : RecordData) : Type 0 where
+  pub before : List RecordData
+  pub after : List RecordData
   pub is : s ≡ before ++ r ∷ after
-  pub first : (x : Told) → Has before x → ¬ IsSoaRecord x
+  pub first : (x : RecordData) → Has before x → ¬ IsSoaRecord x
   pub soa : IsSoaRecord r
 
 -- MINIMUM: the last four octets of an SOA's RDATA, as a number
 abbrev pub minimum_of : List ℕ → ℕ
 minimum_of d = u32_at d (length d - 4)
 
--- how long a denial holds (RFC 2308 5), and at most three hours
-abbrev pub soa_ttl : Told → ℕ
-soa_ttl r = min (min (read_ttl r.ttl) (read_ttl (minimum_of r.rdata))) 10800
+-- how long a denial holds (RFC 2308 5)
+abbrev pub soa_ttl : RecordData → ℕ
+soa_ttl r = min (min (read_ttl r.ttl) (read_ttl (minimum_of r.rdata))) LONGEST_DENIAL
 
 -- the SOA that counts for the name n: the first one, if n is its owner or below it
-pub record Counts (s : List Told) (n : List (List ℕ)) (r : Told) : Type 0 where
+pub record CountsFor (s : List RecordData) (n : List (List ℕ)) (r : RecordData) : Type 0 where
   pub first : IsFirstSoa s r
   pub under : IsUnder n r.name
 
 -- there is such an SOA
-abbrev pub HasSoa : List Told → List (List ℕ) → Type 0
-HasSoa s n = (r : Told) × Counts s n r
+abbrev pub HasSoa : List RecordData → List (List ℕ) → Type 0
+HasSoa s n = (r : RecordData) × CountsFor s n r
 
-pub record IsSoaOf (s : List Told) (n : List (List ℕ)) (x : SoaSet) : Type 0 where
-  pub carrier : Told
-  pub counts : Counts s n carrier
+pub record IsSoaOf (s : List RecordData) (n : List (List ℕ)) (x : SoaData) : Type 0 where
+  pub carrier : RecordData
+  pub counts : CountsFor s n carrier
   pub owner : x.owner ≡ carrier.name
   pub ttl : x.ttl ≡ soa_ttl carrier
   pub rdata : x.rdata ≡ carrier.rdata
 
-abbrev pub IsSoa : List Told → List (List ℕ) → Option SoaSet → Type 0
-IsSoa s n None = (r : Told) → ¬ Counts s n r
+abbrev pub IsSoa : List RecordData → List (List ℕ) → Option SoaData → Type 0
+IsSoa s n None = (r : RecordData) → ¬ CountsFor s n r
 IsSoa s n (Some x) = IsSoaOf s n x
 
 -- how a walk ends at name n
-abbrev pub IsEnd : Reply → List (List ℕ) → Ending → Type 0
+abbrev pub IsEnd : MessageData → List (List ℕ) → EndData → Type 0
 IsEnd r n (WithRecords x) = IsRrSet r.answer n r.question.rtype x
 IsEnd r n (WithoutData soa) =
     EndsBare r.answer r.question.rtype n × (r.header.rcode ≡ 0) × IsSoa r.authority n soa
@@ -91,7 +93,7 @@ IsEnd r n (WithCode c) = ⊥
 IsEnd r n CutOff = ⊥
 
 -- the chain and the end of a reply with a walk
-pub record TellsWalk (r : Reply) (chain : List Set) (e : Ending) : Type 0 where
+pub record TellsWalk (r : MessageData) (chain : List RrSetData) (e : EndData) : Type 0 where
   pub asks : AsksWalk r
   pub later : List (List (List ℕ))
   pub walk : IsWalk r.answer r.question.rtype r.question.name later
@@ -99,7 +101,7 @@ pub record TellsWalk (r : Reply) (chain : List Set) (e : Ending) : Type 0 where
   pub end_is : IsEnd r (last r.question.name later) e
 
 -- the chain and the end of a reply
-abbrev pub Tells : Reply → List Set → Ending → Type 0
+abbrev pub Tells : MessageData → List RrSetData → EndData → Type 0
 Tells r chain CutOff = (r.header.tc ≡ true) × (chain ≡ [])
 Tells r chain (WithCode c) = (r.header.tc ≡ false) × (¬ (r.header.rcode ≡ 0))
     × (¬ (r.header.rcode ≡ 3)) × (c ≡ r.header.rcode) × (chain ≡ [])
@@ -108,24 +110,25 @@ Tells r chain (WithoutData soa) = TellsWalk r chain (WithoutData soa)
 Tells r chain (WithoutName soa) = TellsWalk r chain (WithoutName soa)
 
 -- an authority NS record at the question's name or an ancestor of it
-pub record IsNs (q : List (List ℕ)) (r : Told) : Type 0 where
+pub record IsNs (q : List (List ℕ)) (r : RecordData) : Type 0 where
   pub class : r.class ≡ 1
-  pub rtype : r.rtype ≡ 2
+  pub rtype : r.rtype ≡ NS
   pub above : IsUnder q r.name
 
 -- there is such a record
-abbrev pub HasNs : List (List ℕ) → List Told → Type 0
-HasNs q s = (r : Told) × Has s r × IsNs q r
+abbrev pub HasNs : List (List ℕ) → List RecordData → Type 0
+HasNs q s = (r : RecordData) × Has s r × IsNs q r
 
 -- an earlier one of such records has the owner of r
-pub record IsRepeated (q : List (List ℕ)) (before : List Told) (r : Told) : Type 0 where
-  pub earlier : Told
+pub record IsRepeated (q : List (List ℕ)) (before : List RecordData) (r : RecordData) : Type 0 where
+  pub earlier : RecordData
   pub member : Has before earlier
   pub ns : IsNs q earlier
   pub same : earlier.name ≡ r.name
 
 -- the owners of such records, in order of first appearance
-abbrev pub AreOwners : List (List ℕ) → List Told → List Told → List (List (List ℕ)) → Type 0
+abbrev pub AreOwners : List (List ℕ) → List RecordData → List RecordData → List (List (List ℕ))
+    → Type 0
 AreOwners q before [] os = os ≡ []
 AreOwners q before (r ∷ rs) os =
     (IsNs q r × (¬ IsRepeated q before r)
@@ -133,29 +136,30 @@ AreOwners q before (r ∷ rs) os =
     × AreOwners q (before ++ r ∷ []) rs rest))
     ⊎ (((¬ IsNs q r) ⊎ IsRepeated q before r) × AreOwners q (before ++ r ∷ []) rs os)
 
-abbrev pub owners_of : List Set → List (List (List ℕ))
+abbrev pub owners_of : List RrSetData → List (List (List ℕ))
 owners_of [] = []
 owners_of (x ∷ xs) = x.name ∷ owners_of xs
 
 -- the NS RRsets of the authority section at the name q and its ancestors, in order of first
 -- appearance
-pub record AreNsSets (q : List (List ℕ)) (s : List Told) (sets : List Set) : Type 0 where
-  pub owners : AreOwners q [] s (owners_of sets)
-  pub each : (x : Set) → Has sets x → IsRrSet s x.name 2 x
+pub record AreNsSets (q : List (List ℕ)) (s : List RecordData) (sets : List RrSetData) : Type 0
+  where
+    pub owners : AreOwners q [] s (owners_of sets)
+    pub each : (x : RrSetData) → Has sets x → IsRrSet s x.name NS x
 
 -- whether the authority section of a reply is told at all
-pub record HasAuthority (r : Reply) : Type 0 where
+pub record HasAuthority (r : MessageData) : Type 0 where
   pub whole : r.header.tc ≡ false
   pub aa : r.header.aa ≡ true
   pub code : r.header.rcode ≡ 0
 
 -- the NS RRsets that the reply is an authority for
-abbrev pub IsAuthority : Reply → List Set → Type 0
+abbrev pub IsAuthority : MessageData → List RrSetData → Type 0
 IsAuthority r sets = (HasAuthority r × AreNsSets r.question.name r.authority sets)
     ⊎ ((¬ HasAuthority r) × (sets ≡ []))
 
 -- d is what the reply means
-pub record IsMeaning (r : Reply) (d : Summary) : Type 0 where
+pub record IsMeaning (r : MessageData) (d : DigestData) : Type 0 where
   pub served : IsServed r
   pub name : d.name ≡ r.question.name
   pub rtype : d.rtype ≡ r.question.rtype
@@ -166,7 +170,8 @@ pub record IsMeaning (r : Reply) (d : Summary) : Type 0 where
 -- nothing is wrong with a reply that means something, so none of its faults is told
 abbrev pub MeaningOrFault : Type 0
 MeaningOrFault =
-    (r : Reply) (d : Summary) (f : DigestFault) → IsMeaning r d → IsFault r f → f ≡ OutOfMemory
+    (r : MessageData) (d : DigestData) (f : DigestFault) → IsMeaning r d → IsFault r f
+    → f ≡ OutOfMemory
 
 abbrev pub MeaningIsSound : Type 0
-MeaningIsSound = (r : Reply) (d : Summary) → IsMeaning r d → IsSound r
+MeaningIsSound = (r : MessageData) (d : DigestData) → IsMeaning r d → IsSound r

@@ -1,13 +1,9 @@
 -- What lists have in them, and lists of octets in ascending order.
-use Rattle.std.specs.Prelude.{◌≡◌, ℕ, ◌⊎◌, List, [], ◌∷◌}
+use Rattle.std.specs.Prelude.{◌≡◌, ℕ, List, [], ◌∷◌}
 use Rattle.std.specs.declared.cmp.Ordering.TheVariants.{Less}
 use Rattle.std.specs.Ordering.{nat_cmp}
 use Rattle.std.specs.Cmp.Lexicographic.{slice_cmp}
-
--- x is one of the values
-abbrev pub Has : {X : Type 0} → List X → X → Type 0
-Has [] x = ⊥
-Has (y ∷ ys) x = (y ≡ x) ⊎ Has ys x
+pub use Rattle.fleet_name.specs.Places.{Has}
 
 -- no two of the values are equal
 abbrev pub AllDistinct : {X : Type 0} → List X → Type 0

@@ -1,21 +1,22 @@
 -- What a waiting client is told of a reply.
-use Rattle.std.specs.Prelude.{ℕ, Bool, true, false, List, [], ◌∷◌, ◌++◌, map, Option, Some, None}
+use Rattle.std.specs.Prelude.{◌≡◌, ℕ, ◌<◌, length, take, Bool, true, false, List, [], ◌∷◌, ◌++◌, map, Option, Some, None}
 use Rattle.std.specs.List.{flat_map}
-use Rattle.fleet_wire.specs.Question.{Asked}
-use Rattle.fleet_wire.specs.Record.{Told}
-use Rattle.fleet_wire.specs.Outline.{Sketch, line}
-use Rattle.fleet_observe.specs.RrSet.{Set}
-use Rattle.fleet_observe.specs.Digest.{SoaSet, Ending, WithRecords, WithoutData, WithoutName, WithCode, CutOff, Summary}
+use Rattle.fleet_wire.specs.Question.{QuestionData}
+use Rattle.fleet_wire.specs.Record.{RecordData}
+use Rattle.fleet_wire.specs.Outline.{OutlineData, line}
+use Rattle.fleet_wire.specs.declared.rtype.TheConstants.{SOA}
+use Rattle.fleet_observe.specs.RrSet.{RrSetData}
+use Rattle.fleet_observe.specs.Digest.{SoaData, EndData, WithRecords, WithoutData, WithoutName, WithCode, CutOff, DigestData}
 
 -- RCODE 3 for a name error, a reply's own code where it is another, else 0
-abbrev pub code_of : Ending → ℕ
+abbrev pub code_of : EndData → ℕ
 code_of (WithRecords x) = 0
 code_of (WithoutData soa) = 0
 code_of (WithoutName soa) = 3
 code_of (WithCode c) = c
 code_of CutOff = 0
 
-abbrev pub is_cut : Ending → Bool
+abbrev pub is_cut : EndData → Bool
 is_cut (WithRecords x) = false
 is_cut (WithoutData soa) = false
 is_cut (WithoutName soa) = false
@@ -23,24 +24,24 @@ is_cut (WithCode c) = false
 is_cut CutOff = true
 
 -- an RRset's records, their RDATA ascending
-abbrev pub set_lines : Set → List Told
+abbrev pub set_lines : RrSetData → List RecordData
 set_lines x = map (line x.name x.rtype x.ttl) x.rdatas
 
-abbrev pub chain_lines : List Set → List Told
+abbrev pub chain_lines : List RrSetData → List RecordData
 chain_lines chain = flat_map set_lines chain
 
-abbrev pub answer_lines : Ending → List Told
+abbrev pub answer_lines : EndData → List RecordData
 answer_lines (WithRecords x) = set_lines x
 answer_lines (WithoutData soa) = []
 answer_lines (WithoutName soa) = []
 answer_lines (WithCode c) = []
 answer_lines CutOff = []
 
-abbrev pub soa_lines : Option SoaSet → List Told
+abbrev pub soa_lines : Option SoaData → List RecordData
 soa_lines None = []
-soa_lines (Some x) = line x.owner 6 x.ttl x.rdata ∷ []
+soa_lines (Some x) = line x.owner SOA x.ttl x.rdata ∷ []
 
-abbrev pub authority_lines : Ending → List Told
+abbrev pub authority_lines : EndData → List RecordData
 authority_lines (WithRecords x) = []
 authority_lines (WithoutData soa) = soa_lines soa
 authority_lines (WithoutName soa) = soa_lines soa
@@ -48,8 +49,8 @@ authority_lines (WithCode c) = []
 authority_lines CutOff = []
 
 -- the chain, and then the records, or the SOA in the authority section
-abbrev pub relayed : Summary → Asked → ℕ → Bool → Sketch
-relayed d q id rd = record {
+abbrev pub relay_outline : DigestData → QuestionData → ℕ → Bool → OutlineData
+relay_outline d q id rd = record {
   id = id;
   opcode = 0;
   rd = rd;
@@ -61,12 +62,17 @@ relayed d q id rd = record {
 }
 
 -- more records at the end of a section
-abbrev pub with_answers : Sketch → List Told → Sketch
-with_answers o rs = record o { answer = o.answer ++ rs }
+abbrev pub with_answer_lines : OutlineData → List RecordData → OutlineData
+with_answer_lines o rs = record o { answer = o.answer ++ rs }
 
-abbrev pub with_authorities : Sketch → List Told → Sketch
-with_authorities o rs = record o { authority = o.authority ++ rs }
+-- at the end of the answer section stand the first so many of these records, not all of them, and
+-- all else is as it was
+abbrev pub HasFirstOf : OutlineData → List RecordData → OutlineData → Type 0
+HasFirstOf old rs new = (n : ℕ) × (n < length rs) × (new ≡ with_answer_lines old (take n rs))
 
-abbrev pub with_end : Sketch → Ending → Sketch
+abbrev pub with_authority_lines : OutlineData → List RecordData → OutlineData
+with_authority_lines o rs = record o { authority = o.authority ++ rs }
+
+abbrev pub with_end : OutlineData → EndData → OutlineData
 with_end o e =
     record o { answer = o.answer ++ answer_lines e; authority = o.authority ++ authority_lines e }

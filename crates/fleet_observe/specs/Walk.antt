@@ -1,9 +1,11 @@
 -- The walk from a question's name along aliases (RFC 1034 3.6.2).
 use Rattle.std.specs.Prelude.{◌≡◌, ℕ, ◌≤◌, ◌⊎◌, List, [], ◌∷◌, length}
 use Rattle.fleet_name.specs.Name.{wire, labels_of, IsName}
-use Rattle.fleet_wire.specs.Record.{Told, told, IsPlainRecord}
+use Rattle.fleet_wire.specs.Record.{RecordData, record_data, IsPlainRecord}
+use Rattle.fleet_wire.specs.declared.rtype.TheConstants.{CNAME}
 use Rattle.fleet_observe.specs.Members.{Has}
-use Rattle.fleet_observe.specs.RrSet.{Belongs, InSet, IsEmpty, IsOnly, Set, IsRrSet, sets_of, SpellsName}
+use Rattle.fleet_observe.specs.RrSet.{Belongs, InSet, IsEmpty, IsOnly, RrSetData, IsRrSet, all_rrset_data, SpellsName}
+use Rattle.fleet_observe.specs.declared.bounds.TheConstants.{MOST_LINKS}
 use Rattle.fleet_observe.specs.declared.summary.Followed.{Followed}
 use Rattle.fleet_observe.specs.declared.walk.Found.{Found}
 use Rattle.fleet_observe.specs.declared.walk.Found.TheVariants.{Nothing, One, Several}
@@ -12,26 +14,26 @@ use Rattle.fleet_observe.specs.declared.walk.Step.TheVariants.{Records, Alias, B
 
 -- at name n the walk goes on to name m: no RRset of the type wanted, and an alias with this target
 -- alone
-pub record GoesOn (s : List Told) (t : ℕ) (n m : List (List ℕ)) : Type 0 where
+pub record GoesOn (s : List RecordData) (t : ℕ) (n m : List (List ℕ)) : Type 0 where
   pub without : IsEmpty s n t
-  pub target : IsOnly s n 5 (wire m)
+  pub target : IsOnly s n CNAME (wire m)
   pub named : IsName m
 
 -- at name n the walk ends with records; those of an alias have one target
-pub record EndsFound (s : List Told) (t : ℕ) (n : List (List ℕ)) : Type 0 where
+pub record EndsFound (s : List RecordData) (t : ℕ) (n : List (List ℕ)) : Type 0 where
   pub some : (d : List ℕ) × InSet s n t d
-  pub single : t ≡ 5 → (d e : List ℕ) → InSet s n t d → InSet s n t e → d ≡ e
+  pub single : t ≡ CNAME → (d e : List ℕ) → InSet s n t d → InSet s n t e → d ≡ e
 
 -- at name n the walk ends without records
-pub record EndsBare (s : List Told) (t : ℕ) (n : List (List ℕ)) : Type 0 where
+pub record EndsBare (s : List RecordData) (t : ℕ) (n : List (List ℕ)) : Type 0 where
   pub without : IsEmpty s n t
-  pub no_alias : IsEmpty s n 5
+  pub no_alias : IsEmpty s n CNAME
 
-abbrev pub Ends : List Told → ℕ → List (List ℕ) → Type 0
+abbrev pub Ends : List RecordData → ℕ → List (List ℕ) → Type 0
 Ends s t n = EndsFound s t n ⊎ EndsBare s t n
 
 -- each name goes on to the next one
-abbrev pub IsPath : List Told → ℕ → List (List ℕ) → List (List (List ℕ)) → Type 0
+abbrev pub IsPath : List RecordData → ℕ → List (List ℕ) → List (List (List ℕ)) → Type 0
 IsPath s t n [] = Unit {0}
 IsPath s t n (m ∷ later) = GoesOn s t n m × IsPath s t m later
 
@@ -40,66 +42,69 @@ abbrev pub last : List (List ℕ) → List (List (List ℕ)) → List (List ℕ)
 last n [] = n
 last n (m ∷ later) = last m later
 
--- the walk: from n over the later names, at most 8 links
-pub record IsWalk (s : List Told) (t : ℕ) (n : List (List ℕ)) (later : List (List (List ℕ)))
+-- the walk: from n over the later names, and over no more links than there may be
+pub record IsWalk (s : List RecordData) (t : ℕ) (n : List (List ℕ)) (later : List (List (List ℕ)))
     : Type 0 where
   pub path : IsPath s t n later
   pub ends : Ends s t (last n later)
-  pub short : length later ≤ 8
+  pub short : length later ≤ MOST_LINKS
 
-abbrev pub HasWalk : List Told → ℕ → List (List ℕ) → Type 0
+abbrev pub HasWalk : List RecordData → ℕ → List (List ℕ) → Type 0
 HasWalk s t n = (later : List (List (List ℕ))) × IsWalk s t n later
 
 abbrev pub OneWalk : Type 0
-OneWalk = (s : List Told) (t : ℕ) (n : List (List ℕ)) (a b : List (List (List ℕ))) → IsWalk s t n a
+OneWalk = (s : List RecordData) (t : ℕ) (n : List (List ℕ)) (a b : List (List (List ℕ)))
+    → IsWalk s t n a
     → IsWalk s t n b → a ≡ b
 
 -- the links' RRsets, in order
-abbrev pub AreLinks : List Told → List (List ℕ) → List (List (List ℕ)) → List Set → Type 0
+abbrev pub AreLinks : List RecordData → List (List ℕ) → List (List (List ℕ)) → List RrSetData
+    → Type 0
 AreLinks s n [] [] = Unit {0}
 AreLinks s n [] (x ∷ xs) = ⊥
 AreLinks s n (m ∷ later) [] = ⊥
-AreLinks s n (m ∷ later) (x ∷ xs) = IsRrSet s n 5 x × AreLinks s m later xs
+AreLinks s n (m ∷ later) (x ∷ xs) = IsRrSet s n CNAME x × AreLinks s m later xs
 
 -- r is a record of the RRset
-pub record IsOf (s : List Told) (n : List (List ℕ)) (t : ℕ) (r : Told) : Type 0 where
+pub record IsOf (s : List RecordData) (n : List (List ℕ)) (t : ℕ) (r : RecordData) : Type 0 where
   pub member : Has s r
   pub belongs : Belongs n t r
 
 -- what is found of an RRset
-abbrev pub IsFound : {A : Type 0} → List Told → List (List ℕ) → ℕ → Found A → Type 0
+abbrev pub IsFound : {A : Type 0} → List RecordData → List (List ℕ) → ℕ → Found A → Type 0
 IsFound s n t Nothing = IsEmpty s n t
-IsFound s n t (One r) = IsOf s n t (told r.now) × IsOnly s n t (told r.now).rdata
-IsFound s n t (Several r) = IsOf s n t (told r.now)
+IsFound s n t (One r) = IsOf s n t (record_data r.now) × IsOnly s n t (record_data r.now).rdata
+IsFound s n t (Several r) = IsOf s n t (record_data r.now)
     × ((d : List ℕ) × (e : List ℕ) × InSet s n t d × InSet s n t e × (¬ (d ≡ e)))
 
 -- no walk ends at n or goes on from there
-pub record IsFork (s : List Told) (t : ℕ) (n : List (List ℕ)) : Type 0 where
+pub record IsFork (s : List RecordData) (t : ℕ) (n : List (List ℕ)) : Type 0 where
   pub endless : ¬ Ends s t n
   pub aimless : (m : List (List ℕ)) → ¬ GoesOn s t n m
 
 -- by the alias r the walk goes on from n
-pub record IsAlias (s : List Told) (t : ℕ) (n : List (List ℕ)) (r : Told) : Type 0 where
-  pub of_set : IsOf s n 5 r
+pub record IsAlias (s : List RecordData) (t : ℕ) (n : List (List ℕ)) (r : RecordData) : Type 0 where
+  pub of_set : IsOf s n CNAME r
   pub goes : GoesOn s t n (labels_of r.rdata)
   pub spelled : SpellsName r.rdata
 
 -- what the walk does at a name
-abbrev pub IsStep : {A : Type 0} → List Told → ℕ → List (List ℕ) → Step A → Type 0
-IsStep s t n (Records r) = EndsFound s t n × IsOf s n t (told r.now)
-IsStep s t n (Alias r) = IsAlias s t n (told r.now)
+abbrev pub IsStep : {A : Type 0} → List RecordData → ℕ → List (List ℕ) → Step A → Type 0
+IsStep s t n (Records r) = EndsFound s t n × IsOf s n t (record_data r.now)
+IsStep s t n (Alias r) = IsAlias s t n (record_data r.now)
 IsStep s t n Bare = EndsBare s t n
 IsStep s t n Fork = IsFork s t n
 
 -- the walk was followed to its end
-pub record IsFollowed {A : Type 0} (s : List Told) (t : ℕ) (n : List (List ℕ)) (f : Followed A)
+pub record IsFollowed {A : Type 0} (s : List RecordData) (t : ℕ) (n : List (List ℕ))
+    (f : Followed A)
     : Type 0 where
   pub later : List (List (List ℕ))
   pub walk : IsWalk s t n later
-  pub links : AreLinks s n later (sets_of f.chain.items)
+  pub links : AreLinks s n later (all_rrset_data f.chain.items)
   pub stands : labels_of f.at.now ≡ last n later
   pub spelled : SpellsName f.at.now
 
 -- each record of the section is plain
-abbrev pub ArePlainRecords : List Told → Type 0
-ArePlainRecords s = (r : Told) → Has s r → IsPlainRecord r
+abbrev pub ArePlainRecords : List RecordData → Type 0
+ArePlainRecords s = (r : RecordData) → Has s r → IsPlainRecord r

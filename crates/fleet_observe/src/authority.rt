@@ -1,23 +1,21 @@
 //! The NS RRsets that a reply is an authority for.
 
 ghost use Rattle.std.specs.Prelude.{◌≡◌, ℕ, List, IfOk, IfErr, IsTrue, ◌↔◌};
-ghost use Rattle.fleet_wire.specs.Record.{told, all_told};
+ghost use Rattle.fleet_wire.specs.Record.{record_data, all_record_data};
 ghost use Rattle.fleet_wire.specs.Message.{IsRead};
 ghost use Rattle.fleet_observe.specs.Members.{Has};
-ghost use Rattle.fleet_observe.specs.RrSet.{sets_of};
+ghost use Rattle.fleet_observe.specs.RrSet.{all_rrset_data};
 ghost use Rattle.fleet_observe.specs.Meaning.{IsNs, HasNs, owners_of, AreNsSets, HasAuthority, IsAuthority};
 
 use crate::rrset::{RrSet, gather};
 use fleet_name::Name;
+use fleet_wire::rtype::NS;
 use fleet_wire::{Header, Message, Record};
 use std::alloc::{AllocError, Allocator};
 
-/// The type of a name server.
-const NS: u16 = 2;
-
 /// Whether the record is an NS record at the name or an ancestor of it.
 fn is_ns<A: Allocator>(candidate: &Record<A>, name: &Name<A>) -> bool
-    ensures { IsTrue result ↔ IsNs name.now (told candidate.now) }
+    ensures { IsTrue result ↔ IsNs name.now (record_data candidate.now) }
 {
     if candidate.class != 1 {
         return false;
@@ -30,7 +28,7 @@ fn is_ns<A: Allocator>(candidate: &Record<A>, name: &Name<A>) -> bool
 
 /// Whether one of the RRsets has this owner.
 fn owns<A: Allocator>(sets: &[RrSet<A>], owner: &Name<A>) -> bool
-    ensures { IsTrue result ↔ Has (owners_of (sets_of sets.now)) owner.now }
+    ensures { IsTrue result ↔ Has (owners_of (all_rrset_data sets.now)) owner.now }
 {
     for set in sets {
         if set.name.same(owner) {
@@ -47,8 +45,8 @@ fn ns_sets<A: Allocator + Copy>(
     name: &Name<A>,
 ) -> Result<Vec<RrSet<A>, A>, AllocError>
     ensures sets { IfOk result (λ v.
-        AreNsSets name.now (all_told authority.now) (sets_of v.items)) }
-    ensures memory { IfErr result (λ _. HasNs name.now (all_told authority.now)) }
+        AreNsSets name.now (all_record_data authority.now) (all_rrset_data v.items)) }
+    ensures memory { IfErr result (λ _. HasNs name.now (all_record_data authority.now)) }
 {
     let mut sets = Vec::new(alloc);
     for record in authority {
@@ -65,7 +63,7 @@ pub(crate) fn authority_sets<A: Allocator + Copy>(
     alloc: A,
     message: &Message<A>,
 ) -> Result<Vec<RrSet<A>, A>, AllocError>
-    ensures sets { IfOk result (λ v. IsAuthority message.now (sets_of v.items)) }
+    ensures sets { IfOk result (λ v. IsAuthority message.now (all_rrset_data v.items)) }
     ensures memory { IfErr result (λ _.
         HasAuthority message.now × HasNs message.now.question.name message.now.authority) }
 {

@@ -2,7 +2,8 @@
 
 ghost use Rattle.std.specs.Prelude.{◌≡◌, ◌<◌, ◌≤◌, ◌++◌, length, IfOk, OnOk};
 ghost use Rattle.fleet_wire.specs.Number.{u16_octets};
-ghost use Rattle.fleet_observe.specs.Body.{positive_body, sized};
+ghost use Rattle.fleet_observe.specs.Body.{positive_body, octets_with_length};
+ghost use Rattle.fleet_observe.specs.declared.bounds.TheConstants.{LONGEST_BODY};
 
 use fleet_name::{Name, Octets};
 use std::alloc::{AllocError, Allocator};
@@ -17,12 +18,12 @@ pub(crate) enum Body<A: Allocator> {
 }
 
 impl<A: Allocator> Body<A> {
-    ghost use Rattle.fleet_observe.specs.Held.{octets_of, AreSameParts};
+    ghost use Rattle.fleet_observe.specs.BodyParts.{body_octets, AreSameParts};
 
     /// How many octets it has.
     pub(crate) fn len(&self) -> usize
-        requires { length (octets_of self.now) ≤ 8192 }
-        ensures { result ≡ length (octets_of self.now) }
+        requires { length (body_octets self.now) ≤ LONGEST_BODY }
+        ensures { result ≡ length (body_octets self.now) }
     {
         match self {
             Body::Records(rdatas) => rdatas_len(rdatas),
@@ -32,8 +33,8 @@ impl<A: Allocator> Body<A> {
 
     /// Adds its octets to others.
     pub(crate) fn push_to<B: Allocator>(&self, octets: &mut Vec<u8, B>) -> Result<(), AllocError>
-        requires { length (octets_of self.now) ≤ 8192 }
-        ensures { OnOk result (octets.new.items ≡ octets.old.items ++ octets_of self.now) }
+        requires { length (body_octets self.now) ≤ LONGEST_BODY }
+        ensures { OnOk result (octets.new.items ≡ octets.old.items ++ body_octets self.now) }
     {
         match self {
             Body::Records(rdatas) => push_rdatas(octets, rdatas),
@@ -66,7 +67,7 @@ impl<A: Allocator> Body<A> {
 
 /// How many octets a positive body has.
 fn rdatas_len<A: Allocator>(rdatas: &[Octets<A>]) -> usize
-    requires { length (positive_body rdatas.now) ≤ 8192 }
+    requires { length (positive_body rdatas.now) ≤ LONGEST_BODY }
     ensures { result ≡ length (positive_body rdatas.now) }
 {
     let mut len = 2;
@@ -87,7 +88,7 @@ fn push_short<B: Allocator>(octets: &mut Vec<u8, B>, number: usize) -> Result<()
 /// Adds octets behind their number.
 fn push_sized<B: Allocator>(octets: &mut Vec<u8, B>, part: &[u8]) -> Result<(), AllocError>
     requires { length part.now < 65536 }
-    ensures { OnOk result (octets.new.items ≡ octets.old.items ++ sized part.now) }
+    ensures { OnOk result (octets.new.items ≡ octets.old.items ++ octets_with_length part.now) }
 {
     push_short(octets, part.len())?;
     octets.extend_from_slice(part)
@@ -98,7 +99,7 @@ fn push_rdatas<A: Allocator, B: Allocator>(
     octets: &mut Vec<u8, B>,
     rdatas: &[Octets<A>],
 ) -> Result<(), AllocError>
-    requires { length (positive_body rdatas.now) ≤ 8192 }
+    requires { length (positive_body rdatas.now) ≤ LONGEST_BODY }
     ensures { OnOk result (octets.new.items ≡ octets.old.items ++ positive_body rdatas.now) }
 {
     push_short(octets, rdatas.len())?;

@@ -4,28 +4,16 @@ ghost use Rattle.std.specs.Prelude.{◌≡◌, ◌≢◌, ℕ, ◌<◌, ◌≤�
 ghost use Rattle.fleet_wire.specs.Shape.{IsPlain};
 ghost use Rattle.fleet_observe.specs.Members.{Has, IsAscending};
 ghost use Rattle.fleet_observe.specs.Body.{positive_body, AreRdatas, IsDenial};
-ghost use Rattle.fleet_observe.specs.Fact.{IsRank, IsNegativeRank, IsLife, IsDataType};
-ghost use Rattle.fleet_observe.specs.Fact.{kind_number};
+ghost use Rattle.fleet_observe.specs.Observation.{IsRank, IsDenialRank, IsLife, IsDataType};
 ghost use Rattle.fleet_observe.specs.Checks.{IsDeniedType, IsRankOf, IsLifeOf, IsTypeOf, IsCountOf};
+ghost use Rattle.fleet_observe.specs.declared.bounds.TheConstants.{LONGEST_BODY};
 
+use crate::bounds::{LONGEST_BODY, LONGEST_DENIAL, LONGEST_LIFE};
 use crate::kind::Kind;
 use fleet_name::{Name, Octets};
 use fleet_wire::plain_rdata;
+use fleet_wire::rtype::{CNAME, SOA};
 use std::alloc::Allocator;
-
-/// The types that have rules of their own (RFC 1035 3.2.2).
-pub(crate) const CNAME: u16 = 5;
-
-pub(crate) const SOA: u16 = 6;
-
-/// The longest life, in seconds: a day.
-pub const LONGEST_LIFE: u32 = 86400;
-
-/// The longest life of a denial, in seconds: three hours (RFC 2308 5).
-pub const LONGEST_DENIAL: u32 = 10800;
-
-/// How many octets the body of a positive observation has at most.
-pub const LONGEST_BODY: usize = 8192;
 
 /// Whether it is a rank.
 pub(crate) fn is_rank(rank: u8) -> bool
@@ -36,7 +24,7 @@ pub(crate) fn is_rank(rank: u8) -> bool
 
 /// Whether a denial can have the rank.
 pub(crate) fn is_negative_rank(rank: u8) -> bool
-    ensures { IsTrue result ↔ IsNegativeRank rank }
+    ensures { IsTrue result ↔ IsDenialRank rank }
 {
     rank == 1 || rank == 3
 }
@@ -79,9 +67,9 @@ fn are_plain<A: Allocator>(rtype: u16, rdatas: &[Octets<A>]) -> bool
     true
 }
 
-/// Whether their body has at most 8192 octets.
+/// Whether their body is no longer than one may be.
 pub(crate) fn are_short<A: Allocator>(rdatas: &[Octets<A>]) -> bool
-    ensures { IsTrue result ↔ (length (positive_body rdatas.now) ≤ 8192) }
+    ensures { IsTrue result ↔ (length (positive_body rdatas.now) ≤ LONGEST_BODY) }
 {
     let mut room = LONGEST_BODY - 2;
     for rdata in rdatas {
@@ -97,7 +85,7 @@ pub(crate) fn are_short<A: Allocator>(rdatas: &[Octets<A>]) -> bool
 /// Whether an observation of the kind can have the rank: 1, 2 or 3 where it is positive, 1 or 3
 /// where it is a denial.
 pub fn is_rank_of(kind: Kind, rank: u8) -> bool
-    ensures { IsTrue result ↔ IsRankOf (kind_number kind) rank }
+    ensures { IsTrue result ↔ IsRankOf kind rank }
 {
     match kind {
         Kind::Positive => is_rank(rank),
@@ -106,10 +94,10 @@ pub fn is_rank_of(kind: Kind, rank: u8) -> bool
     }
 }
 
-/// Whether an observation of the kind can have the life, in seconds: 1 to 86400, of a denial at
-/// most 10800.
+/// Whether an observation of the kind can have the life, in seconds: at least one, and no more
+/// than `LONGEST_LIFE`, of a denial than `LONGEST_DENIAL`.
 pub fn is_life_of(kind: Kind, life: u32) -> bool
-    ensures { IsTrue result ↔ IsLifeOf (kind_number kind) life }
+    ensures { IsTrue result ↔ IsLifeOf kind life }
 {
     match kind {
         Kind::Positive => is_life(LONGEST_LIFE, life),
@@ -121,7 +109,7 @@ pub fn is_life_of(kind: Kind, life: u32) -> bool
 /// Whether an observation of the kind can have the type: 0 where it is a name error, else one that
 /// data can have.
 pub fn is_type_of(kind: Kind, rtype: u16) -> bool
-    ensures { IsTrue result ↔ IsTypeOf (kind_number kind) rtype }
+    ensures { IsTrue result ↔ IsTypeOf kind rtype }
 {
     match kind {
         Kind::Positive => is_data_type(rtype),

@@ -1,23 +1,25 @@
 //! Which SOA a denial has (RFC 2308 3, 5).
 
 ghost use Rattle.std.specs.Prelude.{◌≡◌, ℕ, ◌≤◌, List, length, IfOk, IfErr, MatchOption};
-ghost use Rattle.fleet_wire.specs.Record.{Told, told, all_told};
+ghost use Rattle.fleet_wire.specs.Record.{RecordData, record_data, all_record_data};
 ghost use Rattle.fleet_observe.specs.Members.{Has};
 ghost use Rattle.fleet_observe.specs.Walk.{ArePlainRecords};
-ghost use Rattle.fleet_observe.specs.Digest.{soa_in};
+ghost use Rattle.fleet_observe.specs.Digest.{soa_data_if_any};
 ghost use Rattle.fleet_observe.specs.Meaning.{IsSoaRecord, IsFirstSoa, IsSoa, HasSoa, minimum_of};
 
-use crate::checks::{LONGEST_DENIAL, SOA};
+use crate::bounds::LONGEST_DENIAL;
 use crate::rrset::bounded;
 use crate::soa::Soa;
 use fleet_name::Name;
 use fleet_wire::Record;
+use fleet_wire::rtype::SOA;
 use std::alloc::{AllocError, Allocator};
 
 /// The first SOA of a section.
 fn first_soa<A: Allocator>(authority: &[Record<A>]) -> Option<&Record<A>>
-    ensures { MatchOption result ((r : Told) → Has (all_told authority.now) r → ¬ IsSoaRecord r)
-        (λ r. IsFirstSoa (all_told authority.now) (told r.now)) }
+    ensures { MatchOption result ((r : RecordData) → Has (all_record_data authority.now) r
+        → ¬ IsSoaRecord r)
+        (λ r. IsFirstSoa (all_record_data authority.now) (record_data r.now)) }
 {
     for record in authority {
         if record.class == 1 && record.rtype == SOA {
@@ -42,9 +44,10 @@ pub(crate) fn soa_for<A: Allocator + Copy>(
     authority: &[Record<A>],
     denied: &Name<A>,
 ) -> Result<Option<Soa<A>>, AllocError>
-    requires { ArePlainRecords (all_told authority.now) }
-    ensures soa { IfOk result (λ o. IsSoa (all_told authority.now) denied.now (soa_in o)) }
-    ensures memory { IfErr result (λ _. HasSoa (all_told authority.now) denied.now) }
+    requires { ArePlainRecords (all_record_data authority.now) }
+    ensures soa { IfOk result (λ o. IsSoa (all_record_data authority.now) denied.now
+        (soa_data_if_any o)) }
+    ensures memory { IfErr result (λ _. HasSoa (all_record_data authority.now) denied.now) }
 {
     let Some(record) = first_soa(authority) else {
         return Ok(None);

@@ -9,16 +9,16 @@ pub enum ObservationFault {
     /// one.
     #[error("bad rank")]
     BadRank,
-    /// The life is zero, or over 86400 seconds, of a negative observation over 10800 seconds.
+    /// The life is zero, or over `LONGEST_LIFE`, of a negative observation over `LONGEST_DENIAL`.
     #[error("bad life")]
     BadLife,
     /// The type is none that data can have: 0, 41 (OPT), or one of 128 to 255 (RFC 6895 3.1).
     #[error("bad kind")]
     BadKind,
     /// Positive: no RDATA, more than one of an alias (CNAME), RDATA that is not of its type's shape
-    /// with names in full and in lower case, RDATAs out of ascending order, or a body over 8192
-    /// octets. Negative: an owner that is neither the name nor an ancestor of it, or RDATA that is
-    /// not of the shape of an SOA.
+    /// with names in full and in lower case, RDATAs out of ascending order, or a body over
+    /// `LONGEST_BODY` octets. Negative: an owner that is neither the name nor an ancestor of it, or
+    /// RDATA that is not of the shape of an SOA.
     #[error("bad body")]
     BadBody,
 }

@@ -14,7 +14,7 @@ pub enum Kind {
 }
 
 impl Kind {
-    ghost use Rattle.fleet_observe.specs.Fact.{kind_number};
+    ghost use Rattle.fleet_observe.specs.Observation.{kind_number};
 
     /// Its number in keys and frames.
     pub fn number(self) -> u8

@@ -1,6 +1,6 @@
 //! Laws of what replies tell. These functions do nothing when run.
 
-ghost use Rattle.fleet_observe.specs.Fact.{OneKey};
+ghost use Rattle.fleet_observe.specs.Observation.{OneKey};
 ghost use Rattle.fleet_observe.specs.Walk.{OneWalk};
 ghost use Rattle.fleet_observe.specs.Meaning.{MeaningIsSound, MeaningOrFault};
 ghost use Rattle.fleet_observe.specs.Observed.{OneMeaning, OneObserved, EachOnce};

@@ -4,6 +4,7 @@
 
 mod authority;
 mod body;
+pub mod bounds;
 mod checks;
 mod denial;
 mod fault;
@@ -26,10 +27,8 @@ mod summary;
 mod told;
 mod walk;
 
-pub use checks::{
-    LONGEST_BODY, LONGEST_DENIAL, LONGEST_LIFE, is_count_of, is_data_type, is_life_of, is_rank_of,
-    is_type_of,
-};
+pub use bounds::{LONGEST_BODY, LONGEST_DENIAL, LONGEST_LIFE};
+pub use checks::{is_count_of, is_data_type, is_life_of, is_rank_of, is_type_of};
 pub use fault::ObservationFault;
 pub use kind::Kind;
 pub use laws::{each_once, meaning_or_fault, one_key, one_meaning, one_walk};

@@ -1,37 +1,37 @@
 //! Moments.
 
-ghost use Rattle.std.specs.Prelude.{◌≡◌, ◌≤◌, ◌^◌};
+ghost use Rattle.std.specs.Prelude.{◌≡◌, ◌≤◌};
 ghost use Rattle.std.specs.Option.{SomeIff};
+ghost use Rattle.fleet_observe.specs.declared.bounds.TheConstants.{LATEST};
 
+use crate::bounds::LATEST;
 use std::marker::Model;
 
-/// A moment: a whole number of seconds, at most 2^40.
+/// A moment: a whole number of seconds, at most `LATEST`.
 #[derive(Clone, Copy, PartialEq, Eq, PartialOrd, Ord, Debug)]
 pub struct Moment {
     seconds: u64,
 }
 
 impl Model for Moment {
-    ghost use Rattle.std.specs.Prelude.{ℕ, ◌≤◌, ◌^◌};
+    ghost use Rattle.std.specs.Prelude.{ℕ, ◌≤◌};
+    ghost use Rattle.fleet_observe.specs.declared.bounds.TheConstants.{LATEST};
 
     ghost Value = { ℕ };
 
     ghost view = { λ m. m.seconds };
 
-    ghost invariant = { λ m. m.seconds ≤ 2 ^ 40 };
+    ghost invariant = { λ m. m.seconds ≤ LATEST };
 
     ghost inverse = { λ n. record { seconds = n } };
 }
 
 impl Moment {
-    /// The latest moment, in seconds.
-    pub(crate) const LATEST: u64 = 1 << 40;
-
-    /// The moment of so many seconds, `None` where these are over 2^40.
+    /// The moment of so many seconds, `None` where these are over `LATEST`.
     pub fn new(seconds: u64) -> Option<Moment>
-        ensures { SomeIff result (seconds ≤ 2 ^ 40) seconds }
+        ensures { SomeIff result (seconds ≤ LATEST) seconds }
     {
-        if seconds > Self::LATEST {
+        if seconds > LATEST {
             return None;
         }
         Some(Moment { seconds })
@@ -40,7 +40,7 @@ impl Moment {
     /// Its seconds.
     pub fn value(self) -> u64
         ensures value { result ≡ self }
-        ensures bounded { result ≤ 2 ^ 40 }
+        ensures bounded { result ≤ LATEST }
     {
         self.seconds
     }

@@ -2,13 +2,15 @@
 
 ghost use Rattle.std.specs.Prelude.{◌≡◌, ◌≢◌, ℕ, ◌+◌, ◌≤◌, [], ◌++◌, length, MatchOption, MatchResult, IfOk, OnOk, IfSome};
 ghost use Rattle.fleet_observe.specs.Body.{positive_body, negative_body, AreRdatas, IsDenial};
-ghost use Rattle.fleet_observe.specs.Fact.{kind_number, expires as end_of, IsNegativeKind, IsFact};
+ghost use Rattle.fleet_observe.specs.Observation.{expires as end_of, IsNegativeKind, IsObservation};
 ghost use Rattle.fleet_observe.specs.Checks.{denied_kind, denied_type, MakesPositive, IsPositiveFault, MakesNegative, IsNegativeFault};
+ghost use Rattle.fleet_observe.specs.declared.bounds.TheConstants.{LONGEST_BODY};
+ghost use Rattle.fleet_observe.specs.declared.kind.Kind.TheVariants.{Positive};
 
 use crate::body::Body;
+use crate::bounds::{LATEST, LONGEST_DENIAL, LONGEST_LIFE};
 use crate::checks::{
-    LONGEST_DENIAL, LONGEST_LIFE, are_rdatas, is_data_type, is_denial, is_denied_type, is_life,
-    is_negative_rank, is_rank,
+    are_rdatas, is_data_type, is_denial, is_denied_type, is_life, is_negative_rank, is_rank,
 };
 use crate::fault::ObservationFault;
 use crate::kind::Kind;
@@ -31,22 +33,23 @@ pub struct Observation<A: Allocator = Global> {
 }
 
 impl<A: Allocator> Model for Observation<A> {
-    ghost use Rattle.fleet_observe.specs.Fact.{Fact, kind_number, IsFact};
-    ghost use Rattle.fleet_observe.specs.Held.{fact_held, IsBodyOf};
+    ghost use Rattle.fleet_observe.specs.Observation.{ObservationData, IsObservation};
+    ghost use Rattle.fleet_observe.specs.BodyParts.{observation_data, IsBodyOf};
 
-    ghost Value = { Fact };
+    ghost Value = { ObservationData };
 
-    ghost view = { λ o. fact_held o.kind o.name o.rtype o.rank o.stamp o.life o.body };
+    ghost view = { λ o. observation_data o.kind o.name o.rtype o.rank o.stamp o.life o.body };
 
-    ghost invariant = { λ o. IsFact (fact_held o.kind o.name o.rtype o.rank o.stamp o.life o.body)
-        × IsBodyOf (kind_number o.kind) o.name o.rtype o.body };
+    ghost invariant = { λ o. IsObservation
+        (observation_data o.kind o.name o.rtype o.rank o.stamp o.life o.body)
+        × IsBodyOf o.kind o.name o.rtype o.body };
 }
 
 impl<A: Allocator> Observation<A> {
     /// The RDATAs that a name has of a type.
     ///
-    /// The rank is 1, 2 or 3, the life 1 to 86400 seconds, and the RDATAs stand in strictly
-    /// ascending order, as octets, a proper prefix first. The errors come in the order of
+    /// The rank is 1, 2 or 3, the life 1 to `LONGEST_LIFE` seconds, and the RDATAs stand in
+    /// strictly ascending order, as octets, a proper prefix first. The errors come in the order of
     /// `ObservationFault`, and what was handed in is then dropped. This takes no memory.
     pub fn positive(
         name: Name<A>,
@@ -57,7 +60,7 @@ impl<A: Allocator> Observation<A> {
         rdatas: Vec<Octets<A>, A>,
     ) -> Result<Observation<A>, ObservationFault>
         ensures value { IfOk result (λ o. o ≡ record {
-          kind = 3;
+          kind = Positive;
           name = name;
           rtype = rtype;
           body = positive_body rdatas.items;
@@ -83,7 +86,7 @@ impl<A: Allocator> Observation<A> {
         }
         // What the proof needs to know of the name and the moment.
         prove!(!name.octets().is_empty());
-        prove!(stamp.value() <= Moment::LATEST);
+        prove!(stamp.value() <= LATEST);
         Ok(Observation {
             kind: Kind::Positive,
             name,
@@ -98,9 +101,9 @@ impl<A: Allocator> Observation<A> {
     /// That a name has no data of a type, or for `None` that there is no such name, on the word of
     /// an SOA.
     ///
-    /// The rank is 1 or 3 and the life 1 to 10800 seconds (RFC 2308 5). The SOA's TTL is not kept.
-    /// The errors come in the order of `ObservationFault`, and what was handed in is then dropped.
-    /// This takes no memory.
+    /// The rank is 1 or 3 and the life 1 to `LONGEST_DENIAL` seconds (RFC 2308 5). The SOA's TTL is
+    /// not kept. The errors come in the order of `ObservationFault`, and what was handed in is then
+    /// dropped. This takes no memory.
     pub fn negative(
         name: Name<A>,
         rtype: Option<u16>,
@@ -137,7 +140,7 @@ impl<A: Allocator> Observation<A> {
         }
         // What the proof needs to know of the name and the moment.
         prove!(!name.octets().is_empty());
-        prove!(stamp.value() <= Moment::LATEST);
+        prove!(stamp.value() <= LATEST);
         Ok(Observation {
             kind: kind_of_denial(rtype),
             name,
@@ -152,15 +155,15 @@ impl<A: Allocator> Observation<A> {
     /// The name that was observed.
     pub fn name(&self) -> &Name<A>
         ensures value { result.now ≡ self.now.name }
-        ensures lawful { IsFact self.now }
+        ensures lawful { IsObservation self.now }
     {
         &self.name
     }
 
     /// What it tells of the name.
     pub fn kind(&self) -> Kind
-        ensures value { kind_number result ≡ self.now.kind }
-        ensures lawful { IsFact self.now }
+        ensures value { result ≡ self.now.kind }
+        ensures lawful { IsObservation self.now }
     {
         self.kind
     }
@@ -168,7 +171,7 @@ impl<A: Allocator> Observation<A> {
     /// The type of the data that are there or not there, 0 for a name error.
     pub fn rtype(&self) -> u16
         ensures value { result ≡ self.now.rtype }
-        ensures lawful { IsFact self.now }
+        ensures lawful { IsObservation self.now }
     {
         self.rtype
     }
@@ -176,7 +179,7 @@ impl<A: Allocator> Observation<A> {
     /// How far it is to be trusted: 1, 2 or 3 (after RFC 2181 5.4.1).
     pub fn rank(&self) -> u8
         ensures value { result ≡ self.now.rank }
-        ensures lawful { IsFact self.now }
+        ensures lawful { IsObservation self.now }
     {
         self.rank
     }
@@ -184,7 +187,7 @@ impl<A: Allocator> Observation<A> {
     /// The moment at which it was observed.
     pub fn stamp(&self) -> Moment
         ensures value { result ≡ self.now.stamp }
-        ensures lawful { IsFact self.now }
+        ensures lawful { IsObservation self.now }
     {
         self.stamp
     }
@@ -192,7 +195,7 @@ impl<A: Allocator> Observation<A> {
     /// For how long it holds, in seconds.
     pub fn life(&self) -> u32
         ensures value { result ≡ self.now.life }
-        ensures lawful { IsFact self.now }
+        ensures lawful { IsObservation self.now }
     {
         self.life
     }
@@ -200,17 +203,17 @@ impl<A: Allocator> Observation<A> {
     /// The second at which it ends: its stamp and its life. It may pass the latest moment.
     pub fn expires(&self) -> u64
         ensures value { result ≡ end_of self.now }
-        ensures lawful { IsFact self.now }
+        ensures lawful { IsObservation self.now }
     {
         self.stamp.value() + self.life as u64
     }
 
     /// The RDATAs of a positive observation, ascending; none of another.
     pub fn rdatas(&self) -> &[Octets<A>]
-        ensures body { self.now.kind ≡ 3 → self.now.body ≡ positive_body result.now }
-        ensures rdatas { self.now.kind ≡ 3 → AreRdatas self.now.rtype result.now }
-        ensures none { self.now.kind ≢ 3 → result.now ≡ [] }
-        ensures lawful { IsFact self.now }
+        ensures body { self.now.kind ≡ Positive → self.now.body ≡ positive_body result.now }
+        ensures rdatas { self.now.kind ≡ Positive → AreRdatas self.now.rtype result.now }
+        ensures none { self.now.kind ≢ Positive → result.now ≡ [] }
+        ensures lawful { IsObservation self.now }
     {
         match &self.body {
             Body::Records(rdatas) => rdatas,
@@ -221,10 +224,11 @@ impl<A: Allocator> Observation<A> {
     /// The owner and the RDATA of the SOA that a negative observation rests on; `None` of a
     /// positive one.
     pub fn soa(&self) -> Option<(&Name<A>, &[u8])>
-        ensures cases { MatchOption result (self.now.kind ≡ 3) (λ p. IsNegativeKind self.now.kind) }
+        ensures cases { MatchOption result (self.now.kind ≡ Positive)
+            (λ p. IsNegativeKind self.now.kind) }
         ensures body { IfSome result (λ p. self.now.body ≡ negative_body p.0.now p.1.now) }
         ensures denial { IfSome result (λ p. IsDenial self.now.name p.0.now p.1.now) }
-        ensures lawful { IsFact self.now }
+        ensures lawful { IsObservation self.now }
     {
         match &self.body {
             Body::Records(_) => None,
@@ -232,10 +236,10 @@ impl<A: Allocator> Observation<A> {
         }
     }
 
-    /// How many octets its body has, at most 8192.
+    /// How many octets its body has, at most `LONGEST_BODY`.
     pub fn body_len(&self) -> usize
         ensures value { result ≡ length self.now.body }
-        ensures bounded { result ≤ 8192 }
+        ensures bounded { result ≤ LONGEST_BODY }
     {
         self.body.len()
     }
@@ -281,7 +285,7 @@ impl<A: Allocator> Observation<A> {
 
 /// The kind of a denial of a type, or of all of them.
 fn kind_of_denial(rtype: Option<u16>) -> Kind
-    ensures { kind_number result ≡ denied_kind rtype }
+    ensures { result ≡ denied_kind rtype }
 {
     match rtype {
         None => Kind::NameError,

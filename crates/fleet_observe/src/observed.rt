@@ -4,12 +4,14 @@ ghost use Rattle.std.specs.Prelude.{◌≡◌, ◌≢◌, ◌↔◌, ℕ, ◌≤
 ghost use Rattle.fleet_name.specs.Name.{labels_of};
 ghost use Rattle.fleet_observe.specs.Members.{Has};
 ghost use Rattle.fleet_observe.specs.Body.{positive_body};
-ghost use Rattle.fleet_observe.specs.Fact.{IsRank, IsNegativeRank, AreFacts};
+ghost use Rattle.fleet_observe.specs.Observation.{IsRank, IsDenialRank, AreObservations};
 ghost use Rattle.fleet_observe.specs.Checks.{IsDeniedType, denied_kind, denied_type};
-ghost use Rattle.fleet_observe.specs.RrSet.{Set, set_of, sets_of, SpellsName};
-ghost use Rattle.fleet_observe.specs.Digest.{soa_in, soa_of, ending_of, denied_by, first_or, IsLawfulSet, IsLawfulLink, IsLawfulSoa, IsLawful};
-ghost use Rattle.fleet_observe.specs.Observed.{positive_facts, negative_facts, answer_rank, negative_rank, link_facts, end_facts, ns_facts, observed_facts};
+ghost use Rattle.fleet_observe.specs.RrSet.{RrSetData, rrset_data, all_rrset_data, SpellsName};
+ghost use Rattle.fleet_observe.specs.Digest.{soa_data_if_any, soa_data, end_data, denied_by, first_or, IsLawfulSet, IsLawfulLink, IsLawfulSoa, IsLawful};
+ghost use Rattle.fleet_observe.specs.Observed.{positive_observations, denial_observations, answer_rank, negative_rank, link_observations, end_observations, ns_observations, reply_observations};
+ghost use Rattle.fleet_observe.specs.declared.bounds.TheConstants.{LONGEST_BODY};
 
+use crate::bounds::LATEST;
 use crate::checks::are_short;
 use crate::moment::Moment;
 use crate::names::name_of;
@@ -37,7 +39,8 @@ fn copies<A: Allocator + Copy>(
 
 /// Whether an RRset is observed: its TTL is not zero and its body not too long.
 fn is_observed<A: Allocator>(set: &RrSet<A>) -> bool
-    ensures { IsTrue result ↔ ((1 ≤ set.now.ttl) × (length (positive_body set.now.rdatas) ≤ 8192)) }
+    ensures { IsTrue result
+        ↔ ((1 ≤ set.now.ttl) × (length (positive_body set.now.rdatas) ≤ LONGEST_BODY)) }
 {
     if set.ttl == 0 {
         return false;
@@ -53,11 +56,12 @@ fn put_set<A: Allocator + Copy>(
     stamp: Moment,
     out: &mut Vec<Observation<A>, A>,
 ) -> Result<(), AllocError>
-    requires lawful { IsLawfulSet (set_of set.now) }
+    requires lawful { IsLawfulSet (rrset_data set.now) }
     requires ranked { IsRank rank }
     ensures added { OnOk result (out.new.items
-        ≡ out.old.items ++ positive_facts (set_of set.now) rank stamp) }
-    ensures memory { IfErr result (λ _. positive_facts (set_of set.now) rank stamp ≢ []) }
+        ≡ out.old.items ++ positive_observations (rrset_data set.now) rank stamp) }
+    ensures memory { IfErr result
+        (λ _. positive_observations (rrset_data set.now) rank stamp ≢ []) }
 {
     if !is_observed(set) {
         return Ok(());
@@ -84,14 +88,16 @@ fn put_denial<A: Allocator + Copy>(
 ) -> Result<(), AllocError>
     requires spelled { SpellsName denied.now }
     requires typed { IsDeniedType rtype }
-    requires ranked { IsNegativeRank rank }
-    requires lawful { IsLawfulSoa (labels_of denied.now) (soa_of soa.now) }
+    requires ranked { IsDenialRank rank }
+    requires lawful { IsLawfulSoa (labels_of denied.now) (soa_data soa.now) }
     ensures added { OnOk result (out.new.items
         ≡ out.old.items
-        ++ negative_facts (denied_kind rtype) (labels_of denied.now) (denied_type rtype) rank stamp
-        (Some (soa_of soa.now))) }
-    ensures memory { IfErr result (λ _. negative_facts (denied_kind rtype) (labels_of denied.now)
-        (denied_type rtype) rank stamp (Some (soa_of soa.now)) ≢ []) }
+        ++ denial_observations (denied_kind rtype) (labels_of denied.now) (denied_type rtype) rank
+        stamp
+        (Some (soa_data soa.now))) }
+    ensures memory { IfErr result
+        (λ _. denial_observations (denied_kind rtype) (labels_of denied.now)
+        (denied_type rtype) rank stamp (Some (soa_data soa.now)) ≢ []) }
 {
     if soa.ttl == 0 {
         return Ok(());
@@ -124,8 +130,8 @@ fn rank_of<A: Allocator>(aa: bool, name: &Name<A>, owner: &Name<A>) -> u8
 
 /// The rank of a denial.
 fn rank_denied<A: Allocator>(aa: bool, chain: &[RrSet<A>]) -> u8
-    ensures rank { result ≡ negative_rank aa (sets_of chain.now) }
-    ensures ranked { IsNegativeRank result }
+    ensures rank { result ≡ negative_rank aa (all_rrset_data chain.now) }
+    ensures ranked { IsDenialRank result }
 {
     match chain {
         [] => { if aa { 3 } else { 1 } }
@@ -145,8 +151,8 @@ fn first_of<'a, A: Allocator>(octets: &'a [u8], rdatas: &'a [Octets<A>]) -> &'a 
 
 /// The name where the walk ended, in full.
 fn denied_at<'a, A: Allocator>(name: &'a Name<A>, chain: &'a [RrSet<A>]) -> &'a [u8]
-    requires { (x : Set) → Has (sets_of chain.now) x → IsLawfulLink x }
-    ensures name { labels_of result.now ≡ denied_by name.now (sets_of chain.now) }
+    requires { (x : RrSetData) → Has (all_rrset_data chain.now) x → IsLawfulLink x }
+    ensures name { labels_of result.now ≡ denied_by name.now (all_rrset_data chain.now) }
     ensures spelled { SpellsName result.now }
 {
     let mut at = name.octets();
@@ -164,9 +170,9 @@ fn put_links<A: Allocator + Copy>(
     out: &mut Vec<Observation<A>, A>,
 ) -> Result<(), AllocError>
     ensures added { OnOk result (out.new.items
-        ≡ out.old.items ++ link_facts digest.now.aa digest.now.name stamp digest.now.chain) }
+        ≡ out.old.items ++ link_observations digest.now.aa digest.now.name stamp digest.now.chain) }
     ensures memory { IfErr result (λ _.
-        link_facts digest.now.aa digest.now.name stamp digest.now.chain ≢ []) }
+        link_observations digest.now.aa digest.now.name stamp digest.now.chain ≢ []) }
 {
     let name = digest.name();
     let aa = digest.aa();
@@ -185,8 +191,8 @@ fn put_end<A: Allocator + Copy>(
     out: &mut Vec<Observation<A>, A>,
 ) -> Result<(), AllocError>
     ensures added { OnOk result (out.new.items
-        ≡ out.old.items ++ end_facts digest.now stamp digest.now.end) }
-    ensures memory { IfErr result (λ _. end_facts digest.now stamp digest.now.end ≢ []) }
+        ≡ out.old.items ++ end_observations digest.now stamp digest.now.end) }
+    ensures memory { IfErr result (λ _. end_observations digest.now stamp digest.now.end ≢ []) }
 {
     let name = digest.name();
     let aa = digest.aa();
@@ -211,8 +217,9 @@ fn put_ns<A: Allocator + Copy>(
     stamp: Moment,
     out: &mut Vec<Observation<A>, A>,
 ) -> Result<(), AllocError>
-    ensures added { OnOk result (out.new.items ≡ out.old.items ++ ns_facts stamp digest.now.ns) }
-    ensures memory { IfErr result (λ _. ns_facts stamp digest.now.ns ≢ []) }
+    ensures added { OnOk result (out.new.items
+        ≡ out.old.items ++ ns_observations stamp digest.now.ns) }
+    ensures memory { IfErr result (λ _. ns_observations stamp digest.now.ns ≢ []) }
     ensures lawful { IsLawful digest.now }
 {
     for set in digest.ns() {
@@ -223,20 +230,20 @@ fn put_ns<A: Allocator + Copy>(
 
 /// The observations of a reply at a moment, in this order: the links, the records or the denial
 /// with its SOA, the NS RRsets. Left out are those of a TTL of zero, RRsets whose body has more
-/// than 8192 octets, and a denial without SOA. Only where there are any is memory wanted.
+/// than `LONGEST_BODY` octets, and a denial without SOA. Only where there are any is memory wanted.
 pub fn observations<A: Allocator + Copy>(
     alloc: A,
     digest: &Digest<A>,
     stamp: Moment,
 ) -> Result<Vec<Observation<A>, A>, AllocError>
-    ensures observed { IfOk result (λ os. os.items ≡ observed_facts digest.now stamp) }
-    ensures memory { IfErr result (λ _. observed_facts digest.now stamp ≢ []) }
-    ensures lawful { IfOk result (λ os. AreFacts os.items) }
+    ensures observed { IfOk result (λ os. os.items ≡ reply_observations digest.now stamp) }
+    ensures memory { IfErr result (λ _. reply_observations digest.now stamp ≢ []) }
+    ensures lawful { IfOk result (λ os. AreObservations os.items) }
 {
     let mut out = Vec::new(alloc);
     put_links(alloc, digest, stamp, &mut out)?;
     put_end(alloc, digest, stamp, &mut out)?;
     put_ns(alloc, digest, stamp, &mut out)?;
-    prove!(stamp.value() <= Moment::LATEST);
+    prove!(stamp.value() <= LATEST);
     Ok(out)
 }

@@ -1,11 +1,11 @@
 //! The order of observations: the greater is preferred.
 
 ghost use Rattle.std.specs.Prelude.{◌≡◌, ℕ, ◌++◌};
-ghost use Rattle.fleet_observe.specs.Body.{positive_body, sized};
+ghost use Rattle.fleet_observe.specs.Body.{positive_body, octets_with_length};
 ghost use Rattle.std.specs.Ordering.{ordering_then};
 ghost use Rattle.std.specs.Cmp.{IsTotalOrder};
 ghost use Rattle.std.specs.declared.cmp.Ordering.TheVariants.{Equal};
-ghost use Rattle.fleet_observe.specs.Fact.{Fact};
+ghost use Rattle.fleet_observe.specs.Observation.{ObservationData};
 ghost use Rattle.fleet_observe.specs.Preference.{octets_cmp, name_cmp, preference};
 
 use crate::observation::Observation;
@@ -15,7 +15,7 @@ use std::cmp::Ordering;
 
 /// How octets behind their number compare.
 fn sized_order(octets: &[u8], others: &[u8]) -> Ordering
-    ensures { result ≡ octets_cmp (sized octets.now) (sized others.now) }
+    ensures { result ≡ octets_cmp (octets_with_length octets.now) (octets_with_length others.now) }
 {
     octets.len().cmp(&others.len()).then(octets.cmp(others))
 }
@@ -129,5 +129,5 @@ impl<A: Allocator> PartialOrd for Observation<A> {
 /// nothing when run.
 pub fn preference_laws()
     ensures total { IsTotalOrder preference }
-    ensures exact { (x y : Fact) → preference x y ≡ Equal → x ≡ y }
+    ensures exact { (x y : ObservationData) → preference x y ≡ Equal → x ≡ y }
 {}

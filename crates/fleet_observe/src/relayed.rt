@@ -1,10 +1,10 @@
 //! Replies made of a digest.
 
 ghost use Rattle.std.specs.Prelude.{◌≡◌, ℕ, ◌<◌, IfOk, OnOk};
-ghost use Rattle.fleet_wire.specs.Question.{asked};
+ghost use Rattle.fleet_wire.specs.Question.{question_data};
 ghost use Rattle.fleet_wire.specs.Outline.{octets_of_outline};
-ghost use Rattle.fleet_observe.specs.Digest.{ending_of, soa_in};
-ghost use Rattle.fleet_observe.specs.Relayed.{code_of, is_cut, soa_lines, relayed, with_authorities, with_end};
+ghost use Rattle.fleet_observe.specs.Digest.{end_data, soa_data_if_any};
+ghost use Rattle.fleet_observe.specs.Relayed.{code_of, is_cut, soa_lines, relay_outline, with_authority_lines, with_end};
 
 use crate::rows::{add_rows, add_soa};
 use crate::soa::Soa;
@@ -15,7 +15,7 @@ use std::alloc::{AllocError, Allocator};
 
 /// The RCODE of an end.
 fn code_of_end<A: Allocator>(end: &End<A>) -> u8
-    ensures { result ≡ code_of (ending_of end.now) }
+    ensures { result ≡ code_of (end_data end.now) }
 {
     match end {
         End::Records(_) => 0,
@@ -28,7 +28,7 @@ fn code_of_end<A: Allocator>(end: &End<A>) -> u8
 
 /// Whether a reply with this end is cut off.
 fn is_cut_off<A: Allocator>(end: &End<A>) -> bool
-    ensures { result ≡ is_cut (ending_of end.now) }
+    ensures { result ≡ is_cut (end_data end.now) }
 {
     match end {
         End::Records(_) => false,
@@ -45,7 +45,7 @@ fn put_soa<'a, A: Allocator + Copy>(
     soa: &'a Option<Soa<A>>,
 ) -> Result<(), AllocError>
     ensures { OnOk result (outline.new
-        ≡ with_authorities outline.old (soa_lines (soa_in soa.entry.now))) }
+        ≡ with_authority_lines outline.old (soa_lines (soa_data_if_any soa.entry.now))) }
 {
     match soa {
         None => Ok(()),
@@ -58,7 +58,7 @@ fn put_end<'a, A: Allocator + Copy>(
     outline: &mut Outline<'a, A>,
     end: &'a End<A>,
 ) -> Result<(), AllocError>
-    ensures { OnOk result (outline.new ≡ with_end outline.old (ending_of end.entry.now)) }
+    ensures { OnOk result (outline.new ≡ with_end outline.old (end_data end.entry.now)) }
 {
     match end {
         End::Records(set) => add_rows(outline, set.rows()),
@@ -77,7 +77,8 @@ fn outline_of<'a, A: Allocator + Copy>(
     id: u16,
     rd: bool,
 ) -> Result<Outline<'a, A>, AllocError>
-    ensures { IfOk result (λ o. o ≡ relayed digest.entry.now (asked question.entry.now) id rd) }
+    ensures { IfOk result (λ o. o
+        ≡ relay_outline digest.entry.now (question_data question.entry.now) id rd) }
 {
     let end = digest.end();
     let rcode = code_of_end(end);
@@ -103,7 +104,7 @@ pub fn relay<A: Allocator + Copy>(
     rd: bool,
 ) -> Result<Vec<u8, A>, AllocError>
     ensures { IfOk result (λ v.
-        v.items ≡ octets_of_outline (relayed digest.now (asked question.now) id rd)) }
+        v.items ≡ octets_of_outline (relay_outline digest.now (question_data question.now) id rd)) }
 {
     let outline = outline_of(alloc, digest, question, id, rd)?;
     write_reply(alloc, &outline)

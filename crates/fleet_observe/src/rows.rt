@@ -2,12 +2,13 @@
 
 ghost use Rattle.std.specs.Prelude.{◌≡◌, OnOk, OnErr};
 ghost use Rattle.fleet_wire.specs.Outline.{line, with_authority};
-ghost use Rattle.fleet_observe.specs.RrSet.{set_lent};
-ghost use Rattle.fleet_observe.specs.Relayed.{set_lines, with_answers};
+ghost use Rattle.fleet_wire.specs.declared.rtype.TheConstants.{SOA};
+ghost use Rattle.fleet_observe.specs.RrSet.{rrset_of_rows};
+ghost use Rattle.fleet_observe.specs.Relayed.{set_lines, with_answer_lines, HasFirstOf};
 
-use crate::checks::SOA;
 use fleet_name::{Name, Octets};
 use fleet_wire::Outline;
+use fleet_wire::rtype::SOA;
 use std::alloc::{AllocError, Allocator, Global};
 
 /// Records of the class IN of one owner and type, lent by an RRset or an observation.
@@ -24,17 +25,22 @@ pub struct Rows<'a, A: Allocator = Global> {
 }
 
 /// Adds records at the end of the answer section of a reply, in the order of their RDATAs: a link
-/// of a chain, or the records that it leads to. Where there is no memory for all of them, some may
-/// have been added.
+/// of a chain, or the records that it leads to. Where there is no memory for all of them, so many of
+/// the first ones have been added, and nothing else is changed.
 pub fn add_rows<'a, A: Allocator + Copy>(
     outline: &mut Outline<'a, A>,
     rows: Rows<'a, A>,
 ) -> Result<(), AllocError>
-    ensures { OnOk result (outline.new
-        ≡ with_answers outline.old (set_lines (set_lent rows.entry))) }
+    ensures ok { OnOk result (outline.new
+        ≡ with_answer_lines outline.old (set_lines (rrset_of_rows rows.entry))) }
+    ensures err { OnErr result (HasFirstOf outline.old (set_lines (rrset_of_rows rows.entry))
+        outline.new) }
 {
     for rdata in rows.rdatas {
-        outline.answer(rows.name, rows.rtype, rows.ttl, rdata.as_slice())?;
+        match outline.answer(rows.name, rows.rtype, rows.ttl, rdata.as_slice()) {
+            Ok(()) => (),
+            Err(error) => return Err(error),
+        }
     }
     Ok(())
 }
@@ -49,7 +55,7 @@ pub fn add_soa<'a, A: Allocator + Copy>(
     rdata: &'a [u8],
 ) -> Result<(), AllocError>
     ensures ok { OnOk result (outline.new
-        ≡ with_authority outline.old (line owner.entry.now 6 ttl rdata.entry.now)) }
+        ≡ with_authority outline.old (line owner.entry.now SOA ttl rdata.entry.now)) }
     ensures err { OnErr result (outline.new ≡ outline.old) }
 {
     outline.authority(owner, SOA, ttl, rdata)

@@ -2,11 +2,12 @@
 
 ghost use Rattle.std.specs.Prelude.{◌≡◌, ℕ, ◌≤◌, ◌⊎◌, ◌↔◌, List, length, IfOk, OnOk, IsTrue};
 ghost use Rattle.fleet_name.specs.Name.{labels_of};
-ghost use Rattle.fleet_wire.specs.Record.{told, all_told};
+ghost use Rattle.fleet_wire.specs.Record.{record_data, all_record_data};
 ghost use Rattle.fleet_observe.specs.Members.{Has, IsAscending};
-ghost use Rattle.fleet_observe.specs.RrSet.{SpellsName, Belongs, InSet, IsTtl, IsRrSet, read_ttl, set_of, set_lent, count_below};
+ghost use Rattle.fleet_observe.specs.RrSet.{SpellsName, Belongs, InSet, IsTtl, IsRrSet, read_ttl, rrset_data, rrset_of_rows, count_below};
 
-use crate::checks::{LONGEST_LIFE, is_data_type};
+use crate::bounds::LONGEST_LIFE;
+use crate::checks::is_data_type;
 use crate::rdatas::Rdatas;
 use crate::rows::Rows;
 use fleet_name::{Name, Octets};
@@ -20,7 +21,7 @@ pub struct RrSet<A: Allocator = Global> {
     pub name: Name<A>,
     /// The type of the records.
     pub rtype: u16,
-    /// The least of their TTLs, in seconds, at most 86400 (RFC 2181 5.2, 8).
+    /// The least of their TTLs, in seconds, at most `LONGEST_LIFE` (RFC 2181 5.2, 8).
     pub ttl: u32,
     /// Their RDATAs, ascending as octets, each once.
     pub rdatas: Rdatas<A>,
@@ -29,7 +30,7 @@ pub struct RrSet<A: Allocator = Global> {
 impl<A: Allocator> RrSet<A> {
     /// Its records, as they are told in a reply.
     pub fn rows(&self) -> Rows<A>
-        ensures { set_lent result ≡ set_of self.now }
+        ensures { rrset_of_rows result ≡ rrset_data self.now }
     {
         Rows {
             name: &self.name,
@@ -43,7 +44,7 @@ impl<A: Allocator> RrSet<A> {
 /// Whether the record is of the RRset at this name, in full, and type.
 pub(crate) fn belongs<A: Allocator>(candidate: &Record<A>, name: &[u8], rtype: u16) -> bool
     requires { SpellsName name.now }
-    ensures { IsTrue result ↔ Belongs (labels_of name.now) rtype (told candidate.now) }
+    ensures { IsTrue result ↔ Belongs (labels_of name.now) rtype (record_data candidate.now) }
 {
     if candidate.class != 1 {
         return false;
@@ -57,7 +58,7 @@ pub(crate) fn belongs<A: Allocator>(candidate: &Record<A>, name: &[u8], rtype: u
     candidate.name.octets() == name
 }
 
-/// A TTL as it is read: zero with its top bit set (RFC 2181 8), and at most a day.
+/// A TTL as it is read: zero with its top bit set (RFC 2181 8), and at most `LONGEST_LIFE`.
 pub(crate) fn bounded(ttl: u32) -> u32
     ensures { result ≡ read_ttl ttl }
 {
@@ -71,8 +72,9 @@ pub(crate) fn bounded(ttl: u32) -> u32
 /// The least TTL of an RRset.
 fn least_ttl<A: Allocator>(section: &[Record<A>], name: &[u8], rtype: u16) -> u32
     requires spelled { SpellsName name.now }
-    requires some { (d : List ℕ) × InSet (all_told section.now) (labels_of name.now) rtype d }
-    ensures { IsTtl (all_told section.now) (labels_of name.now) rtype result }
+    requires some { (d : List ℕ) × InSet (all_record_data section.now) (labels_of name.now) rtype
+        d }
+    ensures { IsTtl (all_record_data section.now) (labels_of name.now) rtype result }
 {
     let mut least = LONGEST_LIFE;
     for record in section {
@@ -133,8 +135,9 @@ pub(crate) fn gather<A: Allocator + Copy>(
     owner: &Name<A>,
     rtype: u16,
 ) -> Result<RrSet<A>, AllocError>
-    requires { (d : List ℕ) × InSet (all_told section.now) owner.now rtype d }
-    ensures { IfOk result (λ x. IsRrSet (all_told section.now) owner.now rtype (set_of x)) }
+    requires { (d : List ℕ) × InSet (all_record_data section.now) owner.now rtype d }
+    ensures { IfOk result (λ x. IsRrSet (all_record_data section.now) owner.now rtype
+        (rrset_data x)) }
 {
     let name = owner.octets();
     let mut rdatas = Vec::new(alloc);

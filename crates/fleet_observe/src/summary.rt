@@ -2,21 +2,21 @@
 
 ghost use Rattle.std.specs.Prelude.{◌≡◌, ℕ, ◌⊎◌, List, [], IfOk};
 ghost use Rattle.fleet_name.specs.Name.{labels_of};
-ghost use Rattle.fleet_wire.specs.Record.{all_told};
+ghost use Rattle.fleet_wire.specs.Record.{all_record_data};
 ghost use Rattle.fleet_wire.specs.Message.{IsRead};
-ghost use Rattle.fleet_observe.specs.RrSet.{SpellsName, sets_of};
+ghost use Rattle.fleet_observe.specs.RrSet.{SpellsName, all_rrset_data};
 ghost use Rattle.fleet_observe.specs.Walk.{ArePlainRecords, HasWalk, IsFollowed, Ends};
-ghost use Rattle.fleet_observe.specs.Digest.{ending_of, IsLawful};
+ghost use Rattle.fleet_observe.specs.Digest.{end_data, IsLawful};
 ghost use Rattle.fleet_observe.specs.Meaning.{IsServed, IsMeaning, IsEnd, Tells, AsksWalk, IsWalkable};
 
 use crate::authority::authority_sets;
-use crate::checks::CNAME;
 use crate::denial::soa_for;
 use crate::names::name_of;
 use crate::rrset::{RrSet, gather};
 use crate::told::End;
 use crate::walk::{Step, found_at, step_at};
 use fleet_name::Name;
+use fleet_wire::rtype::CNAME;
 use fleet_wire::{Message, Record};
 use std::alloc::{AllocError, Allocator, Global};
 use std::marker::Model;
@@ -34,27 +34,27 @@ pub struct Digest<A: Allocator = Global> {
 }
 
 impl<A: Allocator> Model for Digest<A> {
-    ghost use Rattle.fleet_observe.specs.RrSet.{sets_of};
-    ghost use Rattle.fleet_observe.specs.Digest.{Summary, ending_of, IsLawful};
+    ghost use Rattle.fleet_observe.specs.RrSet.{all_rrset_data};
+    ghost use Rattle.fleet_observe.specs.Digest.{DigestData, end_data, IsLawful};
 
-    ghost Value = { Summary };
+    ghost Value = { DigestData };
 
     ghost view = { λ d. record {
       name = d.name;
       rtype = d.rtype;
       aa = d.aa;
-      chain = sets_of d.chain.items;
-      end = ending_of d.end;
-      ns = sets_of d.ns.items;
+      chain = all_rrset_data d.chain.items;
+      end = end_data d.end;
+      ns = all_rrset_data d.ns.items;
     } };
 
     ghost invariant = { λ d. IsLawful (record {
       name = d.name;
       rtype = d.rtype;
       aa = d.aa;
-      chain = sets_of d.chain.items;
-      end = ending_of d.end;
-      ns = sets_of d.ns.items;
+      chain = all_rrset_data d.chain.items;
+      end = end_data d.end;
+      ns = all_rrset_data d.ns.items;
     }) };
 }
 
@@ -83,9 +83,9 @@ impl<A: Allocator> Digest<A> {
         self.aa
     }
 
-    /// The links of the walk, in order: at most 8 CNAME RRsets of one RDATA each.
+    /// The links of the walk, in order: at most `MOST_LINKS` CNAME RRsets of one RDATA each.
     pub fn chain(&self) -> &[RrSet<A>]
-        ensures chain { sets_of result.now ≡ self.now.chain }
+        ensures chain { all_rrset_data result.now ≡ self.now.chain }
         ensures lawful { IsLawful self.now }
     {
         &self.chain
@@ -93,7 +93,7 @@ impl<A: Allocator> Digest<A> {
 
     /// How the reply ends.
     pub fn end(&self) -> &End<A>
-        ensures end { ending_of result.now ≡ self.now.end }
+        ensures end { end_data result.now ≡ self.now.end }
         ensures lawful { IsLawful self.now }
     {
         &self.end
@@ -102,7 +102,7 @@ impl<A: Allocator> Digest<A> {
     /// The NS RRsets of the authority section that the reply is an authority for, in order of first
     /// appearance.
     pub fn ns(&self) -> &[RrSet<A>]
-        ensures ns { sets_of result.now ≡ self.now.ns }
+        ensures ns { all_rrset_data result.now ≡ self.now.ns }
         ensures lawful { IsLawful self.now }
     {
         &self.ns
@@ -123,9 +123,9 @@ fn follow<'a, A: Allocator + Copy>(
     rtype: u16,
 ) -> Result<Followed<'a, A>, AllocError>
     requires spelled { SpellsName name.now }
-    requires plain { ArePlainRecords (all_told answer.now) }
-    requires walk { HasWalk (all_told answer.now) rtype (labels_of name.now) }
-    ensures { IfOk result (IsFollowed (all_told answer.now) rtype (labels_of name.now)) }
+    requires plain { ArePlainRecords (all_record_data answer.now) }
+    requires walk { HasWalk (all_record_data answer.now) rtype (labels_of name.now) }
+    ensures { IfOk result (IsFollowed (all_record_data answer.now) rtype (labels_of name.now)) }
 {
     let mut chain = Vec::new(alloc);
     let mut at = name;
@@ -147,7 +147,7 @@ fn end_of<A: Allocator + Copy>(
     requires read { IsRead message.now }
     requires ends { Ends message.now.answer message.now.question.rtype (labels_of at.now) }
     requires asks { AsksWalk message.now }
-    ensures { IfOk result (λ e. IsEnd message.now (labels_of at.now) (ending_of e)) }
+    ensures { IfOk result (λ e. IsEnd message.now (labels_of at.now) (end_data e)) }
 {
     let answer = message.answer();
     let rtype = message.question().rtype;
@@ -173,7 +173,7 @@ pub(crate) fn short<A: Allocator + Copy>(
 ) -> Digest<A>
     requires served { IsServed message.now }
     requires named { name ≡ message.now.question.name }
-    requires tells { Tells message.now [] (ending_of end) }
+    requires tells { Tells message.now [] (end_data end) }
     requires idle { ¬ AsksWalk message.now }
     ensures { IsMeaning message.now result }
 {

@@ -2,13 +2,14 @@
 
 ghost use Rattle.std.specs.Prelude.{◌≡◌, ℕ, ◌≤◌, ◌⊎◌, ◌↔◌, List, IsTrue, MatchOption};
 ghost use Rattle.fleet_name.specs.Name.{labels_of};
-ghost use Rattle.fleet_wire.specs.Record.{told, all_told};
+ghost use Rattle.fleet_wire.specs.Record.{record_data, all_record_data};
 ghost use Rattle.fleet_observe.specs.RrSet.{SpellsName};
 ghost use Rattle.fleet_observe.specs.Walk.{ArePlainRecords, IsFound, IsStep, HasWalk, Ends, EndsFound, EndsBare, IsOf};
 
-use crate::checks::CNAME;
+use crate::bounds::MOST_LINKS;
 use crate::rrset::belongs;
 use fleet_wire::Record;
+use fleet_wire::rtype::CNAME;
 use std::alloc::Allocator;
 
 /// What an RRset has: its first record, where there is one.
@@ -31,7 +32,7 @@ pub(crate) enum Step<'a, A: Allocator> {
 /// Whether the RRset at this name and type has none, one or several RDATAs.
 fn look<'a, A: Allocator>(section: &'a [Record<A>], name: &[u8], rtype: u16) -> Found<'a, A>
     requires { SpellsName name.now }
-    ensures { IsFound (all_told section.now) (labels_of name.now) rtype result }
+    ensures { IsFound (all_record_data section.now) (labels_of name.now) rtype result }
 {
     let mut first: Option<&'a Record<A>> = None;
     for record in section {
@@ -59,8 +60,8 @@ pub(crate) fn step_at<'a, A: Allocator>(
     rtype: u16,
 ) -> Step<'a, A>
     requires spelled { SpellsName name.now }
-    requires plain { ArePlainRecords (all_told answer.now) }
-    ensures { IsStep (all_told answer.now) rtype (labels_of name.now) result }
+    requires plain { ArePlainRecords (all_record_data answer.now) }
+    ensures { IsStep (all_record_data answer.now) rtype (labels_of name.now) result }
 {
     match look(answer, name, rtype) {
         Found::One(record) => Step::Records(record),
@@ -82,11 +83,11 @@ pub(crate) fn step_at<'a, A: Allocator>(
 /// Whether there is a walk from this name, in full.
 pub(crate) fn has_walk<A: Allocator>(answer: &[Record<A>], name: &[u8], rtype: u16) -> bool
     requires spelled { SpellsName name.now }
-    requires plain { ArePlainRecords (all_told answer.now) }
-    ensures { IsTrue result ↔ HasWalk (all_told answer.now) rtype (labels_of name.now) }
+    requires plain { ArePlainRecords (all_record_data answer.now) }
+    ensures { IsTrue result ↔ HasWalk (all_record_data answer.now) rtype (labels_of name.now) }
 {
     let mut at = name;
-    for _ in 0..9usize {
+    for _ in 0..MOST_LINKS + 1 {
         match step_at(answer, at, rtype) {
             Step::Alias(alias) => at = alias.rdata.as_slice(),
             Step::Records(_) => return true,
@@ -104,10 +105,10 @@ pub(crate) fn found_at<'a, A: Allocator>(
     rtype: u16,
 ) -> Option<&'a Record<A>>
     requires spelled { SpellsName name.now }
-    requires plain { ArePlainRecords (all_told answer.now) }
-    requires ends { Ends (all_told answer.now) rtype (labels_of name.now) }
-    ensures { MatchOption result (EndsBare (all_told answer.now) rtype (labels_of name.now))
-        (λ r. IsOf (all_told answer.now) (labels_of name.now) rtype (told r.now)) }
+    requires plain { ArePlainRecords (all_record_data answer.now) }
+    requires ends { Ends (all_record_data answer.now) rtype (labels_of name.now) }
+    ensures { MatchOption result (EndsBare (all_record_data answer.now) rtype (labels_of name.now))
+        (λ r. IsOf (all_record_data answer.now) (labels_of name.now) rtype (record_data r.now)) }
 {
     match step_at(answer, name, rtype) {
         Step::Records(record) => Some(record),

@@ -4,28 +4,32 @@ use Rattle.std.specs.List.{count_by, flat_map, remove}
 use Rattle.std.proofs.lemmas.List.Sums.{sum_by-append}
 use Rattle.std.proofs.lemmas.List.Concat.{flat_map-append}
 use Rattle.fleet_name.specs.Places.{At}
-use Rattle.fleet_pending.specs.Asker.{Asker}
-use Rattle.fleet_pending.specs.Outstanding.{Open, Outstanding}
-use Rattle.fleet_pending.specs.Asking.{Joins, Opens, joins, opens, new_entry, moved_on}
-use Rattle.fleet_pending.specs.Calls.{Call, ask, settle, advance, clear, Does, Run, accepted, given_back, cleared, open_waiters, EachAsOften}
+use Rattle.fleet_pending.specs.Waiter.{WaiterData}
+use Rattle.fleet_pending.specs.PendingData.{EntryData, PendingData}
+use Rattle.fleet_pending.specs.Asking.{Joins, Opens, joins, opens, new_entry, with_next_upstream}
+use Rattle.fleet_pending.specs.Calls.{Call, ask, settle, advance, clear, Does, Run, waiters_accepted, waiters_returned, waiters_cleared, open_waiters, EachAsOften}
 use Rattle.fleet_pending.specs.declared.answer.Asked.{Asked}
 use Rattle.fleet_pending.specs.declared.answer.Asked.TheVariants.{Again, Joined, Send}
 use Rattle.fleet_pending.specs.declared.answer.PendingFault.{PendingFault}
 use Rattle.fleet_pending.specs.declared.answer.PendingFault.TheVariants.{Full, WaitersFull, OutOfMemory}
 
-count-append : (test : Asker → Bool) (xs ys : List Asker) → count_by test (xs ++ ys) ≡ count_by test xs + count_by test ys
+count-append : (test : WaiterData → Bool) (xs ys : List WaiterData)
+    → count_by test (xs ++ ys) ≡ count_by test xs + count_by test ys
 count-append test xs ys = sum_by-append _ xs ys
 
-abbrev in_all : (Asker → Bool) → List Open → ℕ
+abbrev in_all : (WaiterData → Bool) → List EntryData → ℕ
 in_all test es = count_by test (flat_map (λ e. e.waiters) es)
 
-count_set : (test : Asker → Bool) (es : List Open) (i : ℕ) (e f : Open) → At es i e → in_all test (slice_set es i f) + count_by test e.waiters ≡ in_all test es + count_by test f.waiters
+count_set : (test : WaiterData → Bool) (es : List EntryData) (i : ℕ) (e f : EntryData) → At es i e
+    → in_all test (slice_set es i f) + count_by test e.waiters ≡ in_all test es + count_by test
+    f.waiters
 count_set test [] i e f t = absurd (let q : None ≡ Some e = t in cc)
 count_set test (x ∷ es) zero e f t =
     let q : x ≡ e = (let p : Some x ≡ Some e = t in cc) in
     let a = count-append test f.waiters (flat_map (λ v. v.waiters) es) in
     let b = count-append test x.waiters (flat_map (λ v. v.waiters) es) in
-    let d : count_by test x.waiters ≡ count_by test e.waiters = ap (λ v. count_by test v.waiters) q in
+    let d : count_by test x.waiters ≡ count_by test e.waiters =
+    ap (λ v. count_by test v.waiters) q in
     omega (arith, a, b, d)
 count_set test (x ∷ es) (suc i) e f t =
     let r = count_set test es i e f t in
@@ -33,12 +37,14 @@ count_set test (x ∷ es) (suc i) e f t =
     let b = count-append test x.waiters (flat_map (λ v. v.waiters) es) in
     omega (arith, a, b, r)
 
-count_remove : (test : Asker → Bool) (es : List Open) (i : ℕ) (e : Open) → At es i e → in_all test es ≡ count_by test e.waiters + in_all test (remove es i)
+count_remove : (test : WaiterData → Bool) (es : List EntryData) (i : ℕ) (e : EntryData) → At es i e
+    → in_all test es ≡ count_by test e.waiters + in_all test (remove es i)
 count_remove test [] i e t = absurd (let q : None ≡ Some e = t in cc)
 count_remove test (x ∷ es) zero e t =
     let q : x ≡ e = (let p : Some x ≡ Some e = t in cc) in
     let b = count-append test x.waiters (flat_map (λ v. v.waiters) es) in
-    let d : count_by test x.waiters ≡ count_by test e.waiters = ap (λ v. count_by test v.waiters) q in
+    let d : count_by test x.waiters ≡ count_by test e.waiters =
+    ap (λ v. count_by test v.waiters) q in
     omega (arith, b, d)
 count_remove test (x ∷ es) (suc i) e t =
     let r = count_remove test es i e t in
@@ -46,44 +52,57 @@ count_remove test (x ∷ es) (suc i) e t =
     let b = count-append test x.waiters (flat_map (λ v. v.waiters) es) in
     omega (arith, a, b, r)
 
-count_push : (test : Asker → Bool) (es : List Open) (f : Open) → in_all test (es ++ f ∷ []) ≡ in_all test es + count_by test f.waiters
+count_push : (test : WaiterData → Bool) (es : List EntryData) (f : EntryData)
+    → in_all test (es ++ f ∷ []) ≡ in_all test es + count_by test f.waiters
 count_push test es f =
-    let a : in_all test (es ++ f ∷ []) ≡ count_by test (flat_map (λ v. v.waiters) es ++ (f.waiters ++ [])) = ap (count_by test) (flat_map-append (λ v. v.waiters) es (f ∷ [])) in
+    let a : in_all test (es ++ f ∷ []) ≡ count_by test
+    (flat_map (λ v. v.waiters) es ++ (f.waiters ++ [])) =
+    ap (count_by test) (flat_map-append (λ v. v.waiters) es (f ∷ [])) in
     let b = count-append test (flat_map (λ v. v.waiters) es) (f.waiters ++ []) in
     let d = count-append test f.waiters [] in
     let z : count_by test [] ≡ 0 = refl in
     omega (arith, a, b, d, z)
 
-join_step : (test : Asker → Bool) (es : List Open) (i moment word : ℕ) (e f : Open) (w : Asker) (r : Result Asked PendingFault) → At es i e → Joins e w r f → in_all test es + count_by test (accepted (ask w moment word r)) ≡ in_all test (slice_set es i f)
+join_step : (test : WaiterData → Bool) (es : List EntryData) (i moment word : ℕ) (e f : EntryData)
+    (w : WaiterData) (r : Result Asked PendingFault) → At es i e → Joins e w r f
+    → in_all test es + count_by test (waiters_accepted (ask w moment word r)) ≡ in_all test
+    (slice_set es i f)
 join_step test es i moment word e f w (Ok Again) t j =
     let s = count_set test es i e f t in
-    let d : count_by test f.waiters ≡ count_by test e.waiters = ap (λ v. count_by test v.waiters) j.1 in
+    let d : count_by test f.waiters ≡ count_by test e.waiters =
+    ap (λ v. count_by test v.waiters) j.1 in
     let z : count_by test [] ≡ 0 = refl in
     omega (arith, s, d, z)
 join_step test es i moment word e f w (Ok Joined) t j =
     let s = count_set test es i e f t in
-    let d : count_by test f.waiters ≡ count_by test (e.waiters ++ w ∷ []) = ap (λ v. count_by test v.waiters) j.2 in
+    let d : count_by test f.waiters ≡ count_by test (e.waiters ++ w ∷ []) =
+    ap (λ v. count_by test v.waiters) j.2 in
     let a = count-append test e.waiters (w ∷ []) in
     omega (arith, s, d, a)
 join_step test es i moment word e f w (Ok (Send u id)) t j = absurd j
 join_step test es i moment word e f w (Err Full) t j = absurd j
 join_step test es i moment word e f w (Err WaitersFull) t j =
     let s = count_set test es i e f t in
-    let d : count_by test f.waiters ≡ count_by test e.waiters = ap (λ v. count_by test v.waiters) j.2 in
+    let d : count_by test f.waiters ≡ count_by test e.waiters =
+    ap (λ v. count_by test v.waiters) j.2 in
     let z : count_by test [] ≡ 0 = refl in
     omega (arith, s, d, z)
 join_step test es i moment word e f w (Err OutOfMemory) t j =
     let s = count_set test es i e f t in
-    let d : count_by test f.waiters ≡ count_by test e.waiters = ap (λ v. count_by test v.waiters) j.2 in
+    let d : count_by test f.waiters ≡ count_by test e.waiters =
+    ap (λ v. count_by test v.waiters) j.2 in
     let z : count_by test [] ≡ 0 = refl in
     omega (arith, s, d, z)
 
-open_step : (test : Asker → Bool) (es fs : List Open) (moment word : ℕ) (w : Asker) (r : Result Asked PendingFault) → Opens es w moment word r fs → in_all test es + count_by test (accepted (ask w moment word r)) ≡ in_all test fs
+open_step : (test : WaiterData → Bool) (es fs : List EntryData) (moment word : ℕ) (w : WaiterData)
+    (r : Result Asked PendingFault) → Opens es w moment word r fs
+    → in_all test es + count_by test (waiters_accepted (ask w moment word r)) ≡ in_all test fs
 open_step test es fs moment word w (Ok Again) j = absurd j
 open_step test es fs moment word w (Ok Joined) j = absurd j
 open_step test es fs moment word w (Ok (Send u id)) j =
     let s = count_push test es (new_entry w moment id) in
-    let d : in_all test fs ≡ in_all test (es ++ new_entry w moment id ∷ []) = ap (in_all test) j.3 in
+    let d : in_all test fs ≡ in_all test (es ++ new_entry w moment id ∷ []) =
+    ap (in_all test) j.3 in
     omega (arith, s, d)
 open_step test es fs moment word w (Err WaitersFull) j = absurd j
 open_step test es fs moment word w (Err Full) j =
@@ -95,10 +114,12 @@ open_step test es fs moment word w (Err OutOfMemory) j =
     let z : count_by test [] ≡ 0 = refl in
     omega (arith, d, z)
 
-abbrev all_open : (Asker → Bool) → Outstanding → ℕ
+abbrev all_open : (WaiterData → Bool) → PendingData → ℕ
 all_open test o = count_by test (open_waiters o)
 
-step : (test : Asker → Bool) (o n : Outstanding) (c : Call) → Does o c n → all_open test o + count_by test (accepted c) ≡ count_by test (given_back c) + (count_by test (cleared c) + all_open test n)
+step : (test : WaiterData → Bool) (o n : PendingData) (c : Call) → Does o c n
+    → all_open test o + count_by test (waiters_accepted c) ≡ count_by test
+    (waiters_returned c) + (count_by test (waiters_cleared c) + all_open test n)
 step test o n (ask w moment word r) (joins i e f t a j q) =
     let s = join_step test o.entries i moment word e f w r t j in
     let d : all_open test n ≡ in_all test (slice_set o.entries i f) = ap (all_open test) q in
@@ -123,8 +144,9 @@ step test o n (advance id moment false) h =
     let z : count_by test [] ≡ 0 = refl in
     omega (arith, d, z)
 step test o n (advance id moment true) h =
-    let s = count_set test o.entries h.0 h.1.0 (moved_on h.1.0 moment) h.1.1 in
-    let d : all_open test n ≡ in_all test (slice_set o.entries h.0 (moved_on h.1.0 moment)) = ap (all_open test) h.1.4 in
+    let s = count_set test o.entries h.0 h.1.0 (with_next_upstream h.1.0 moment) h.1.1 in
+    let d : all_open test n ≡ in_all test
+    (slice_set o.entries h.0 (with_next_upstream h.1.0 moment)) = ap (all_open test) h.1.4 in
     let z : count_by test [] ≡ 0 = refl in
     omega (arith, s, d, z)
 step test o n (clear ws) h =
@@ -133,7 +155,9 @@ step test o n (clear ws) h =
     let z : count_by test [] ≡ 0 = refl in
     omega (arith, d, e, z)
 
-run : (test : Asker → Bool) (o n : Outstanding) (cs : List Call) → Run o cs n → all_open test o + count_by test (flat_map accepted cs) ≡ count_by test (flat_map given_back cs) + (count_by test (flat_map cleared cs) + all_open test n)
+run : (test : WaiterData → Bool) (o n : PendingData) (cs : List Call) → Run o cs n
+    → all_open test o + count_by test (flat_map waiters_accepted cs) ≡ count_by test
+    (flat_map waiters_returned cs) + (count_by test (flat_map waiters_cleared cs) + all_open test n)
 run test o n [] h =
     let d : all_open test n ≡ all_open test o = ap (all_open test) h in
     let z : count_by test [] ≡ 0 = refl in
@@ -141,15 +165,17 @@ run test o n [] h =
 run test o n (c ∷ cs) h =
     let s = step test o h.0 c h.1 in
     let r = run test h.0 n cs h.2 in
-    let a = count-append test (accepted c) (flat_map accepted cs) in
-    let b = count-append test (given_back c) (flat_map given_back cs) in
-    let d = count-append test (cleared c) (flat_map cleared cs) in
+    let a = count-append test (waiters_accepted c) (flat_map waiters_accepted cs) in
+    let b = count-append test (waiters_returned c) (flat_map waiters_returned cs) in
+    let d = count-append test (waiters_cleared c) (flat_map waiters_cleared cs) in
     omega (arith, s, r, a, b, d)
 
 pub each_as_often : EachAsOften
 each_as_often o n cs h test =
     let r = run test o n cs h in
-    let a = count-append test (open_waiters o) (flat_map accepted cs) in
-    let b = count-append test (flat_map given_back cs) (flat_map cleared cs ++ open_waiters n) in
-    let d = count-append test (flat_map cleared cs) (open_waiters n) in
+    let a = count-append test (open_waiters o) (flat_map waiters_accepted cs) in
+    let b =
+    count-append test (flat_map waiters_returned cs)
+    (flat_map waiters_cleared cs ++ open_waiters n) in
+    let d = count-append test (flat_map waiters_cleared cs) (open_waiters n) in
     omega (arith, r, a, b, d)

@@ -1,67 +1,73 @@
 -- What stands where in a list.
-use Rattle.std.proofs.Common.{◌≡◌, ℕ, zero, suc, ◌+◌, ◌<◌, ◌≤◌, ◌⊎◌, inl, inr, List, [], ◌∷◌, ◌++◌, Some, None, length, map, slice_set, get_or, refl, sym, ◌∙◌, ap, subst, arith, ◌≢◌}
+use Rattle.std.proofs.Common.{◌≡◌, ℕ, zero, suc, ◌+◌, ◌<◌, ◌≤◌, ◌⊎◌, inl, inr, List, [], ◌∷◌, ◌++◌, Some, None, length, slice_set, get_or, refl, sym, ◌∙◌, ap, subst, arith, ◌≢◌}
 use Rattle.std.specs.List.{remove}
 use Rattle.std.proofs.lemmas.Option.{slice_get_within, same_Some, slice_get-get_or}
 use Rattle.std.proofs.lemmas.Bool.{cases_eq, cases_lt}
+use Rattle.fleet_name.proofs.Lemmas.{at_same, at_set}
 use Rattle.fleet_name.specs.Places.{At, NoneIs, NoTwo, IsPlace}
 
 -- none of the first n is like this
 abbrev pub NoneBefore : {X : Type 0} → (X → Type 0) → List X → ℕ → Type 0
 NoneBefore {X} P xs n = (i : ℕ) (x : X) → i < n → At xs i x → P x → ⊥
 
-pub same_at : {X : Type 0} (xs : List X) (i : ℕ) (x y : X) → At xs i x → At xs i y → x ≡ y
-same_at xs i x y p q = same_Some x y (sym p ∙ q)
-
-pub at_read : {X : Type 0} (xs : List X) (i : ℕ) (x : X) → i < length xs → x ≡ get_or xs i x → At xs i x
+pub at_read : {X : Type 0} (xs : List X) (i : ℕ) (x : X) → i < length xs → x ≡ get_or xs i x
+    → At xs i x
 at_read xs i x l e = slice_get-get_or xs i x l ∙ ap (λ y. Some y) (sym e)
 
--- what stands in a list after a write
-pub at_set : {X : Type 0} (xs : List X) (i j : ℕ) (y x : X) → At (slice_set xs i y) j x → ((j ≡ i) × (x ≡ y)) ⊎ ((j ≢ i) × At xs j x)
-at_set [] i j y x h = absurd (let e : None ≡ Some x = h in cc)
-at_set (z ∷ xs) zero zero y x h = inl (refl, sym (same_Some y x h))
-at_set (z ∷ xs) zero (suc j) y x h = inr ((λ e. omega arith), h)
-at_set (z ∷ xs) (suc i) zero y x h = inr ((λ e. omega arith), h)
-at_set (z ∷ xs) (suc i) (suc j) y x h = elim (at_set xs i j y x h) [ inl p ↦ inl (ap (λ n. suc n) p.0, p.1) | inr p ↦ inr ((λ e. p.0 (omega arith)), p.1) ]
-
-pub at_push : {X : Type 0} (xs : List X) (j : ℕ) (y x : X) → At (xs ++ y ∷ []) j x → At xs j x ⊎ ((j ≡ length xs) × (x ≡ y))
+-- what stands in a list with one more
+pub at_push : {X : Type 0} (xs : List X) (j : ℕ) (y x : X) → At (xs ++ y ∷ []) j x
+    → At xs j x ⊎ ((j ≡ length xs) × (x ≡ y))
 at_push [] zero y x h = inr (refl, sym (same_Some y x h))
 at_push [] (suc j) y x h = absurd (let e : None ≡ Some x = h in cc)
 at_push (z ∷ xs) zero y x h = inl h
-at_push (z ∷ xs) (suc j) y x h = elim (at_push xs j y x h) [ inl p ↦ inl p | inr p ↦ inr (ap (λ n. suc n) p.0, p.1) ]
+at_push (z ∷ xs) (suc j) y x h =
+    elim (at_push xs j y x h) [ inl p ↦ inl p | inr p ↦ inr (ap (λ n. suc n) p.0, p.1) ]
 
 pub last_at : {X : Type 0} (xs : List X) (y : X) → At (xs ++ y ∷ []) (length xs) y
 last_at [] y = refl
 last_at (x ∷ xs) y = last_at xs y
 
 -- what is left after one is taken out stood before it or after it
-pub at_remove : {X : Type 0} (xs : List X) (i j : ℕ) (x : X) → At (remove xs i) j x → (k : ℕ) × At xs k x × (j < i → k ≡ j) × (i ≤ j → k ≡ j + 1)
+pub at_remove : {X : Type 0} (xs : List X) (i j : ℕ) (x : X) → At (remove xs i) j x
+    → (k : ℕ) × At xs k x × (j < i → k ≡ j) × (i ≤ j → k ≡ j + 1)
 at_remove [] zero j x h = absurd (let e : None ≡ Some x = h in cc)
 at_remove [] (suc i) j x h = absurd (let e : None ≡ Some x = h in cc)
 at_remove (z ∷ xs) zero j x h = (suc j, h, (λ l. absurd (omega arith)), λ l. omega arith)
 at_remove (z ∷ xs) (suc i) zero x h = (zero, h, (λ l. refl), λ l. absurd (omega arith))
 at_remove (z ∷ xs) (suc i) (suc j) x h =
-    let r = at_remove xs i j x h in
-    (suc r.0, r.1, (λ l. let e : r.0 ≡ j = r.2 (omega arith) in omega arith), λ l. let e : r.0 ≡ j + 1 = r.3 (omega arith) in omega arith)
+    let r = at_remove xs i j x h in (
+      suc r.0,
+      r.1,
+      (λ l. let e : r.0 ≡ j = r.2 (omega arith) in omega arith),
+      λ l. let e :
+          r.0 ≡ j + 1 = r.3 (omega arith) in omega arith,
+    )
 
 -- one that stands elsewhere is left
-pub at_left : {X : Type 0} (xs : List X) (i j : ℕ) (x : X) → At xs j x → j ≢ i → (k : ℕ) × At (remove xs i) k x
+pub at_left : {X : Type 0} (xs : List X) (i j : ℕ) (x : X) → At xs j x → j ≢ i
+    → (k : ℕ) × At (remove xs i) k x
 at_left [] i j x h n = absurd (let e : None ≡ Some x = h in cc)
 at_left (z ∷ xs) zero zero x h n = absurd (n refl)
 at_left (z ∷ xs) zero (suc j) x h n = (j, h)
 at_left (z ∷ xs) (suc i) zero x h n = (zero, h)
-at_left (z ∷ xs) (suc i) (suc j) x h n = let r = at_left xs i j x h (λ e. n (ap (λ m. suc m) e)) in (suc r.0, r.1)
+at_left (z ∷ xs) (suc i) (suc j) x h n =
+    let r = at_left xs i j x h (λ e. n (ap (λ m. suc m) e)) in (suc r.0, r.1)
 
 -- a write by what is alike to no more
-pub no_two_set : {X : Type 0} (Alike : X → X → Type 0) (xs : List X) (i : ℕ) (x y : X) → NoTwo Alike xs → At xs i x → ((z : X) → Alike y z → Alike x z) → ((z : X) → Alike z y → Alike z x) → NoTwo Alike (slice_set xs i y)
+pub no_two_set : {X : Type 0} (Alike : X → X → Type 0) (xs : List X) (i : ℕ) (x y : X)
+    → NoTwo Alike xs → At xs i x → ((z : X) → Alike y z → Alike x z)
+    → ((z : X) → Alike z y → Alike z x) → NoTwo Alike (slice_set xs i y)
 no_two_set {X} Alike xs i x y h t l r j k a b p q s = go (at_set xs i j y a p) (at_set xs i k y b q)
   where
-    go : ((j ≡ i) × (a ≡ y)) ⊎ ((j ≢ i) × At xs j a) → ((k ≡ i) × (b ≡ y)) ⊎ ((k ≢ i) × At xs k b) → j ≡ k
+    go : ((j ≡ i) × (a ≡ y)) ⊎ ((j ≢ i) × At xs j a) → ((k ≡ i) × (b ≡ y)) ⊎ ((k ≢ i) × At xs k b)
+        → j ≡ k
     go (inl u) (inl v) = u.0 ∙ sym v.0
     go (inl u) (inr v) = absurd (v.0 (sym (h i k x b t v.1 (l b (subst (λ z. Alike z b) u.1 s)))))
     go (inr u) (inl v) = absurd (u.0 (h j i a x u.1 t (r a (subst (λ z. Alike a z) v.1 s))))
     go (inr u) (inr v) = h j k a b u.1 v.1 s
 
-pub no_two_push : {X : Type 0} (Alike : X → X → Type 0) (xs : List X) (y : X) → NoTwo Alike xs → NoneIs (λ z. Alike z y) xs → NoneIs (Alike y) xs → NoTwo Alike (xs ++ y ∷ [])
+pub no_two_push : {X : Type 0} (Alike : X → X → Type 0) (xs : List X) (y : X) → NoTwo Alike xs
+    → NoneIs (λ z. Alike z y) xs → NoneIs (Alike y) xs → NoTwo Alike (xs ++ y ∷ [])
 no_two_push Alike xs y h l r j k a b p q s = go (at_push xs j y a p) (at_push xs k y b q)
   where
     go : At xs j a ⊎ ((j ≡ length xs) × (a ≡ y)) → At xs k b ⊎ ((k ≡ length xs) × (b ≡ y)) → j ≡ k
@@ -70,53 +76,37 @@ no_two_push Alike xs y h l r j k a b p q s = go (at_push xs j y a p) (at_push xs
     go (inr u) (inl v) = absurd (r k b v (subst (λ z. Alike z b) u.1 s))
     go (inr u) (inr v) = u.0 ∙ sym v.0
 
-pub no_two_remove : {X : Type 0} (Alike : X → X → Type 0) (xs : List X) (i : ℕ) → NoTwo Alike xs → NoTwo Alike (remove xs i)
+pub no_two_remove : {X : Type 0} (Alike : X → X → Type 0) (xs : List X) (i : ℕ) → NoTwo Alike xs
+    → NoTwo Alike (remove xs i)
 no_two_remove Alike xs i h j k a b p q s =
     let x = at_remove xs i j a p in
     let y = at_remove xs i k b q in
     let e : x.0 ≡ y.0 = h x.0 y.0 a b x.1 y.1 s in
     back x.0 y.0 e x.2 x.3 y.2 y.3 (cases_lt j i) (cases_lt k i)
   where
-    back : (m n : ℕ) → m ≡ n → (j < i → m ≡ j) → (i ≤ j → m ≡ j + 1) → (k < i → n ≡ k) → (i ≤ k → n ≡ k + 1) → (j < i) ⊎ (i ≤ j) → (k < i) ⊎ (i ≤ k) → j ≡ k
+    back : (m n : ℕ) → m ≡ n → (j < i → m ≡ j) → (i ≤ j → m ≡ j + 1) → (k < i → n ≡ k)
+        → (i ≤ k → n ≡ k + 1) → (j < i) ⊎ (i ≤ j) → (k < i) ⊎ (i ≤ k) → j ≡ k
     back m n q d e f g (inl x) (inl y) = let u = d x in let v = f y in omega (arith, q, u, v)
-    back m n q d e f g (inl x) (inr y) = let u = d x in let v = g y in absurd (omega (arith, q, u, v))
-    back m n q d e f g (inr x) (inl y) = let u = e x in let v = f y in absurd (omega (arith, q, u, v))
+    back m n q d e f g (inl x) (inr y) =
+        let u = d x in let v = g y in absurd (omega (arith, q, u, v))
+    back m n q d e f g (inr x) (inl y) =
+        let u = e x in let v = f y in absurd (omega (arith, q, u, v))
     back m n q d e f g (inr x) (inr y) = let u = e x in let v = g y in omega (arith, q, u, v)
 
--- the same of what the elements are seen as
-pub at_seen : {X Y : Type 0} (f : X → Y) (xs : List X) (i : ℕ) (x : X) → At xs i x → At (map f xs) i (f x)
-at_seen f [] i x h = absurd (let e : None ≡ Some x = h in cc)
-at_seen f (z ∷ xs) zero x h = ap (λ v. Some (f v)) (same_Some z x h)
-at_seen f (z ∷ xs) (suc i) x h = at_seen f xs i x h
+-- none at all, where none of so many
+pub none_is : {X : Type 0} (P : X → Type 0) (xs : List X) (n : ℕ)
+    → length xs ≤ n → NoneBefore P xs n → NoneIs P xs
+none_is P xs n l h i x a p =
+    let m : i < length xs = slice_get_within xs i x a in h i x (omega arith) a p
 
-pub seen_at : {X Y : Type 0} (f : X → Y) (xs : List X) (i : ℕ) (y : Y) → At (map f xs) i y → (x : X) × At xs i x × (f x ≡ y)
-seen_at f [] i y h = absurd (let e : None ≡ Some y = h in cc)
-seen_at f (z ∷ xs) zero y h = (z, refl, same_Some (f z) y h)
-seen_at f (z ∷ xs) (suc i) y h = seen_at f xs i y h
+pub place_is : {X : Type 0} (P : X → Type 0) (xs : List X) (i : ℕ) (x : X)
+    → i < length xs → x ≡ get_or xs i x → P x → IsPlace P xs (Some i)
+place_is P xs i x l e p = (x, at_read xs i x l e, p)
 
-pub none_seen : {X Y : Type 0} (f : X → Y) (P : Y → Type 0) (xs : List X) (n : ℕ) → length xs ≤ n → NoneBefore (λ x. P (f x)) xs n → NoneIs P (map f xs)
-none_seen f P xs n l h i y a p =
-    let r = seen_at f xs i y a in
-    let m : i < length xs = slice_get_within xs i r.0 r.1 in
-    h i r.0 (omega arith) r.1 (subst P (sym r.2) p)
-
-pub place_seen : {X Y : Type 0} (f : X → Y) (P : Y → Type 0) (xs : List X) (i : ℕ) (x : X) → i < length xs → x ≡ get_or xs i x → P (f x) → IsPlace P (map f xs) (Some i)
-place_seen f P xs i x l e p = (f x, at_seen f xs i x (at_read xs i x l e), p)
-
-pub set_seen : {X Y : Type 0} (f : X → Y) (xs : List X) (i : ℕ) (x : X) → map f (slice_set xs i x) ≡ slice_set (map f xs) i (f x)
-set_seen f [] i x = refl
-set_seen f (z ∷ xs) zero x = refl
-set_seen f (z ∷ xs) (suc i) x = ap (λ ys. f z ∷ ys) (set_seen f xs i x)
-
-pub remove_seen : {X Y : Type 0} (f : X → Y) (xs : List X) (i : ℕ) → map f (remove xs i) ≡ remove (map f xs) i
-remove_seen f [] zero = refl
-remove_seen f [] (suc i) = refl
-remove_seen f (z ∷ xs) zero = refl
-remove_seen f (z ∷ xs) (suc i) = ap (λ ys. f z ∷ ys) (remove_seen f xs i)
-
-pub none_more : {X : Type 0} (P : X → Type 0) (xs : List X) (n : ℕ) (x : X) → n < length xs → x ≡ get_or xs n x → (P x → ⊥) → NoneBefore P xs n → NoneBefore P xs (n + 1)
+pub none_more : {X : Type 0} (P : X → Type 0) (xs : List X) (n : ℕ) (x : X) → n < length xs
+    → x ≡ get_or xs n x → (P x → ⊥) → NoneBefore P xs n → NoneBefore P xs (n + 1)
 none_more {X} P xs n x l e p h i y k a q = go (cases_eq i n)
   where
     go : (i ≡ n) ⊎ (i ≢ n) → ⊥
-    go (inl z) = p (subst P (same_at xs n y x (subst (λ v. At xs v y) z a) (at_read xs n x l e)) q)
+    go (inl z) = p (subst P (at_same xs n y x (subst (λ v. At xs v y) z a) (at_read xs n x l e)) q)
     go (inr z) = h i y (omega arith) a q

@@ -1,35 +1,34 @@
 -- What a waiter that was not taken leaves.
-use Rattle.std.proofs.Common.{◌≡◌, ℕ, zero, suc, List, [], ◌∷◌, Result, Ok, Err, OnErr, slice_set, refl, sym, ◌∙◌, ap}
-use Rattle.std.proofs.lemmas.Option.{same_Some}
-use Rattle.fleet_pending.specs.Asker.{Asker}
+use Rattle.std.proofs.Common.{◌≡◌, ℕ, List, Result, Ok, Err, OnErr, slice_set, ◌∙◌, ap}
+use Rattle.fleet_pending.specs.Waiter.{WaiterData}
 use Rattle.fleet_pending.specs.Asking.{Asks, Joins, Opens, joins, opens, asked_or_fault}
-use Rattle.fleet_pending.specs.Outstanding.{Open, Outstanding}
-use Rattle.fleet_name.specs.Places.{At}
+use Rattle.fleet_pending.specs.PendingData.{EntryData, PendingData}
+use Rattle.fleet_name.proofs.Lemmas.{set_same}
 use Rattle.fleet_pending.specs.declared.answer.Asked.{Asked}
 use Rattle.fleet_pending.specs.declared.answer.PendingFault.{PendingFault}
 use Rattle.fleet_pending.specs.declared.answer.PendingFault.TheVariants.{Full, WaitersFull, OutOfMemory}
 use Rattle.fleet_pending.specs.declared.answer.Unasked.{Unasked}
 
-set_same : {X : Type 0} (xs : List X) (i : ℕ) (x : X) → At xs i x → slice_set xs i x ≡ xs
-set_same [] i x t = refl
-set_same (y ∷ ys) zero x t = ap (λ z. z ∷ ys) (sym (same_Some y x t))
-set_same (y ∷ ys) (suc i) x t = ap (λ zs. y ∷ zs) (set_same ys i x t)
-
-not_joined : (e f : Open) (w : Asker) (x : PendingFault) → Joins e w (Err x) f → f ≡ e
+not_joined : (e f : EntryData) (w : WaiterData) (x : PendingFault) → Joins e w (Err x) f → f ≡ e
 not_joined e f w Full j = absurd j
 not_joined e f w WaitersFull j = j.2
 not_joined e f w OutOfMemory j = j.2
 
-not_opened : (es fs : List Open) (w : Asker) (moment word : ℕ) (x : PendingFault) → Opens es w moment word (Err x) fs → fs ≡ es
+not_opened : (es fs : List EntryData) (w : WaiterData) (moment word : ℕ) (x : PendingFault)
+    → Opens es w moment word (Err x) fs → fs ≡ es
 not_opened es fs w moment word Full j = j.1
 not_opened es fs w moment word WaitersFull j = absurd j
 not_opened es fs w moment word OutOfMemory j = j.1
 
-not_asked : (o n : Outstanding) (w : Asker) (moment word : ℕ) (x : PendingFault) → Asks o w moment word (Err x) n → n ≡ o
+not_asked : (o n : PendingData) (w : WaiterData) (moment word : ℕ) (x : PendingFault)
+    → Asks o w moment word (Err x) n → n ≡ o
 not_asked o n w moment word x (joins i e f t a j q) =
-    q ∙ ap (λ y. record o { entries = slice_set o.entries i y }) (not_joined e f w x j) ∙ ap (λ xs. record o { entries = xs }) (set_same o.entries i e t)
-not_asked o n w moment word x (opens fs a j q) = q ∙ ap (λ xs. record o { entries = xs }) (not_opened o.entries fs w moment word x j)
+    q ∙ ap (λ y. record o { entries = slice_set o.entries i y }) (not_joined e f w x j)
+    ∙ ap (λ xs. record o { entries = xs }) (set_same o.entries i e t)
+not_asked o n w moment word x (opens fs a j q) =
+    q ∙ ap (λ xs. record o { entries = xs }) (not_opened o.entries fs w moment word x j)
 
-pub unchanged : {A : Type 0} (o n : Outstanding) (w : Asker) (moment word : ℕ) (r : Result Asked (Unasked A)) → Asks o w moment word (asked_or_fault r) n → OnErr r (n ≡ o)
+pub unchanged : {A : Type 0} (o n : PendingData) (w : WaiterData) (moment word : ℕ)
+    (r : Result Asked (Unasked A)) → Asks o w moment word (asked_or_fault r) n → OnErr r (n ≡ o)
 unchanged o n w moment word (Ok a) h = tt
 unchanged o n w moment word (Err u) h = not_asked o n w moment word u.fault h

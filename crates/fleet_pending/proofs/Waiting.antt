@@ -2,86 +2,115 @@
 use Rattle.std.proofs.Common.{◌≡◌, ℕ, zero, suc, ◌⊎◌, inl, inr, Bool, true, false, List, [], ◌∷◌, ◌++◌, Option, Some, None, Result, Ok, Err, length, slice_set, sym, subst, ◌≢◌}
 use Rattle.std.specs.List.{remove}
 use Rattle.std.proofs.lemmas.Option.{same_Some}
-use Rattle.fleet_pending.specs.Asker.{Asker}
-use Rattle.fleet_pending.specs.Asking.{Asks, Joins, Opens, Settles, Advances, joins, opens, new_entry, moved_on}
-use Rattle.fleet_pending.specs.Outstanding.{Open, Outstanding}
+use Rattle.fleet_pending.specs.Waiter.{WaiterData}
+use Rattle.fleet_pending.specs.Asking.{Asks, Joins, Opens, Settles, Advances, joins, opens, new_entry, with_next_upstream}
+use Rattle.fleet_pending.specs.PendingData.{EntryData, PendingData}
 use Rattle.fleet_name.specs.Places.{At}
 use Rattle.fleet_pending.specs.Waiting.{IsWaiting, WaitersStay}
 use Rattle.fleet_pending.specs.declared.answer.Asked.{Asked}
 use Rattle.fleet_pending.specs.declared.answer.Asked.TheVariants.{Again, Joined, Send}
 use Rattle.fleet_pending.specs.declared.answer.PendingFault.{PendingFault}
 use Rattle.fleet_pending.specs.declared.answer.PendingFault.TheVariants.{Full, WaitersFull, OutOfMemory}
-use Rattle.fleet_pending.proofs.Placed.{at_set, at_push, at_remove}
+use Rattle.fleet_name.proofs.Lemmas.{at_set}
+use Rattle.fleet_pending.proofs.Placed.{at_push, at_remove}
 
 -- each waiter of f waits at e, or is w
-abbrev From : Open → Open → Asker → Type 0
-From e f w = (i : ℕ) (v : Asker) → At f.waiters i v → ((j : ℕ) × At e.waiters j v) ⊎ (v ≡ w)
+abbrev From : EntryData → EntryData → WaiterData → Type 0
+From e f w = (i : ℕ) (v : WaiterData) → At f.waiters i v → ((j : ℕ) × At e.waiters j v) ⊎ (v ≡ w)
 
-same_from : (e f : Open) (w : Asker) → f ≡ e → From e f w
+same_from : (e f : EntryData) (w : WaiterData) → f ≡ e → From e f w
 same_from e f w p i v t = inl (i, subst (λ x. At x.waiters i v) p t)
 
-join_from : (e f : Open) (w : Asker) (r : Result Asked PendingFault) → Joins e w r f → From e f w
+join_from : (e f : EntryData) (w : WaiterData) (r : Result Asked PendingFault) → Joins e w r f
+    → From e f w
 join_from e f w (Ok Again) j = same_from e f w j.1
-join_from e f w (Ok Joined) j = λ i v t. elim (at_push e.waiters i w v (subst (λ x. At x.waiters i v) j.2 t)) [ inl a ↦ inl (i, a) | inr a ↦ inr a.1 ]
+join_from e f w (Ok Joined) j =
+    λ i v t. elim (at_push e.waiters i w v (subst (λ x. At x.waiters i v) j.2 t))
+    [ inl a ↦ inl (i, a) | inr a ↦ inr a.1 ]
 join_from e f w (Ok (Send u id)) j = absurd j
 join_from e f w (Err Full) j = absurd j
 join_from e f w (Err WaitersFull) j = same_from e f w j.2
 join_from e f w (Err OutOfMemory) j = same_from e f w j.2
 
-waits_at : (o : Outstanding) (i : ℕ) (e : Open) (v : Asker) → At o.entries i e → (j : ℕ) × At e.waiters j v → IsWaiting o v
+waits_at : (o : PendingData) (i : ℕ) (e : EntryData) (v : WaiterData) → At o.entries i e
+    → (j : ℕ) × At e.waiters j v → IsWaiting o v
 waits_at o i e v t a = record { place = i; entry = e; there = t; turn = a.0; waits = a.1 }
 
-set_waits : (o : Outstanding) (i : ℕ) (e f : Open) (w v : Asker) → At o.entries i e → From e f w → IsWaiting (record o { entries = slice_set o.entries i f }) v → IsWaiting o v ⊎ (v ≡ w)
+set_waits : (o : PendingData) (i : ℕ) (e f : EntryData) (w v : WaiterData) → At o.entries i e
+    → From e f w → IsWaiting (record o { entries = slice_set o.entries i f }) v
+    → IsWaiting o v ⊎ (v ≡ w)
 set_waits o i e f w v t from h = go (at_set o.entries i h.place f h.entry h.there)
   where
     new : ((j : ℕ) × At e.waiters j v) ⊎ (v ≡ w) → IsWaiting o v ⊎ (v ≡ w)
     new (inl a) = inl (waits_at o i e v t a)
     new (inr p) = inr p
 
-    go : ((h.place ≡ i) × (h.entry ≡ f)) ⊎ ((h.place ≢ i) × At o.entries h.place h.entry) → IsWaiting o v ⊎ (v ≡ w)
+    go : ((h.place ≡ i) × (h.entry ≡ f)) ⊎ ((h.place ≢ i) × At o.entries h.place h.entry)
+        → IsWaiting o v ⊎ (v ≡ w)
     go (inl p) = new (from h.turn v (subst (λ x. At x.waiters h.turn v) p.1 h.waits))
     go (inr p) = inl (waits_at o h.place h.entry v p.1 (h.turn, h.waits))
 
-push_waits : (o : Outstanding) (w v : Asker) (moment id : ℕ) → IsWaiting (record o { entries = o.entries ++ new_entry w moment id ∷ [] }) v → IsWaiting o v ⊎ (v ≡ w)
-push_waits o w v moment id h = go (at_push o.entries h.place (new_entry w moment id) h.entry h.there)
+push_waits : (o : PendingData) (w v : WaiterData) (moment id : ℕ)
+    → IsWaiting (record o { entries = o.entries ++ new_entry w moment id ∷ [] }) v
+    → IsWaiting o v ⊎ (v ≡ w)
+push_waits o w v moment id h =
+    go (at_push o.entries h.place (new_entry w moment id) h.entry h.there)
   where
     only : (i : ℕ) → At (w ∷ []) i v → v ≡ w
     only zero t = sym (same_Some w v t)
     only (suc i) t = absurd (let q : None ≡ Some v = t in cc)
 
-    go : At o.entries h.place h.entry ⊎ ((h.place ≡ length o.entries) × (h.entry ≡ new_entry w moment id)) → IsWaiting o v ⊎ (v ≡ w)
+    go : At o.entries h.place h.entry
+        ⊎ ((h.place ≡ length o.entries) × (h.entry ≡ new_entry w moment id))
+        → IsWaiting o v ⊎ (v ≡ w)
     go (inl t) = inl (waits_at o h.place h.entry v t (h.turn, h.waits))
     go (inr p) = inr (only h.turn (subst (λ x. At x.waiters h.turn v) p.1 h.waits))
 
-open_waits : (o : Outstanding) (w v : Asker) (moment word : ℕ) (r : Result Asked PendingFault) (fs : List Open) → Opens o.entries w moment word r fs → IsWaiting (record o { entries = fs }) v → IsWaiting o v ⊎ (v ≡ w)
+open_waits : (o : PendingData) (w v : WaiterData) (moment word : ℕ) (r : Result Asked PendingFault)
+    (fs : List EntryData) → Opens o.entries w moment word r fs
+    → IsWaiting (record o { entries = fs }) v → IsWaiting o v ⊎ (v ≡ w)
 open_waits o w v moment word (Ok Again) fs p h = absurd p
 open_waits o w v moment word (Ok Joined) fs p h = absurd p
-open_waits o w v moment word (Ok (Send u id)) fs p h = push_waits o w v moment id (subst (λ xs. IsWaiting (record o { entries = xs }) v) p.3 h)
-open_waits o w v moment word (Err Full) fs p h = inl (subst (λ xs. IsWaiting (record o { entries = xs }) v) p.1 h)
+open_waits o w v moment word (Ok (Send u id)) fs p h =
+    push_waits o w v moment id (subst (λ xs. IsWaiting (record o { entries = xs }) v) p.3 h)
+open_waits o w v moment word (Err Full) fs p h =
+    inl (subst (λ xs. IsWaiting (record o { entries = xs }) v) p.1 h)
 open_waits o w v moment word (Err WaitersFull) fs p h = absurd p
-open_waits o w v moment word (Err OutOfMemory) fs p h = inl (subst (λ xs. IsWaiting (record o { entries = xs }) v) p.1 h)
+open_waits o w v moment word (Err OutOfMemory) fs p h =
+    inl (subst (λ xs. IsWaiting (record o { entries = xs }) v) p.1 h)
 
-asking : (o n : Outstanding) (w v : Asker) (moment word : ℕ) (r : Result Asked PendingFault) → Asks o w moment word r n → IsWaiting n v → IsWaiting o v ⊎ (v ≡ w)
-asking o n w v moment word r (joins i e f t a j q) h = set_waits o i e f w v t (join_from e f w r j) (subst (λ x. IsWaiting x v) q h)
-asking o n w v moment word r (opens fs a j q) h = open_waits o w v moment word r fs j (subst (λ x. IsWaiting x v) q h)
+ask_waits : (o n : PendingData) (w v : WaiterData) (moment word : ℕ) (r : Result Asked PendingFault)
+    → Asks o w moment word r n → IsWaiting n v → IsWaiting o v ⊎ (v ≡ w)
+ask_waits o n w v moment word r (joins i e f t a j q) h =
+    set_waits o i e f w v t (join_from e f w r j) (subst (λ x. IsWaiting x v) q h)
+ask_waits o n w v moment word r (opens fs a j q) h =
+    open_waits o w v moment word r fs j (subst (λ x. IsWaiting x v) q h)
 
-settling : (o n : Outstanding) (v : Asker) (id : ℕ) (r : Option Open) → Settles o id r n → IsWaiting n v → IsWaiting o v
-settling o n v id None s h = subst (λ x. IsWaiting x v) s.1 h
-settling o n v id (Some e) s h = left (subst (λ x. IsWaiting x v) s.3 h)
+settle_waits : (o n : PendingData) (v : WaiterData) (id : ℕ) (r : Option EntryData)
+    → Settles o id r n → IsWaiting n v → IsWaiting o v
+settle_waits o n v id None s h = subst (λ x. IsWaiting x v) s.1 h
+settle_waits o n v id (Some e) s h = left (subst (λ x. IsWaiting x v) s.3 h)
   where
     left : IsWaiting (record o { entries = remove o.entries s.0 }) v → IsWaiting o v
-    left k = let r = at_remove o.entries s.0 k.place k.entry k.there in waits_at o r.0 k.entry v r.1 (k.turn, k.waits)
+    left k =
+        let r = at_remove o.entries s.0 k.place k.entry k.there in
+        waits_at o r.0 k.entry v r.1 (k.turn, k.waits)
 
-advancing : (o n : Outstanding) (v : Asker) (id moment : ℕ) (r : Bool) → Advances o id moment r n → IsWaiting n v → IsWaiting o v
-advancing o n v id moment false a h = subst (λ x. IsWaiting x v) a.1 h
-advancing o n v id moment true a h = moved (subst (λ x. IsWaiting x v) a.1.4 h)
+advance_waits : (o n : PendingData) (v : WaiterData) (id moment : ℕ) (r : Bool)
+    → Advances o id moment r n → IsWaiting n v → IsWaiting o v
+advance_waits o n v id moment false a h = subst (λ x. IsWaiting x v) a.1 h
+advance_waits o n v id moment true a h = moved (subst (λ x. IsWaiting x v) a.1.4 h)
   where
-    moved : IsWaiting (record o { entries = slice_set o.entries a.0 (moved_on a.1.0 moment) }) v → IsWaiting o v
-    moved k = go (at_set o.entries a.0 k.place (moved_on a.1.0 moment) k.entry k.there)
+    moved : IsWaiting
+        (record o { entries = slice_set o.entries a.0 (with_next_upstream a.1.0 moment) }) v
+        → IsWaiting o v
+    moved k = go (at_set o.entries a.0 k.place (with_next_upstream a.1.0 moment) k.entry k.there)
       where
-        go : ((k.place ≡ a.0) × (k.entry ≡ moved_on a.1.0 moment)) ⊎ ((k.place ≢ a.0) × At o.entries k.place k.entry) → IsWaiting o v
-        go (inl p) = waits_at o a.0 a.1.0 v a.1.1 (k.turn, subst (λ x. At x.waiters k.turn v) p.1 k.waits)
+        go : ((k.place ≡ a.0) × (k.entry ≡ with_next_upstream a.1.0 moment))
+            ⊎ ((k.place ≢ a.0) × At o.entries k.place k.entry) → IsWaiting o v
+        go (inl p) =
+            waits_at o a.0 a.1.0 v a.1.1 (k.turn, subst (λ x. At x.waiters k.turn v) p.1 k.waits)
         go (inr p) = waits_at o k.place k.entry v p.1 (k.turn, k.waits)
 
 pub waiters_stay : WaitersStay
-waiters_stay = record { asking = asking; settling = settling; advancing = advancing }
+waiters_stay = record { asking = ask_waits; settling = settle_waits; advancing = advance_waits }

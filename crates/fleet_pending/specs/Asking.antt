@@ -1,9 +1,10 @@
 -- What each call answers and leaves.
 use Rattle.std.specs.Prelude.{◌≡◌, ℕ, ◌+◌, ◌<◌, ◌≤◌, Bool, true, false, List, [], ◌∷◌, ◌++◌, Option, Some, None, Result, Ok, Err, length, slice_set}
 use Rattle.std.specs.List.{remove}
-use Rattle.fleet_pending.specs.Asker.{Asker, Waits}
-use Rattle.fleet_pending.specs.Outstanding.{Open, Outstanding, UsesId, AsksFor}
+use Rattle.fleet_pending.specs.Waiter.{WaiterData, Waits}
+use Rattle.fleet_pending.specs.PendingData.{EntryData, PendingData, UsesId, AsksFor}
 use Rattle.fleet_pending.specs.FreeId.{IsFirstFree}
+use Rattle.fleet_pending.specs.declared.bounds.TheConstants.{MOST_ENTRIES, MOST_WAITERS, TRY_SECONDS}
 use Rattle.fleet_name.specs.Places.{At, NoneIs}
 use Rattle.fleet_pending.specs.declared.answer.Asked.{Asked}
 use Rattle.fleet_pending.specs.declared.answer.Asked.TheVariants.{Again, Joined, Send}
@@ -16,62 +17,67 @@ abbrev pub asked_or_fault : {A : Type 0} → Result Asked (Unasked A) → Result
 asked_or_fault (Ok a) = Ok a
 asked_or_fault (Err u) = Err u.fault
 
-abbrev pub with_waiter : Open → Asker → Open
+abbrev pub with_waiter : EntryData → WaiterData → EntryData
 with_waiter e w = record e { waiters = e.waiters ++ w ∷ [] }
 
--- two seconds are the time of a try
-abbrev pub new_entry : Asker → ℕ → ℕ → Open
+-- what a waiter opens: its question, asked of the first upstream
+abbrev pub new_entry : WaiterData → ℕ → ℕ → EntryData
 new_entry w moment id = record {
   name = w.question.name;
   rtype = w.question.rtype;
   id = id;
   upstream = 0;
-  deadline = moment + 2;
+  deadline = moment + TRY_SECONDS;
   waiters = w ∷ [];
 }
 
-abbrev pub moved_on : Open → ℕ → Open
-moved_on e moment = record e { upstream = e.upstream + 1; deadline = moment + 2 }
+abbrev pub with_next_upstream : EntryData → ℕ → EntryData
+with_next_upstream e moment =
+    record e { upstream = e.upstream + 1; deadline = moment + TRY_SECONDS }
 
 -- the waiter meets an entry for its question
-abbrev pub Joins : Open → Asker → Result Asked PendingFault → Open → Type 0
+abbrev pub Joins : EntryData → WaiterData → Result Asked PendingFault → EntryData → Type 0
 Joins e w (Ok Again) f = Waits w e.waiters × (f ≡ e)
-Joins e w (Ok Joined) f = (Waits w e.waiters → ⊥) × (length e.waiters < 32) × (f ≡ with_waiter e w)
+Joins e w (Ok Joined) f =
+    (Waits w e.waiters → ⊥) × (length e.waiters < MOST_WAITERS) × (f ≡ with_waiter e w)
 Joins e w (Ok (Send upstream id)) f = ⊥
 Joins e w (Err Full) f = ⊥
-Joins e w (Err WaitersFull) f = (Waits w e.waiters → ⊥) × (32 ≤ length e.waiters) × (f ≡ e)
-Joins e w (Err OutOfMemory) f = (Waits w e.waiters → ⊥) × (length e.waiters < 32) × (f ≡ e)
+Joins e w (Err WaitersFull) f =
+    (Waits w e.waiters → ⊥) × (MOST_WAITERS ≤ length e.waiters) × (f ≡ e)
+Joins e w (Err OutOfMemory) f =
+    (Waits w e.waiters → ⊥) × (length e.waiters < MOST_WAITERS) × (f ≡ e)
 
 -- the waiter's question is new
-abbrev pub Opens : List Open → Asker → ℕ → ℕ → Result Asked PendingFault → List Open → Type 0
+abbrev pub Opens : List EntryData → WaiterData → ℕ → ℕ → Result Asked PendingFault
+    → List EntryData → Type 0
 Opens es w moment word (Ok Again) fs = ⊥
 Opens es w moment word (Ok Joined) fs = ⊥
-Opens es w moment word (Ok (Send upstream id)) fs = (length es < 256) × (upstream ≡ 0)
+Opens es w moment word (Ok (Send upstream id)) fs = (length es < MOST_ENTRIES) × (upstream ≡ 0)
     × IsFirstFree word es id × (fs ≡ es ++ new_entry w moment id ∷ [])
-Opens es w moment word (Err Full) fs = (256 ≤ length es) × (fs ≡ es)
+Opens es w moment word (Err Full) fs = (MOST_ENTRIES ≤ length es) × (fs ≡ es)
 Opens es w moment word (Err WaitersFull) fs = ⊥
-Opens es w moment word (Err OutOfMemory) fs = (length es < 256) × (fs ≡ es)
+Opens es w moment word (Err OutOfMemory) fs = (length es < MOST_ENTRIES) × (fs ≡ es)
 
 -- a waiter asks: there is an entry for its question, or it is new
-pub data Asks (o : Outstanding) (w : Asker) (moment word : ℕ) (r : Result Asked PendingFault)
-    (n : Outstanding) : Type 0 where
-  joins : (i : ℕ) (e f : Open) → At o.entries i e → AsksFor w.question e → Joins e w r f
+pub data Asks (o : PendingData) (w : WaiterData) (moment word : ℕ) (r : Result Asked PendingFault)
+    (n : PendingData) : Type 0 where
+  joins : (i : ℕ) (e f : EntryData) → At o.entries i e → AsksFor w.question e → Joins e w r f
       → n ≡ record o { entries = slice_set o.entries i f } → Asks o w moment word r n
-  opens : (fs : List Open) → NoneIs (AsksFor w.question) o.entries
+  opens : (fs : List EntryData) → NoneIs (AsksFor w.question) o.entries
       → Opens o.entries w moment word r fs → n ≡ record o { entries = fs }
       → Asks o w moment word r n
 
 -- the entry with this id is given back
-abbrev pub Settles : Outstanding → ℕ → Option Open → Outstanding → Type 0
+abbrev pub Settles : PendingData → ℕ → Option EntryData → PendingData → Type 0
 Settles o id None n = NoneIs (UsesId id) o.entries × (n ≡ o)
 Settles o id (Some e) n =
     (i : ℕ) × At o.entries i e × UsesId id e × (n ≡ record o { entries = remove o.entries i })
 
 -- the entry with this id goes on to the next upstream, if there is one
-abbrev pub Advances : Outstanding → ℕ → ℕ → Bool → Outstanding → Type 0
+abbrev pub Advances : PendingData → ℕ → ℕ → Bool → PendingData → Type 0
 Advances o id moment true n =
     (i : ℕ)
-    × ((e : Open) × At o.entries i e × UsesId id e × (e.upstream + 1 < o.upstreams)
-    × (n ≡ record o { entries = slice_set o.entries i (moved_on e moment) }))
+    × ((e : EntryData) × At o.entries i e × UsesId id e × (e.upstream + 1 < o.upstreams)
+    × (n ≡ record o { entries = slice_set o.entries i (with_next_upstream e moment) }))
 Advances o id moment false n =
     NoneIs (λ e. UsesId id e × (e.upstream + 1 < o.upstreams)) o.entries × (n ≡ o)

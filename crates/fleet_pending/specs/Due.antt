@@ -1,38 +1,41 @@
 -- What is to be done first at a moment.
 use Rattle.std.specs.Prelude.{◌≡◌, ℕ, ◌+◌, ◌<◌, ◌≤◌, ◌⊎◌, List, Option, Some, None, count_by, nat_le}
-use Rattle.fleet_pending.specs.Entry.{opened}
-use Rattle.fleet_pending.specs.Outstanding.{Open, Outstanding}
+use Rattle.fleet_pending.specs.PendingData.{EntryData, PendingData}
 use Rattle.fleet_name.specs.Places.{At, NoneIs}
 use Rattle.fleet_pending.specs.declared.answer.Due.{Due}
 use Rattle.fleet_pending.specs.declared.answer.Due.TheVariants.{Retry, Failed}
 
+-- a is served before b: an earlier deadline, or the same and a lesser id
+abbrev pub IsBefore : EntryData → EntryData → Type 0
+IsBefore a b = (a.deadline < b.deadline) ⊎ ((a.deadline ≡ b.deadline) × (a.id < b.id))
+
 -- an earlier deadline, or the same and an id not greater
-abbrev pub NotAfter : Open → Open → Type 0
+abbrev pub NotAfter : EntryData → EntryData → Type 0
 NotAfter a b = (a.deadline < b.deadline) ⊎ ((a.deadline ≡ b.deadline) × (a.id ≤ b.id))
 
 -- e is the entry to be served first at this moment
-pub record IsFirstDue (es : List Open) (moment : ℕ) (e : Open) : Type 0 where
+pub record IsFirstDue (es : List EntryData) (moment : ℕ) (e : EntryData) : Type 0 where
   pub place : ℕ
   pub there : At es place e
   pub due : e.deadline ≤ moment
-  pub first : (j : ℕ) (f : Open) → At es j f → f.deadline ≤ moment → NotAfter e f
+  pub first : (j : ℕ) (f : EntryData) → At es j f → f.deadline ≤ moment → NotAfter e f
 
-abbrev pub NoneDue : List Open → ℕ → Type 0
+abbrev pub NoneDue : List EntryData → ℕ → Type 0
 NoneDue es moment = NoneIs (λ e. e.deadline ≤ moment) es
 
 -- nothing, the next upstream for the first due entry, or its failure after the last
-abbrev pub Dues : {A : Type 0} → Outstanding → ℕ → Option (Due A) → Type 0
+abbrev pub Dues : {A : Type 0} → PendingData → ℕ → Option (Due A) → Type 0
 Dues o moment None = NoneDue o.entries moment
-Dues o moment (Some (Retry upstream id e)) = IsFirstDue o.entries moment (opened e.now)
+Dues o moment (Some (Retry upstream id e)) = IsFirstDue o.entries moment e.now
     × (id ≡ e.now.id) × (upstream ≡ e.now.upstream + 1) × (upstream < o.upstreams)
-Dues o moment (Some (Failed id e)) = IsFirstDue o.entries moment (opened e.now) × (id ≡ e.now.id)
+Dues o moment (Some (Failed id e)) = IsFirstDue o.entries moment e.now × (id ≡ e.now.id)
     × (o.upstreams ≤ e.now.upstream + 1)
 
 -- the entry that is due
-abbrev pub opened_due : {A : Type 0} → Due A → Open
-opened_due (Retry upstream id e) = opened e.now
-opened_due (Failed id e) = opened e.now
+abbrev pub due_entry : {A : Type 0} → Due A → EntryData
+due_entry (Retry upstream id e) = e.now
+due_entry (Failed id e) = e.now
 
 -- how many are due at this moment
-abbrev pub due_at : Outstanding → ℕ → ℕ
+abbrev pub due_at : PendingData → ℕ → ℕ
 due_at o moment = count_by (λ e. nat_le e.deadline moment) o.entries

@@ -1,22 +1,23 @@
 -- The first id that no entry has.
 use Rattle.std.specs.Prelude.{◌≡◌, ℕ, ◌+◌, ◌%◌, ◌<◌, Bool, true, false, List, slice_index_or}
-use Rattle.fleet_pending.specs.Outstanding.{Open, UsesId}
+use Rattle.fleet_pending.specs.PendingData.{EntryData, UsesId}
+use Rattle.fleet_pending.specs.declared.bounds.TheConstants.{MOST_ENTRIES}
 use Rattle.fleet_name.specs.Places.{At, NoneIs}
 
 -- each of the first n ids from this word upwards, modulo 65536, has an entry
-abbrev pub TakenTo : ℕ → List Open → ℕ → Type 0
+abbrev pub TakenTo : ℕ → List EntryData → ℕ → Type 0
 TakenTo word es n =
-    (k : ℕ) → k < n → (i : ℕ) × ((e : Open) × At es i e × UsesId ((word + k) % 65536) e)
+    (k : ℕ) → k < n → (i : ℕ) × ((e : EntryData) × At es i e × UsesId ((word + k) % 65536) e)
 
--- which of the 256 ids from this word upwards, modulo 65536, have an entry
-pub record AreTaken (word : ℕ) (es : List Open) (taken : List Bool) : Type 0 where
-  pub taken_ids : (k : ℕ) → k < 256 → slice_index_or taken k false ≡ true
-      → (i : ℕ) × ((e : Open) × At es i e × UsesId ((word + k) % 65536) e)
-  pub free_ids : (k : ℕ) → k < 256 → slice_index_or taken k false ≡ false
+-- which ids have an entry: of as many as may be open, from this word upwards, modulo 65536
+pub record AreTaken (word : ℕ) (es : List EntryData) (taken : List Bool) : Type 0 where
+  pub taken_ids : (k : ℕ) → k < MOST_ENTRIES → slice_index_or taken k false ≡ true
+      → (i : ℕ) × ((e : EntryData) × At es i e × UsesId ((word + k) % 65536) e)
+  pub free_ids : (k : ℕ) → k < MOST_ENTRIES → slice_index_or taken k false ≡ false
       → NoneIs (UsesId ((word + k) % 65536)) es
 
 -- the first id that no entry has, from this word upwards modulo 65536
-pub record IsFirstFree (word : ℕ) (es : List Open) (id : ℕ) : Type 0 where
+pub record IsFirstFree (word : ℕ) (es : List EntryData) (id : ℕ) : Type 0 where
   pub passed : ℕ
   pub is : id ≡ (word + passed) % 65536
   pub free : NoneIs (UsesId id) es

@@ -1,7 +1,5 @@
-pub mod Asker
 pub mod Waiter
-pub mod Outstanding
-pub mod Entry
+pub mod PendingData
 pub mod FreeId
 pub mod Asking
 pub mod Due

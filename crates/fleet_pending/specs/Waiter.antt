@@ -1,7 +1,18 @@
--- What a waiter is.
-use Rattle.fleet_wire.specs.Question.{asked}
-use Rattle.fleet_pending.specs.declared.waiter.Waiter.{Waiter}
-use Rattle.fleet_pending.specs.Asker.{Asker}
+-- Who waits, and for the answer to which question.
+use Rattle.std.specs.Prelude.{◌≡◌, ℕ, List}
+use Rattle.fleet_wire.specs.Question.{QuestionData}
+use Rattle.fleet_pending.specs.declared.waiter.Addr.{Addr}
+use Rattle.fleet_name.specs.Places.{At}
 
-abbrev pub asker : {A : Type 0} → Waiter A → Asker
-asker w = record { from = w.from; id = w.id; question = asked w.question }
+pub record WaiterData : Type 0 where
+  pub from : Addr
+  pub id : ℕ
+  pub question : QuestionData
+
+-- one address, and one id
+abbrev pub SameAsker : WaiterData → WaiterData → Type 0
+SameAsker v w = (v.from ≡ w.from) × (v.id ≡ w.id)
+
+-- the same asker is among these
+abbrev pub Waits : WaiterData → List WaiterData → Type 0
+Waits w vs = (i : ℕ) × ((v : WaiterData) × At vs i v × SameAsker v w)

@@ -1,21 +1,16 @@
 //! Open questions.
 
-ghost use Rattle.std.specs.Prelude.{◌≡◌, ◌≤◌, ◌^◌, IfErr, MatchResult};
+ghost use Rattle.std.specs.Prelude.{◌≡◌, IfErr, MatchResult};
 ghost use Rattle.fleet_pending.specs.Asking.{Joins, asked_or_fault, new_entry};
-ghost use Rattle.fleet_pending.specs.Entry.{opened};
-ghost use Rattle.fleet_pending.specs.Waiter.{asker};
 
 use crate::answer::{Asked, PendingFault, Unasked};
+use crate::bounds::{MOST_WAITERS, TRY_SECONDS};
 use crate::waiter::Waiter;
 use crate::waiters::Waiters;
 use fleet_name::Name;
+use fleet_observe::Moment;
 use std::alloc::{Allocator, Global};
-
-/// How many may wait for one question.
-const MOST_WAITERS: usize = 32;
-
-/// How many seconds an upstream has for its answer.
-pub(crate) const TRY_SECONDS: u64 = 2;
+use std::marker::Model;
 
 /// An open question: what it asks, whom, and who waits for the answer.
 #[derive(Drop)]
@@ -34,16 +29,29 @@ pub struct Entry<A: Allocator = Global> {
     pub waiters: Waiters<A>,
 }
 
+impl<A: Allocator> Model for Entry<A> {
+    ghost use Rattle.fleet_pending.specs.PendingData.{EntryData};
+
+    ghost Value = { EntryData };
+
+    ghost view = { λ e. record {
+      name = e.name;
+      rtype = e.rtype;
+      id = e.id;
+      upstream = e.upstream;
+      deadline = e.deadline;
+      waiters = e.waiters;
+    } };
+}
+
 /// An entry for one waiter, and the first upstream.
 pub(crate) fn make_entry<A: Allocator + Copy>(
     alloc: A,
     waiter: Waiter<A>,
-    moment: u64,
+    moment: Moment,
     id: u16,
 ) -> Result<Entry<A>, Waiter<A>>
-    requires { moment ≤ 2 ^ 40 }
-    ensures { MatchResult result (λ e. opened e ≡ new_entry (asker waiter) moment id)
-        (λ w. w ≡ waiter) }
+    ensures { MatchResult result (λ e. e ≡ new_entry waiter moment id) (λ w. w ≡ waiter) }
 {
     let name = match waiter.question.name.try_clone() {
         Ok(name) => name,
@@ -56,7 +64,7 @@ pub(crate) fn make_entry<A: Allocator + Copy>(
             rtype,
             id,
             upstream: 0,
-            deadline: moment + TRY_SECONDS,
+            deadline: moment.value() + TRY_SECONDS,
             waiters,
         }),
         Err(waiter) => Err(waiter),
@@ -68,8 +76,7 @@ pub(crate) fn join<A: Allocator>(
     entry: &mut Entry<A>,
     waiter: Waiter<A>,
 ) -> Result<Asked, Unasked<A>>
-    ensures joins { Joins (opened entry.old) (asker waiter) (asked_or_fault result)
-        (opened entry.new) }
+    ensures joins { Joins entry.old waiter (asked_or_fault result) entry.new }
     ensures back { IfErr result (λ u. u.waiter ≡ waiter) }
 {
     if entry.waiters.has(&waiter) {

@@ -5,6 +5,7 @@
 #![tactic(auto)]
 
 mod answer;
+pub mod bounds;
 mod entry;
 mod laws;
 mod pending;

@@ -1,25 +1,22 @@
 //! The table of open questions.
 
 ghost use Rattle.std.specs.Prelude.{◌≡◌, ◌<◌, ◌≤◌, [], IfErr, IfSome, OnErr, MatchOption, map, option_copied, IsTrue, ◌↔◌};
-ghost use Rattle.fleet_wire.specs.Question.{asked};
-ghost use Rattle.fleet_pending.specs.Asking.{Asks, Opens, Settles, Advances, asked_or_fault, moved_on};
-ghost use Rattle.fleet_pending.specs.Due.{Dues, due_at, opened_due};
-ghost use Rattle.fleet_pending.specs.Entry.{opened, opened_in};
-ghost use Rattle.fleet_pending.specs.Outstanding.{UsesId, AsksFor, Matches, IsOpen, IsOutstanding};
+ghost use Rattle.fleet_wire.specs.Question.{question_data};
+ghost use Rattle.fleet_pending.specs.Asking.{Asks, Opens, Settles, Advances, asked_or_fault, with_next_upstream};
+ghost use Rattle.fleet_pending.specs.Due.{Dues, due_at, due_entry};
+ghost use Rattle.fleet_pending.specs.PendingData.{UsesId, AsksFor, Matches, IsEntryData, IsPendingData};
+ghost use Rattle.fleet_pending.specs.declared.bounds.TheConstants.{MOST_UPSTREAMS};
 ghost use Rattle.fleet_name.specs.Places.{Finds};
-ghost use Rattle.fleet_pending.specs.Waiter.{asker};
 
 use crate::answer::{Asked, Due, PendingFault, Unasked};
-use crate::entry::{Entry, TRY_SECONDS, join, make_entry};
-use crate::search::{asks_for, first_due, first_free, place_of_id, place_of_question};
+use crate::bounds::{MOST_ENTRIES, TRY_SECONDS};
+use crate::entry::{Entry, join, make_entry};
+use crate::search::{asks_for, first_due_entry, first_free_id, place_of_id, place_of_question};
 use crate::waiter::Waiter;
 use fleet_observe::Moment;
 use fleet_wire::Question;
 use std::alloc::{Allocator, Global};
 use std::marker::Model;
-
-/// How many questions may be open.
-const MOST_ENTRIES: usize = 256;
 
 /// The open questions.
 #[derive(Drop)]
@@ -29,14 +26,14 @@ pub struct Pending<A: Allocator = Global> {
 }
 
 impl<A: Allocator> Model for Pending<A> {
-    ghost use Rattle.fleet_pending.specs.Outstanding.{Outstanding, IsOutstanding};
-    ghost use Rattle.fleet_pending.specs.Entry.{table};
+    ghost use Rattle.fleet_pending.specs.PendingData.{PendingData, IsPendingData};
 
-    ghost Value = { Outstanding };
+    ghost Value = { PendingData };
 
-    ghost view = { λ p. table p.upstreams p.entries.items };
+    ghost view = { λ p. record { upstreams = p.upstreams; entries = p.entries.items } };
 
-    ghost invariant = { λ p. IsOutstanding (table p.upstreams p.entries.items) };
+    ghost invariant = { λ p.
+        IsPendingData (record { upstreams = p.upstreams; entries = p.entries.items }) };
 }
 
 impl<A: Allocator> Pending<A> {
@@ -44,9 +41,9 @@ impl<A: Allocator> Pending<A> {
     /// after the other.
     pub fn new(alloc: A, upstreams: u8) -> Pending<A>
         requires some { 1 ≤ upstreams }
-        requires few { upstreams ≤ 4 }
+        requires few { upstreams ≤ MOST_UPSTREAMS }
         ensures empty { result ≡ record { upstreams = upstreams; entries = [] } }
-        ensures outstanding { IsOutstanding result }
+        ensures outstanding { IsPendingData result }
     {
         Pending {
             upstreams,
@@ -67,11 +64,11 @@ impl<A: Allocator> Pending<A> {
     pub fn ask(&mut self, waiter: Waiter<A>, moment: Moment, word: u16) -> Result<Asked, Unasked<A>>
     where
         A: Copy,
-        ensures asks { Asks self.old (asker waiter) moment word (asked_or_fault result) self.new }
+        ensures asks { Asks self.old waiter moment word (asked_or_fault result) self.new }
         ensures back { IfErr result (λ u. u.waiter ≡ waiter) }
         ensures unchanged { OnErr result (self.new ≡ self.old) }
         ensures upstreams { self.new.upstreams ≡ self.old.upstreams }
-        ensures outstanding { IsOutstanding self.new }
+        ensures outstanding { IsPendingData self.new }
     {
         match place_of_question(self.entries.as_slice(), &waiter.question) {
             Some(i) => join(&mut self.entries[i], waiter),
@@ -81,9 +78,9 @@ impl<A: Allocator> Pending<A> {
 
     /// The entry with an id.
     pub fn entry(&self, id: u16) -> Option<&Entry<A>>
-        ensures finds { Finds (UsesId id) self.now.entries (opened_in (option_copied result)) }
-        ensures is_open { IfSome result (λ e. IsOpen (opened e.now)) }
-        ensures outstanding { IsOutstanding self.now }
+        ensures finds { Finds (UsesId id) self.now.entries (option_copied result) }
+        ensures is_open { IfSome result (λ e. IsEntryData e.now) }
+        ensures outstanding { IsPendingData self.now }
     {
         let i = place_of_id(self.entries.as_slice(), id)?;
         Some(&self.entries[i])
@@ -92,10 +89,10 @@ impl<A: Allocator> Pending<A> {
     /// The entry that a reply is for: it asks this upstream now, under this id, for this name and
     /// type, and the reply's question is of class 1 (IN), whatever its waiters' classes are.
     pub fn find(&self, upstream: u8, id: u16, question: &Question<A>) -> Option<&Entry<A>>
-        ensures finds { Finds (Matches upstream id (asked question.now)) self.now.entries
-            (opened_in (option_copied result)) }
-        ensures is_open { IfSome result (λ e. IsOpen (opened e.now)) }
-        ensures outstanding { IsOutstanding self.now }
+        ensures finds { Finds (Matches upstream id (question_data question.now)) self.now.entries
+            (option_copied result) }
+        ensures is_open { IfSome result (λ e. IsEntryData e.now) }
+        ensures outstanding { IsPendingData self.now }
     {
         let i = place_of_id(self.entries.as_slice(), id)?;
         let entry = &self.entries[i];
@@ -108,10 +105,10 @@ impl<A: Allocator> Pending<A> {
 
     /// Gives the entry with an id back, and removes it.
     pub fn settle(&mut self, id: u16) -> Option<Entry<A>>
-        ensures settles { Settles self.old id (opened_in result) self.new }
-        ensures is_open { IfSome result (λ e. IsOpen (opened e)) }
+        ensures settles { Settles self.old id result self.new }
+        ensures is_open { IfSome result (λ e. IsEntryData e) }
         ensures upstreams { self.new.upstreams ≡ self.old.upstreams }
-        ensures outstanding { IsOutstanding self.new }
+        ensures outstanding { IsPendingData self.new }
     {
         let i = place_of_id(self.entries.as_slice(), id)?;
         Some(self.entries.remove(i))
@@ -120,7 +117,7 @@ impl<A: Allocator> Pending<A> {
     /// Removes all entries, as of a new table; the room is kept.
     pub fn clear(&mut self)
         ensures cleared { self.new ≡ record self.old { entries = [] } }
-        ensures outstanding { IsOutstanding self.new }
+        ensures outstanding { IsPendingData self.new }
     {
         self.entries.clear();
     }
@@ -130,12 +127,12 @@ impl<A: Allocator> Pending<A> {
     /// upstream, or has failed after the last.
     pub fn due(&self, moment: Moment) -> Option<Due<'_, A>>
         ensures dues { Dues self.now moment result }
-        ensures is_open { IfSome result (λ d. IsOpen (opened_due d)) }
+        ensures is_open { IfSome result (λ d. IsEntryData (due_entry d)) }
         ensures count { MatchOption result (due_at self.now moment ≡ 0)
             (λ _. 0 < due_at self.now moment) }
-        ensures outstanding { IsOutstanding self.now }
+        ensures outstanding { IsPendingData self.now }
     {
-        let entry = first_due(self.entries.as_slice(), moment.value())?;
+        let entry = first_due_entry(self.entries.as_slice(), moment.value())?;
         let id = entry.id;
         let upstream = entry.upstream + 1;
         if upstream < self.upstreams {
@@ -154,7 +151,7 @@ impl<A: Allocator> Pending<A> {
     pub fn advance(&mut self, id: u16, moment: Moment) -> bool
         ensures advances { Advances self.old id moment result self.new }
         ensures upstreams { self.new.upstreams ≡ self.old.upstreams }
-        ensures outstanding { IsOutstanding self.new }
+        ensures outstanding { IsPendingData self.new }
     {
         match place_of_id(self.entries.as_slice(), id) {
             Some(i) => {
@@ -173,8 +170,8 @@ impl<A: Allocator> Pending<A> {
 
 /// The entry goes on to the next upstream.
 fn move_on<A: Allocator>(entry: &mut Entry<A>, moment: Moment)
-    requires { entry.old.upstream < 4 }
-    ensures { opened entry.new ≡ moved_on (opened entry.old) moment }
+    requires { entry.old.upstream < MOST_UPSTREAMS }
+    ensures { entry.new ≡ with_next_upstream entry.old moment }
 {
     entry.upstream += 1;
     entry.deadline = moment.value() + TRY_SECONDS;
@@ -184,7 +181,7 @@ fn move_on<A: Allocator>(entry: &mut Entry<A>, moment: Moment)
 fn matches<A: Allocator>(entry: &Entry<A>, upstream: u8, question: &Question<A>) -> bool
     ensures { IsTrue result
         ↔ ((entry.now.upstream ≡ upstream)
-        × AsksFor (asked question.now) (opened entry.now)
+        × AsksFor (question_data question.now) entry.now
         × (question.now.class ≡ 1)) }
 {
     entry.upstream == upstream && question.class == 1 && asks_for(entry, question)
@@ -197,9 +194,8 @@ fn add_entry<A: Allocator + Copy>(
     moment: Moment,
     word: u16,
 ) -> Result<Asked, Unasked<A>>
-    ensures opens { Opens (map opened entries.old.items) (asker waiter) moment word
-        (asked_or_fault result)
-        (map opened entries.new.items) }
+    ensures opens { Opens entries.old.items waiter moment word (asked_or_fault result)
+        entries.new.items }
     ensures back { IfErr result (λ u. u.waiter ≡ waiter) }
 {
     if entries.len() >= MOST_ENTRIES {
@@ -210,8 +206,8 @@ fn add_entry<A: Allocator + Copy>(
     if let Err(_) = entries.reserve(1) {
         return Err(Unasked { fault, waiter });
     }
-    let id = first_free(entries.as_slice(), word);
-    match make_entry(*entries.allocator(), waiter, moment.value(), id) {
+    let id = first_free_id(entries.as_slice(), word);
+    match make_entry(*entries.allocator(), waiter, moment, id) {
         Ok(entry) => {
             entries.push_reserved(entry);
             Ok(Asked::Send { upstream: 0, id })

@@ -1,20 +1,21 @@
 //! Where the entries of a table are.
 
-ghost use Rattle.std.specs.Prelude.{◌≡◌, ◌<◌, ◌≤◌, ◌⊎◌, ◌↔◌, IsTrue, MatchOption, true, false, length, map};
-ghost use Rattle.fleet_wire.specs.Question.{asked};
-ghost use Rattle.fleet_pending.specs.Entry.{opened};
+ghost use Rattle.std.specs.Prelude.{◌<◌, ◌≤◌, ◌↔◌, IsTrue, MatchOption, length};
+ghost use Rattle.fleet_wire.specs.Question.{question_data};
 ghost use Rattle.fleet_pending.specs.FreeId.{AreTaken, IsFirstFree};
-ghost use Rattle.fleet_pending.specs.Due.{IsFirstDue, NoneDue, NotAfter};
-ghost use Rattle.fleet_pending.specs.Outstanding.{UsesId, AsksFor};
+ghost use Rattle.fleet_pending.specs.Due.{IsFirstDue, NoneDue, IsBefore};
+ghost use Rattle.fleet_pending.specs.PendingData.{UsesId, AsksFor};
+ghost use Rattle.fleet_pending.specs.declared.bounds.TheConstants.{MOST_ENTRIES};
 ghost use Rattle.fleet_name.specs.Places.{IsPlace};
 
+use crate::bounds::MOST_ENTRIES;
 use crate::entry::Entry;
 use fleet_wire::Question;
 use std::alloc::Allocator;
 
 /// The place of the entry with an id.
 pub(crate) fn place_of_id<A: Allocator>(entries: &[Entry<A>], id: u16) -> Option<usize>
-    ensures { IsPlace (UsesId id) (map opened entries.now) result }
+    ensures { IsPlace (UsesId id) entries.now result }
 {
     for (i, entry) in entries.iter().enumerate() {
         if entry.id == id {
@@ -29,7 +30,7 @@ pub(crate) fn place_of_question<A: Allocator>(
     entries: &[Entry<A>],
     question: &Question<A>,
 ) -> Option<usize>
-    ensures { IsPlace (AsksFor (asked question.now)) (map opened entries.now) result }
+    ensures { IsPlace (AsksFor (question_data question.now)) entries.now result }
 {
     for (i, entry) in entries.iter().enumerate() {
         if asks_for(entry, question) {
@@ -41,18 +42,18 @@ pub(crate) fn place_of_question<A: Allocator>(
 
 /// Whether the entry is for a question of this name and type.
 pub(crate) fn asks_for<A: Allocator>(entry: &Entry<A>, question: &Question<A>) -> bool
-    ensures { IsTrue result ↔ AsksFor (asked question.now) (opened entry.now) }
+    ensures { IsTrue result ↔ AsksFor (question_data question.now) entry.now }
 {
     entry.rtype == question.rtype && entry.name.same(&question.name)
 }
 
 /// The first id from `word` upwards, modulo 65536, that no entry has.
-pub(crate) fn first_free<A: Allocator>(entries: &[Entry<A>], word: u16) -> u16
-    requires { length entries.now < 256 }
-    ensures { IsFirstFree word (map opened entries.now) result }
+pub(crate) fn first_free_id<A: Allocator>(entries: &[Entry<A>], word: u16) -> u16
+    requires { length entries.now < MOST_ENTRIES }
+    ensures { IsFirstFree word entries.now result }
 {
-    let taken = taken_from(entries, word);
-    for passed in 0..256u16 {
+    let taken = mark_taken(entries, word);
+    for passed in 0..MOST_ENTRIES as u16 {
         if !taken[passed as usize] {
             return word.wrapping_add(passed);
         }
@@ -61,10 +62,10 @@ pub(crate) fn first_free<A: Allocator>(entries: &[Entry<A>], word: u16) -> u16
 }
 
 /// Which of the 256 ids from `word` upwards an entry has.
-fn taken_from<A: Allocator>(entries: &[Entry<A>], word: u16) -> [bool; 256]
-    ensures { AreTaken word (map opened entries.now) result }
+fn mark_taken<A: Allocator>(entries: &[Entry<A>], word: u16) -> [bool; MOST_ENTRIES]
+    ensures { AreTaken word entries.now result }
 {
-    let mut taken = [false; 256];
+    let mut taken = [false; MOST_ENTRIES];
     for entry in entries {
         let passed = entry.id.wrapping_sub(word) as usize;
         if passed < taken.len() {
@@ -75,9 +76,9 @@ fn taken_from<A: Allocator>(entries: &[Entry<A>], word: u16) -> [bool; 256]
 }
 
 /// The entry that is to be served first.
-pub(crate) fn first_due<A: Allocator>(entries: &[Entry<A>], moment: u64) -> Option<&Entry<A>>
-    ensures { MatchOption result (NoneDue (map opened entries.now) moment)
-        (λ e. IsFirstDue (map opened entries.now) moment (opened e.now)) }
+pub(crate) fn first_due_entry<A: Allocator>(entries: &[Entry<A>], moment: u64) -> Option<&Entry<A>>
+    ensures { MatchOption result (NoneDue entries.now moment)
+        (λ e. IsFirstDue entries.now moment e.now) }
 {
     let mut first: Option<&Entry<A>> = None;
     for entry in entries {
@@ -90,12 +91,8 @@ pub(crate) fn first_due<A: Allocator>(entries: &[Entry<A>], moment: u64) -> Opti
 
 /// Whether this entry is due, and before the first one so far.
 fn replaces<A: Allocator>(first: Option<&Entry<A>>, entry: &Entry<A>, moment: u64) -> bool
-    ensures yes { result ≡ true
-        → (entry.now.deadline ≤ moment)
-        × MatchOption first.entry (Unit {0}) (λ o. NotAfter (opened entry.now) (opened o.now)) }
-    ensures no { result ≡ false
-        → (moment < entry.now.deadline)
-        ⊎ MatchOption first.entry ⊥ (λ o. NotAfter (opened o.now) (opened entry.now)) }
+    ensures { IsTrue result ↔ ((entry.now.deadline ≤ moment)
+        × MatchOption first.entry (Unit {0}) (λ o. IsBefore entry.now o.now)) }
 {
     if entry.deadline > moment {
         return false;
@@ -108,8 +105,7 @@ fn replaces<A: Allocator>(first: Option<&Entry<A>>, entry: &Entry<A>, moment: u6
 
 /// Whether one entry is served before another.
 fn is_before<A: Allocator>(entry: &Entry<A>, other: &Entry<A>) -> bool
-    ensures yes { result ≡ true → NotAfter (opened entry.now) (opened other.now) }
-    ensures no { result ≡ false → NotAfter (opened other.now) (opened entry.now) }
+    ensures { IsTrue result ↔ IsBefore entry.now other.now }
 {
     if entry.deadline == other.deadline {
         entry.id < other.id

@@ -23,8 +23,8 @@ fn moment(seconds: u64) -> Result<Moment, Fail> {
     Ok(Moment::new(seconds).ok_or("moment")?)
 }
 
-/// What one who asks at 100 is told: from a port of 127.0.0.1, under an id.
-fn told(
+/// Asks at 100 from a port of 127.0.0.1, under an id.
+fn ask_at_100(
     table: &mut Pending,
     question: Question,
     asker: (u16, u16),
@@ -41,7 +41,7 @@ fn told(
 }
 
 /// A query with this id goes to the first upstream.
-fn sent(id: u16) -> Result<Asked, PendingFault> {
+fn sends(id: u16) -> Result<Asked, PendingFault> {
     Ok(Asked::Send { upstream: 0, id })
 }
 
@@ -49,14 +49,14 @@ fn sent(id: u16) -> Result<Asked, PendingFault> {
 fn each_waiter_is_answered_once(rt: HostRuntime) -> Result<(), Fail> {
     let mut table = Pending::new(rt.alloc(), 2);
     let asks = [
-        (6001, 7, 0x1234, sent(0x1234)),
+        (6001, 7, 0x1234, sends(0x1234)),
         (6002, 8, 9, Ok(Asked::Joined)),
         (6001, 7, 0x1234, Ok(Asked::Again)),
         (6001, 9, 0x1234, Ok(Asked::Joined)),
     ];
     for (port, id, word, answer) in asks {
         let asked = question(rt.alloc(), 0)?;
-        assert_eq!(rt; told(&mut table, asked, (port, id), word)?, answer);
+        assert_eq!(rt; ask_at_100(&mut table, asked, (port, id), word)?, answer);
     }
 
     let asked = question(rt.alloc(), 0)?;
@@ -77,17 +77,17 @@ fn at_most_256_are_open(rt: HostRuntime) -> Result<(), Fail> {
     let mut table = Pending::new(rt.alloc(), 2);
     for number in 0..256u16 {
         let asked = question(rt.alloc(), number)?;
-        let answer = sent(number.wrapping_sub(1));
-        assert_eq!(rt; told(&mut table, asked, (6001, 7), 65535)?, answer);
+        let answer = sends(number.wrapping_sub(1));
+        assert_eq!(rt; ask_at_100(&mut table, asked, (6001, 7), 65535)?, answer);
     }
     let last = question(rt.alloc(), 256)?;
     assert_eq!(rt;
-        told(&mut table, last, (6001, 7), 65535)?,
+        ask_at_100(&mut table, last, (6001, 7), 65535)?,
         Err(PendingFault::Full)
     );
     let joins = question(rt.alloc(), 255)?;
     assert_eq!(rt;
-        told(&mut table, joins, (6002, 7), 65535)?,
+        ask_at_100(&mut table, joins, (6002, 7), 65535)?,
         Ok(Asked::Joined)
     );
     assert!(rt; table.due(moment(101)?).is_none());
@@ -115,15 +115,15 @@ fn at_most_32_wait_for_one_question(rt: HostRuntime) -> Result<(), Fail> {
     for port in 6001..6034u16 {
         let asked = question(rt.alloc(), 0)?;
         let answer = match port {
-            6001 => sent(0x1234),
+            6001 => sends(0x1234),
             6033 => Err(PendingFault::WaitersFull),
             _ => Ok(Asked::Joined),
         };
-        assert_eq!(rt; told(&mut table, asked, (port, 7), 0x1234)?, answer);
+        assert_eq!(rt; ask_at_100(&mut table, asked, (port, 7), 0x1234)?, answer);
     }
     let again = question(rt.alloc(), 0)?;
     assert_eq!(rt;
-        told(&mut table, again, (6001, 7), 0x1234)?,
+        ask_at_100(&mut table, again, (6001, 7), 0x1234)?,
         Ok(Asked::Again)
     );
     assert!(rt;
@@ -140,10 +140,10 @@ fn a_question_of_another_class_waits(rt: HostRuntime) -> Result<(), Fail> {
     let mut table = Pending::new(rt.alloc(), 1);
     let mut chaos = question(rt.alloc(), 0)?;
     chaos.class = 3;
-    assert_eq!(rt; told(&mut table, chaos, (6001, 7), 1)?, sent(1));
+    assert_eq!(rt; ask_at_100(&mut table, chaos, (6001, 7), 1)?, sends(1));
     let internet = question(rt.alloc(), 0)?;
     assert_eq!(rt;
-        told(&mut table, internet, (6002, 7), 1)?,
+        ask_at_100(&mut table, internet, (6002, 7), 1)?,
         Ok(Asked::Joined)
     );
     let mut replied = question(rt.alloc(), 0)?;
@@ -158,13 +158,16 @@ fn a_cleared_table_is_as_new(rt: HostRuntime) -> Result<(), Fail> {
     let mut table = Pending::new(rt.alloc(), 2);
     for number in 0..3u16 {
         let asked = question(rt.alloc(), number)?;
-        assert_eq!(rt; told(&mut table, asked, (6001, 7), 1)?, sent(number + 1));
+        assert_eq!(rt;
+            ask_at_100(&mut table, asked, (6001, 7), 1)?,
+            sends(number + 1)
+        );
     }
     table.clear();
     assert!(rt; table.entry(1).is_none());
     assert!(rt; table.due(moment(102)?).is_none());
     let asked = question(rt.alloc(), 2)?;
-    assert_eq!(rt; told(&mut table, asked, (6001, 7), 1)?, sent(1));
+    assert_eq!(rt; ask_at_100(&mut table, asked, (6001, 7), 1)?, sends(1));
     assert!(rt;
         matches!(
             table.due(moment(102)?),

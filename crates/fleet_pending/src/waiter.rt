@@ -2,6 +2,7 @@
 
 use fleet_wire::Question;
 use std::alloc::{Allocator, Global};
+use std::marker::Model;
 
 /// Where a datagram comes from or goes to.
 #[derive(Clone, Copy, Debug, PartialEq, Eq, PartialOrd, Ord)]
@@ -21,4 +22,14 @@ pub struct Waiter<A: Allocator = Global> {
     pub id: u16,
     /// The question, in its own spelling.
     pub question: Question<A>,
+}
+
+impl<A: Allocator> Model for Waiter<A> {
+    ghost use Rattle.fleet_pending.specs.Waiter.{WaiterData};
+
+    ghost Value = { WaiterData };
+
+    ghost use Rattle.fleet_wire.specs.Question.{question_data};
+
+    ghost view = { λ w. record { from = w.from; id = w.id; question = question_data w.question } };
 }

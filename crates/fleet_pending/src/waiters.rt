@@ -1,8 +1,7 @@
 //! Waiters in order of joining.
 
 ghost use Rattle.std.specs.Prelude.{◌≡◌, ◌++◌, ◌∷◌, [], ◌↔◌, IsTrue, IfErr, OnErr, OnOk, MatchResult, length, map};
-ghost use Rattle.fleet_pending.specs.Asker.{SameAsker, Waits};
-ghost use Rattle.fleet_pending.specs.Waiter.{asker};
+ghost use Rattle.fleet_pending.specs.Waiter.{SameAsker, Waits};
 
 use crate::waiter::Waiter;
 use std::alloc::{AllocFailed, Allocator, Global};
@@ -16,26 +15,24 @@ pub struct Waiters<A: Allocator = Global> {
 
 impl<A: Allocator> Model for Waiters<A> {
     ghost use Rattle.std.specs.Prelude.{List, map};
-    ghost use Rattle.fleet_pending.specs.Asker.{Asker};
+    ghost use Rattle.fleet_pending.specs.Waiter.{WaiterData};
 
-    ghost Value = { List Asker };
+    ghost Value = { List WaiterData };
 
-    ghost use Rattle.fleet_pending.specs.Waiter.{asker};
-
-    ghost view = { λ w. map asker w.items.items };
+    ghost view = { λ w. w.items.items };
 }
 
 impl<A: Allocator> Waiters<A> {
     /// The waiters of a vector, in its order.
     pub fn new(items: Vec<Waiter<A>, A>) -> Waiters<A>
-        ensures { result ≡ map asker items.items }
+        ensures { result ≡ items.items }
     {
         Waiters { items }
     }
 
     /// One waiter; where there is no memory, the waiter comes back.
     pub(crate) fn of_one(alloc: A, waiter: Waiter<A>) -> Result<Waiters<A>, Waiter<A>>
-        ensures { MatchResult result (λ w. w ≡ asker waiter ∷ []) (λ w. w ≡ waiter) }
+        ensures { MatchResult result (λ w. w ≡ waiter ∷ []) (λ w. w ≡ waiter) }
     {
         match Vec::with_capacity(alloc, 1) {
             Ok(mut items) => {
@@ -48,7 +45,7 @@ impl<A: Allocator> Waiters<A> {
 
     /// The waiters in order of joining.
     pub fn as_slice(&self) -> &[Waiter<A>]
-        ensures value { map asker result.now ≡ self.now }
+        ensures value { result.now ≡ self.now }
         ensures len { length result.now ≡ length self.now }
     {
         self.items.as_slice()
@@ -63,7 +60,7 @@ impl<A: Allocator> Waiters<A> {
 
     /// Adds a waiter after the others; where there is no memory, it comes back.
     pub(crate) fn push(&mut self, waiter: Waiter<A>) -> Result<(), AllocFailed<Waiter<A>>>
-        ensures ok { OnOk result (self.new ≡ self.old ++ asker waiter ∷ []) }
+        ensures ok { OnOk result (self.new ≡ self.old ++ waiter ∷ []) }
         ensures err { OnErr result (self.new ≡ self.old) }
         ensures back { IfErr result (λ f. f.value ≡ waiter) }
     {
@@ -72,7 +69,7 @@ impl<A: Allocator> Waiters<A> {
 
     /// Whether one from the same address waits under the same id.
     pub(crate) fn has(&self, waiter: &Waiter<A>) -> bool
-        ensures { IsTrue result ↔ Waits (asker waiter.now) self.now }
+        ensures { IsTrue result ↔ Waits waiter.now self.now }
     {
         is_among(waiter, self.as_slice())
     }
@@ -80,7 +77,7 @@ impl<A: Allocator> Waiters<A> {
 
 /// Whether the same asker is among these.
 fn is_among<A: Allocator>(waiter: &Waiter<A>, waiters: &[Waiter<A>]) -> bool
-    ensures { IsTrue result ↔ Waits (asker waiter.now) (map asker waiters.now) }
+    ensures { IsTrue result ↔ Waits waiter.now waiters.now }
 {
     for other in waiters {
         if is_same_asker(other, waiter) {
@@ -92,7 +89,7 @@ fn is_among<A: Allocator>(waiter: &Waiter<A>, waiters: &[Waiter<A>]) -> bool
 
 /// Whether the two wait at the same address, under the same id.
 fn is_same_asker<A: Allocator>(one: &Waiter<A>, other: &Waiter<A>) -> bool
-    ensures { IsTrue result ↔ SameAsker (asker one.now) (asker other.now) }
+    ensures { IsTrue result ↔ SameAsker one.now other.now }
 {
     one.from == other.from && one.id == other.id
 }

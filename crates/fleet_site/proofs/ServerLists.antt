@@ -2,11 +2,11 @@
 use Rattle.std.proofs.Common.{◌≡◌, ℕ, ◌+◌, ◌<◌, List, [], ◌∷◌, ◌++◌, Bool, Option, Some, None, Result, Ok, refl, sym, ap, subst, ◌∙◌, append_assoc, length, take, get_or, map, is_some}
 use Rattle.std.proofs.lemmas.List.{append-nil, map-append, take_more}
 use Rattle.fleet_pending.specs.declared.waiter.Addr.{Addr}
-use Rattle.fleet_site.specs.Sent.{Sent}
-use Rattle.fleet_site.specs.Packet.{sent}
-use Rattle.fleet_site.specs.Effect.{Effect, nothing}
+use Rattle.fleet_site.specs.PacketData.{PacketData}
+use Rattle.fleet_site.specs.Packet.{packet_data}
+use Rattle.fleet_site.specs.OutcomeData.{OutcomeData, nothing}
 use Rattle.fleet_site.specs.PortRecord.{PortCall, Received, NoDatagram, Fault, PacketSent, PacketLost, NotesAll, PortState, Made, failures_of, one_more}
-use Rattle.fleet_site.specs.Sending.{AreSent, counting, counting_all, counting_refusal, Sends, CarriesOut, to_each, to_peers}
+use Rattle.fleet_site.specs.Sending.{AreSent, count_call, count_calls, count_refusal_in, Sends, CarriesOut, to_each, to_peers}
 use Rattle.fleet_site.specs.declared.outcome.Packet.{Packet}
 use Rattle.fleet_site.specs.declared.outcome.SiteFault.{SiteFault}
 use Rattle.fleet_site.specs.declared.report.Report.{Report}
@@ -19,11 +19,11 @@ failures_of-append (Fault ∷ cs) ds n = failures_of-append cs ds (one_more n)
 failures_of-append (PacketSent s ∷ cs) ds n = failures_of-append cs ds n
 failures_of-append (PacketLost s ∷ cs) ds n = failures_of-append cs ds (one_more n)
 
-pub counting-append : (cs ds : List PortCall) (r : Report) → counting_all (cs ++ ds) r ≡ counting_all ds (counting_all cs r)
+pub counting-append : (cs ds : List PortCall) (r : Report) → count_calls (cs ++ ds) r ≡ count_calls ds (count_calls cs r)
 counting-append [] ds r = refl
-counting-append (c ∷ cs) ds r = counting-append cs ds (counting c r)
+counting-append (c ∷ cs) ds r = counting-append cs ds (count_call c r)
 
-sent_both : (ss ts : List Sent) (cs ds : List PortCall) → AreSent ss cs → AreSent ts ds → AreSent (ss ++ ts) (cs ++ ds)
+sent_both : (ss ts : List PacketData) (cs ds : List PortCall) → AreSent ss cs → AreSent ts ds → AreSent (ss ++ ts) (cs ++ ds)
 sent_both [] ts [] ds h k = k
 sent_both [] ts (c ∷ cs) ds h k = absurd h
 sent_both (s ∷ ss) ts [] ds h k = absurd h
@@ -52,13 +52,13 @@ made_both old mid new cs ds a b = record {
 pub sends_none : (old : PortState) (r : Report) → Sends old old [] r r
 sends_none old r = record { calls = []; made = made_none old; sent = tt; report = refl }
 
-pub sends_more : (old mid new : PortState) (ss ts us : List Sent) (r q p : Report)
+pub sends_more : (old mid new : PortState) (ss ts us : List PacketData) (r q p : Report)
     → us ≡ ss ++ ts → Sends old mid ss r q → Sends mid new ts q p → Sends old new us r p
 sends_more old mid new ss ts us r q p e a b = record {
   calls = a.calls ++ b.calls;
   made = made_both old mid new a.calls b.calls a.made b.made;
   sent = rw e (sent_both ss ts a.calls b.calls a.sent b.sent);
-  report = b.report ∙ ap (counting_all b.calls) a.report ∙ sym (counting-append a.calls b.calls r);
+  report = b.report ∙ ap (count_calls b.calls) a.report ∙ sym (counting-append a.calls b.calls r);
 }
 
 to_each-append : (frame : List ℕ) (ps qs : List Addr) → to_each frame (ps ++ qs) ≡ to_each frame ps ++ to_each frame qs
@@ -69,8 +69,8 @@ to_peers-append : (peers : List Addr) (fs gs : List (List ℕ)) → to_peers pee
 to_peers-append peers [] gs = refl
 to_peers-append peers (f ∷ fs) gs = ap (λ xs. to_each f peers ++ xs) (to_peers-append peers fs gs) ∙ sym (append_assoc (to_each f peers) (to_peers peers fs) (to_peers peers gs))
 
-pub packets_more : {A : Type 0} (ps : List (Packet A)) (i : ℕ) (p : Packet A) → i < length ps → p ≡ get_or ps i p → map sent (take (i + 1) ps) ≡ map sent (take i ps) ++ sent p ∷ []
-packets_more ps i p h e = ap (map sent) (take_more ps i p h) ∙ map-append sent (take i ps) (get_or ps i p ∷ []) ∙ ap (λ x. map sent (take i ps) ++ sent x ∷ []) (sym e)
+pub packets_more : {A : Type 0} (ps : List (Packet A)) (i : ℕ) (p : Packet A) → i < length ps → p ≡ get_or ps i p → map packet_data (take (i + 1) ps) ≡ map packet_data (take i ps) ++ packet_data p ∷ []
+packets_more ps i p h e = ap (map packet_data) (take_more ps i p h) ∙ map-append packet_data (take i ps) (get_or ps i p ∷ []) ∙ ap (λ x. map packet_data (take i ps) ++ packet_data x ∷ []) (sym e)
 
 pub to_each_more : (frame : List ℕ) (ps : List Addr) (i : ℕ) (d : Addr) → i < length ps
     → to_each frame (take (i + 1) ps) ≡ to_each frame (take i ps) ++ record { to = get_or ps i d; octets = frame } ∷ []
@@ -82,23 +82,23 @@ to_peers_more peers fs i f h e =
     let a : take (i + 1) fs ≡ take i fs ++ f ∷ [] = take_more fs i f h ∙ ap (λ (x : List ℕ). take i fs ++ x ∷ []) (sym e) in
     ap (to_peers peers) a ∙ to_peers-append peers (take i fs) (f ∷ []) ∙ ap (λ xs. to_peers peers (take i fs) ++ xs) (append-nil (to_each f peers))
 
-pub carries : (old mid new : PortState) (peers : List Addr) (e : Effect) (ss ts : List Sent) (r q p u : Report)
-    → ss ≡ e.packets → ts ≡ to_peers peers e.frames → q ≡ counting_refusal (is_some e.refused) r → Sends old mid ss q p → Sends mid new ts p u
+pub carries : (old mid new : PortState) (peers : List Addr) (e : OutcomeData) (ss ts : List PacketData) (r q p u : Report)
+    → ss ≡ e.packets → ts ≡ to_peers peers e.frames → q ≡ count_refusal_in (is_some e.refused) r → Sends old mid ss q p → Sends mid new ts p u
     → CarriesOut old new peers (Ok e) r u
 carries old mid new peers e ss ts r q p u d k i a b =
     let all = sends_more old mid new ss ts (ss ++ ts) q p u refl a b in
     record {
       calls = all.calls;
       made = all.made;
-      sent = subst (λ (xs : List Sent). AreSent xs all.calls) (ap (λ (xs : List Sent). xs ++ ts) d ∙ ap (λ (xs : List Sent). e.packets ++ xs) k) all.sent;
-      report = all.report ∙ ap (counting_all all.calls) i;
+      sent = subst (λ (xs : List PacketData). AreSent xs all.calls) (ap (λ (xs : List PacketData). xs ++ ts) d ∙ ap (λ (xs : List PacketData). e.packets ++ xs) k) all.sent;
+      report = all.report ∙ ap (count_calls all.calls) i;
     }
 
-pub carries_frames : (old new : PortState) (peers : List Addr) (ts : List Sent) (fs : List (List ℕ)) (r q : Report)
+pub carries_frames : (old new : PortState) (peers : List Addr) (ts : List PacketData) (fs : List (List ℕ)) (r q : Report)
     → ts ≡ to_peers peers fs → Sends old new ts r q → CarriesOut old new peers (Ok (record nothing { frames = fs })) r q
 carries_frames old new peers ts fs r q e a = record {
   calls = a.calls;
   made = a.made;
-  sent = subst (λ (xs : List Sent). AreSent xs a.calls) e a.sent;
+  sent = subst (λ (xs : List PacketData). AreSent xs a.calls) e a.sent;
   report = a.report;
 }

@@ -1,7 +1,7 @@
 -- The record of a port: what it was asked, and how each call ended.
 use Rattle.std.specs.Prelude.{◌≡◌, ℕ, ◌+◌, min, List, [], ◌∷◌, ◌++◌, Option, Some, None, Result, Ok, Err, take}
 use Rattle.fleet_pending.specs.declared.waiter.Addr.{Addr}
-use Rattle.fleet_site.specs.Sent.{Sent}
+use Rattle.fleet_site.specs.PacketData.{PacketData}
 use Rattle.fleet_site.specs.declared.port.PortFault.{PortFault}
 
 -- a datagram was received, or none, or the receive failed; a packet was sent, or it was lost
@@ -9,18 +9,14 @@ pub data PortCall : Type 0 where
   Received : (from : Addr) → (octets : List ℕ) → PortCall
   NoDatagram : PortCall
   Fault : PortCall
-  PacketSent : Sent → PortCall
-  PacketLost : Sent → PortCall
+  PacketSent : PacketData → PortCall
+  PacketLost : PacketData → PortCall
 
 -- where the port still tells its record, it told it before, and these calls are the last ones
 abbrev pub NotesAll : Option (List PortCall) → List PortCall → Option (List PortCall) → Type 0
 NotesAll old calls None = Unit {0}
 NotesAll old calls (Some now) =
     (before : List PortCall) × (old ≡ Some before) × (now ≡ before ++ calls)
-
--- the same of one call
-abbrev pub Notes : Option (List PortCall) → PortCall → Option (List PortCall) → Type 0
-Notes old call now = NotesAll old (call ∷ []) now
 
 -- what a receive into a buffer was, which holds these octets afterwards
 abbrev pub receive_of : Result (Option (Addr × ℕ)) PortFault → List ℕ → PortCall
@@ -29,7 +25,7 @@ receive_of (Ok (Some p)) buffer = Received p.0 (take p.1 buffer)
 receive_of (Err e) buffer = Fault
 
 -- what a send was
-abbrev pub send_of : Result (Unit {0}) PortFault → Sent → PortCall
+abbrev pub send_of : Result (Unit {0}) PortFault → PacketData → PortCall
 send_of (Ok u) s = PacketSent s
 send_of (Err e) s = PacketLost s
 

@@ -1,16 +1,17 @@
 -- A run of a server is its turns, one after the other.
-use Rattle.std.specs.Prelude.{◌≡◌, ℕ, suc, zero, ◌+◌, ◌%◌, ◌≤◌, Bool, true, false, ltb, leb, ◌&&◌, List, [], ◌∷◌, ◌++◌, Option, Some, None, Result, Ok, Err, length}
+use Rattle.std.specs.Prelude.{◌≡◌, ℕ, suc, zero, ◌+◌, ◌%◌, ◌<◌, ◌≤◌, Bool, true, false, List, [], ◌∷◌, ◌++◌, Option, Some, None, Result, Ok, Err, length}
 use Rattle.std.specs.Option.{unwrap_or}
 use Rattle.rand_core.specs.Stream.{Stream, next_u32}
 use Rattle.fleet_pending.specs.declared.waiter.Addr.{Addr}
-use Rattle.fleet_site.specs.Effect.{Effect, nothing}
+use Rattle.fleet_site.specs.Choice.{when◌then◌otherwise◌}
+use Rattle.fleet_site.specs.OutcomeData.{OutcomeData, nothing}
 use Rattle.fleet_site.specs.SiteModel.{SiteModel}
-use Rattle.fleet_site.specs.State.{State}
+use Rattle.fleet_site.specs.SiteData.{SiteData}
 use Rattle.fleet_site.specs.StandsFor.{StandsFor}
 use Rattle.fleet_site.specs.Sweep.{IsSweep}
 use Rattle.fleet_site.specs.Step.{Call, datagram, tick, Says}
 use Rattle.fleet_site.specs.PortRecord.{PortCall, Received, NoDatagram, Fault, PacketSent, PacketLost, PortState, Made, one_more}
-use Rattle.fleet_site.specs.Sending.{AreSent, outgoing, counting, counting_all, counting_step, goes_on}
+use Rattle.fleet_site.specs.Sending.{AreSent, packets_of, count_call, count_calls, count_step, goes_on}
 use Rattle.fleet_site.specs.declared.outcome.SiteFault.{SiteFault}
 use Rattle.fleet_site.specs.declared.outcome.SiteFault.TheVariants.{OutOfMemory}
 use Rattle.fleet_site.specs.declared.report.Report.{Report}
@@ -21,26 +22,20 @@ pub data Deal : Type 0 where
   sweeping : Deal
 
 -- a sweep gives the frames of all that is held, and changes nothing
-abbrev pub SweepSays : SiteModel → Result Effect SiteFault → SiteModel → Type 0
+abbrev pub SweepSays : SiteModel → Result OutcomeData SiteFault → SiteModel → Type 0
 SweepSays m (Ok e) n =
     (frames : List (List ℕ)) × IsSweep m frames × (e ≡ record nothing { frames = frames }) × (n ≡ m)
 SweepSays m (Err (OutOfMemory taken)) n = (taken ≡ 0) × (n ≡ m)
 
 -- from m the step says this and leads to n
-abbrev pub Deals : SiteModel → Deal → Result Effect SiteFault → SiteModel → Type 0
+abbrev pub Deals : SiteModel → Deal → Result OutcomeData SiteFault → SiteModel → Type 0
 Deals m (calling c) a n = Says m c a n
 Deals m sweeping a n = SweepSays m a n
-
--- for each model that the site stood for this is a step, and the site stands for the model
--- afterwards
-pub record Stepped (x : Deal) (a : Result Effect SiteFault) (old new : State) : Type 0 where
-  pub step : (m : SiteModel) → StandsFor old m → (n : SiteModel) × Deals m x a n × StandsFor new n
-  pub setting : new.setting ≡ old.setting
 
 -- a step, what it said, and the calls of the port that sent what it gave
 pub record Act : Type 0 where
   pub deal : Deal
-  pub answer : Result Effect SiteFault
+  pub answer : Result OutcomeData SiteFault
   pub calls : List PortCall
 
 -- all calls of the port
@@ -51,12 +46,12 @@ calls_of (a ∷ acts) = a.calls ++ calls_of acts
 -- a report counts these steps and their calls
 abbrev pub counting_acts : List Act → Report → Report
 counting_acts [] r = r
-counting_acts (a ∷ acts) r = counting_acts acts (counting_all a.calls (counting_step a.answer r))
+counting_acts (a ∷ acts) r = counting_acts acts (count_calls a.calls (count_step a.answer r))
 
 -- of each step all that it gave was sent or lost
 abbrev pub AllSent : List Addr → List Act → Type 0
 AllSent peers [] = Unit {0}
-AllSent peers (a ∷ acts) = AreSent (outgoing peers a.answer) a.calls × AllSent peers acts
+AllSent peers (a ∷ acts) = AreSent (packets_of peers a.answer) a.calls × AllSent peers acts
 
 -- the steps in a row lead from m to n
 abbrev pub Acts : SiteModel → List Act → SiteModel → Type 0
@@ -64,7 +59,7 @@ Acts m [] n = n ≡ m
 Acts m (a ∷ acts) n = (mid : SiteModel) × Deals m a.deal a.answer mid × Acts mid acts n
 
 -- the site took these steps, and what they gave was sent or lost
-pub record Acted (old new : State) (acts : List Act) : Type 0 where
+pub record Acted (old new : SiteData) (acts : List Act) : Type 0 where
   pub steps : (m : SiteModel) → StandsFor old m → (n : SiteModel) × Acts m acts n × StandsFor new n
   pub setting : new.setting ≡ old.setting
   pub sent : AllSent old.setting.peers acts
@@ -84,19 +79,22 @@ pub data Ticks (t : ℕ) : List Act → Bool → Type 0 where
   next_tick : {acts : List Act} (a : Act) → Ticks t acts true → a.deal ≡ calling (tick t)
       → Ticks t (acts ++ a ∷ []) (goes_on a.answer)
 
--- whether it is time to sweep: so many seconds after a moment, where they are not 0
-abbrev pub sweeps : ℕ → ℕ → ℕ → Bool
-sweeps every since t = ltb 0 every && leb (since + every) t
+-- it is time to sweep: so many seconds after a moment, where they are not 0
+pub record IsSweepDue (every since t : ℕ) : Type 0 where
+  pub some : 0 < every
+  pub passed : since + every ≤ t
 
 -- a sweep where it is time, and the moment of the last one then
-abbrev pub Sweeps : Bool → ℕ → ℕ → List Act → ℕ → Type 0
-Sweeps true t since acts last = (a : Act) × (acts ≡ a ∷ []) × (a.deal ≡ sweeping) × (last ≡ t)
-Sweeps false t since acts last = (acts ≡ []) × (last ≡ since)
+abbrev pub Sweeps : ℕ → ℕ → ℕ → List Act → ℕ → Type 0
+Sweeps every since t acts last =
+    when IsSweepDue every since t
+    then ((a : Act) × (acts ≡ a ∷ []) × (a.deal ≡ sweeping) × (last ≡ t)) otherwise
+    ((acts ≡ []) × (last ≡ since))
 
 -- what stands between two turns: the site, the calls of the port so far, the moment that the next
 -- sweep is counted from, and the report
 pub record Between : Type 0 where
-  pub site : State
+  pub site : SiteData
   pub calls : List PortCall
   pub swept : Option ℕ
   pub report : Report
@@ -112,13 +110,13 @@ pub record Turn (t word every : ℕ) (a b : Between) : Type 0 where
   pub are_ticks : Ticks t ticks false
   pub few : length ticks ≤ 256
   pub is_swept : (last : ℕ)
-      × Sweeps (sweeps every (unwrap_or a.swept t) t) t (unwrap_or a.swept t) sweep last
+      × Sweeps every (unwrap_or a.swept t) t sweep last
       × (b.swept ≡ Some last)
   pub acted : Acted a.site b.site (given ++ (ticks ++ sweep))
   pub calls : b.calls ≡ a.calls ++ arrival ∷ calls_of (given ++ (ticks ++ sweep))
   pub report : b.report
       ≡ counting_acts (given ++ (ticks ++ sweep))
-      (counting arrival (record a.report { turns = one_more a.report.turns }))
+      (count_call arrival (record a.report { turns = one_more a.report.turns }))
 
 -- what a generator has left after n words
 abbrev pub left_after : ℕ → Stream → Stream
@@ -145,5 +143,5 @@ abbrev pub blank : Report
 blank = record { turns = 0; received = 0; sent = 0; lost = 0; faults = 0; refused = 0; short = 0 }
 
 -- where a run begins
-abbrev pub start_of : State → Between
+abbrev pub start_of : SiteData → Between
 start_of site = record { site = site; calls = []; swept = None; report = blank }

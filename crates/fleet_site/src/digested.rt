@@ -2,7 +2,7 @@
 
 ghost use Rattle.std.specs.Prelude.{◌≡◌, ℕ, IfOk, IfErr};
 ghost use Rattle.fleet_wire.specs.Message.{IsReply};
-ghost use Rattle.fleet_observe.specs.Digest.{Summary};
+ghost use Rattle.fleet_observe.specs.Digest.{DigestData};
 ghost use Rattle.fleet_observe.specs.Meaning.{IsMeaning, IsSound};
 ghost use Rattle.fleet_site.specs.declared.digested.Unheard.TheVariants.{NoMemory};
 ghost use Rattle.fleet_site.specs.Unheard.{IsUnread, IsUndigested};

@@ -1,12 +1,12 @@
 //! What a site does with a frame.
 
 ghost use Rattle.std.specs.Prelude.{◌≡◌, List};
-ghost use Rattle.fleet_observe.specs.Fact.{Fact};
+ghost use Rattle.fleet_observe.specs.Observation.{ObservationData};
 ghost use Rattle.fleet_cache.specs.Cached.{IsCached};
 ghost use Rattle.fleet_gossip.specs.Frame.{HasEntries};
-ghost use Rattle.fleet_pending.specs.Outstanding.{Outstanding};
+ghost use Rattle.fleet_pending.specs.PendingData.{PendingData};
 ghost use Rattle.fleet_site.specs.Carried.{Carries, Takes};
-ghost use Rattle.fleet_site.specs.Effect.{effect, nothing};
+ghost use Rattle.fleet_site.specs.OutcomeData.{outcome_data, nothing};
 ghost use Rattle.fleet_site.specs.Frame.{Framed};
 
 use crate::outcome::{Outcome, Refusal, SiteFault};
@@ -21,7 +21,8 @@ pub(crate) fn take_frame<A: Allocator + Copy>(
     cache: &mut Cache<A>,
     octets: &[u8],
 ) -> Result<Outcome<A>, SiteFault>
-    ensures framed { (o : Outstanding) (s : List Fact) → IsCached s cache.old.floor cache.old.items
+    ensures framed { (o : PendingData) (s : List ObservationData)
+        → IsCached s cache.old.floor cache.old.items
         → Carries (Framed o octets.now) (HasEntries octets.now) s o result cache.new o }
     ensures floor { cache.new.floor ≡ cache.old.floor }
 {
@@ -31,7 +32,7 @@ pub(crate) fn take_frame<A: Allocator + Copy>(
             if fault == FrameFault::OutOfMemory {
                 return Err(SiteFault::OutOfMemory { taken: 0 });
             }
-            Ok(Outcome::silent(alloc, 0, Some(Refusal::Frame(fault))))
+            Ok(Outcome::without_packets(alloc, 0, Some(Refusal::Frame(fault))))
         }
     }
 }
@@ -42,13 +43,13 @@ pub(crate) fn take_all<A: Allocator + Copy>(
     cache: &mut Cache<A>,
     observations: Vec<Observation<A>, A>,
 ) -> Result<Outcome<A>, SiteFault>
-    ensures taken { (s : List Fact) → IsCached s cache.old.floor cache.old.items
+    ensures taken { (s : List ObservationData) → IsCached s cache.old.floor cache.old.items
         → Takes s observations.items result cache.new }
     ensures floor { cache.new.floor ≡ cache.old.floor }
 {
     let taken = observations.len();
     match cache.take_list(observations) {
-        Ok(()) => Ok(Outcome::silent(alloc, taken, None)),
+        Ok(()) => Ok(Outcome::without_packets(alloc, taken, None)),
         Err(stopped) => Err(SiteFault::OutOfMemory {
             taken: stopped.taken,
         }),

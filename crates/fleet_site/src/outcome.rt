@@ -1,8 +1,8 @@
 //! What a step of a site gives.
 
 ghost use Rattle.std.specs.Prelude.{◌≡◌, [], ◌∷◌, ◌++◌, IfOk, OnOk, OnErr, map, length};
-ghost use Rattle.fleet_site.specs.Packet.{sent};
-ghost use Rattle.fleet_site.specs.Effect.{effect, nothing, sending};
+ghost use Rattle.fleet_site.specs.Packet.{packet_data};
+ghost use Rattle.fleet_site.specs.OutcomeData.{outcome_data, nothing, sends};
 ghost use Rattle.fleet_site.specs.declared.outcome.SiteFault.TheVariants.{OutOfMemory};
 
 use fleet_gossip::FrameFault;
@@ -31,26 +31,26 @@ pub struct Packets<A: Allocator = Global> {
 
 impl<A: Allocator> Model for Packets<A> {
     ghost use Rattle.std.specs.Prelude.{List, map};
-    ghost use Rattle.fleet_site.specs.Sent.{Sent};
+    ghost use Rattle.fleet_site.specs.PacketData.{PacketData};
 
-    ghost Value = { List Sent };
+    ghost Value = { List PacketData };
 
-    ghost use Rattle.fleet_site.specs.Packet.{sent};
+    ghost use Rattle.fleet_site.specs.Packet.{packet_data};
 
-    ghost view = { λ p. map sent p.items.items };
+    ghost view = { λ p. map packet_data p.items.items };
 }
 
 impl<A: Allocator> Packets<A> {
     /// The packets of a vector, in its order.
     pub fn new(items: Vec<Packet<A>, A>) -> Packets<A>
-        ensures { result ≡ map sent items.items }
+        ensures { result ≡ map packet_data items.items }
     {
         Packets { items }
     }
 
     /// The packets, in their order.
     pub fn as_slice(&self) -> &[Packet<A>]
-        ensures value { map sent result.now ≡ self.now }
+        ensures value { map packet_data result.now ≡ self.now }
         ensures len { length result.now ≡ length self.now }
     {
         self.items.as_slice()
@@ -164,21 +164,22 @@ impl From<AllocError> for SiteFault {
 
 impl<A: Allocator + Copy> Outcome<A> {
     /// Nothing is sent.
-    pub(crate) fn silent(alloc: A, taken: usize, refused: Option<Refusal>) -> Outcome<A>
-        ensures { effect result ≡ record nothing { taken = taken; refused = refused } }
+    pub(crate) fn without_packets(alloc: A, taken: usize, refused: Option<Refusal>) -> Outcome<A>
+        ensures { outcome_data result ≡ record nothing { taken = taken; refused = refused } }
     {
         let packets = Packets::new(Vec::new(alloc));
         Outcome::with_packets(alloc, packets, taken, refused)
     }
 
     /// One packet is sent.
-    pub(crate) fn sending(
+    pub(crate) fn with_packet(
         alloc: A,
         to: Addr,
         bytes: Octets<A>,
         refused: Option<Refusal>,
     ) -> Result<Outcome<A>, AllocError>
-        ensures { IfOk result (λ o. effect o ≡ record (sending to bytes) { refused = refused }) }
+        ensures { IfOk result (λ o. outcome_data o
+            ≡ record (sends to bytes) { refused = refused }) }
     {
         let packets = Packets::of_one(alloc, to, bytes)?;
         Ok(Outcome::with_packets(alloc, packets, 0, refused))
@@ -191,7 +192,7 @@ impl<A: Allocator + Copy> Outcome<A> {
         taken: usize,
         refused: Option<Refusal>,
     ) -> Outcome<A>
-        ensures { effect result
+        ensures { outcome_data result
             ≡ record nothing { packets = packets; taken = taken; refused = refused } }
     {
         let frames = Frames::new(Vec::new(alloc));

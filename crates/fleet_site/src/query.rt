@@ -2,8 +2,7 @@
 
 ghost use Rattle.std.specs.Prelude.{◌≡◌, IfOk};
 ghost use Rattle.fleet_wire.specs.Query.{query_octets};
-ghost use Rattle.fleet_pending.specs.Entry.{opened};
-ghost use Rattle.fleet_pending.specs.Outstanding.{IsOpen};
+ghost use Rattle.fleet_pending.specs.PendingData.{IsEntryData};
 ghost use Rattle.fleet_site.specs.Table.{IsOfClassOne};
 ghost use Rattle.fleet_site.specs.Tick.{question_of};
 
@@ -19,10 +18,11 @@ pub(crate) fn entry_query<A: Allocator + Copy>(
     id: u16,
     entry: &Entry<A>,
 ) -> Result<Octets<A>, AllocError>
-    requires is_open { IsOpen (opened entry.now) }
-    requires class { IsOfClassOne (opened entry.now) }
-    ensures { IfOk result (λ octets. octets ≡ query_octets id (question_of (opened entry.now))) }
+    requires is_open { IsEntryData entry.now }
+    requires class { IsOfClassOne entry.now }
+    ensures { IfOk result (λ octets. octets ≡ query_octets id (question_of entry.now)) }
 {
-    let octets = write_query(alloc, id, &entry.waiters.as_slice()[0].question)?;
+    let waiter = &entry.waiters.as_slice()[0];
+    let octets = write_query(alloc, id, &waiter.question)?;
     Ok(Octets::new(octets))
 }

@@ -1,23 +1,24 @@
 //! What a miss makes of the table of open questions.
 
 ghost use Rattle.std.specs.Prelude.{◌≡◌, ◌<◌, ◌≤◌, ℕ, ⊤, List, IfOk, IfErr, OnErr};
-ghost use Rattle.fleet_wire.specs.Question.{asked};
-ghost use Rattle.fleet_observe.specs.Fact.{Fact};
+ghost use Rattle.fleet_wire.specs.Question.{question_data};
+ghost use Rattle.fleet_site.specs.declared.class.TheConstants.{IN};
+ghost use Rattle.fleet_observe.specs.Observation.{ObservationData};
 ghost use Rattle.fleet_cache.specs.Cached.{IsCached};
 ghost use Rattle.fleet_pending.specs.Asking.{Asks, asked_or_fault};
-ghost use Rattle.fleet_pending.specs.Outstanding.{Open, IsOpen, UsesId};
+ghost use Rattle.fleet_pending.specs.PendingData.{EntryData, IsEntryData, UsesId};
 ghost use Rattle.fleet_name.specs.Places.{At};
-ghost use Rattle.fleet_pending.specs.Waiter.{asker};
 ghost use Rattle.fleet_pending.specs.declared.answer.PendingFault.TheVariants.{OutOfMemory as NoRoom};
 ghost use Rattle.fleet_site.specs.Carried.{Keeps, IsAskable, IsAnswered, TurnsAway, IsQueryOf};
-ghost use Rattle.fleet_site.specs.Effect.{effect, sending};
-ghost use Rattle.fleet_site.specs.Question.{Reacts, Forwards, Questioned, turned_away};
+ghost use Rattle.fleet_site.specs.OutcomeData.{outcome_data, sends};
+ghost use Rattle.fleet_site.specs.Question.{Reacts, Forwards, Questioned, turns_away};
 ghost use Rattle.fleet_site.specs.Table.{IsTableOf, KeepsTable, AskClassOne};
 ghost use Rattle.fleet_site.specs.Verdict.{IsAsking, verdict};
 
 use crate::config::addr_of;
 use crate::outcome::{Outcome, Refusal, SiteFault};
 use crate::query::entry_query;
+use crate::rcode::{REFUSED, SERVER_FAILURE};
 use crate::verdict::{Decision, decide};
 use crate::writing::reply_without;
 use fleet_cache::Cache;
@@ -51,7 +52,7 @@ pub(crate) fn take_question<A: Allocator + Copy>(
 ) -> Result<Outcome<A>, SiteFault>
     requires reached { cache.now.floor ≤ arrival.clock }
     requires table { IsTableOf upstreams.now pending.old }
-    ensures questioned { (s : List Fact) → IsCached s cache.now.floor cache.now.items
+    ensures questioned { (s : List ObservationData) → IsCached s cache.now.floor cache.now.items
         → Keeps
         (Questioned s upstreams.now pending.old arrival.clock arrival.from arrival.word octets.now)
         (IsAsking octets.now) pending.old result pending.new }
@@ -78,18 +79,18 @@ fn react<A: Allocator + Copy>(
     ensures table { KeepsTable pending.old pending.new }
 {
     match decision {
-        Decision::Dropped => Ok(Outcome::silent(alloc, 0, Some(Refusal::Dropped))),
-        Decision::Reply(octets) => Ok(Outcome::sending(alloc, arrival.from, octets, None)?),
+        Decision::Dropped => Ok(Outcome::without_packets(alloc, 0, Some(Refusal::Dropped))),
+        Decision::Reply(octets) => Ok(Outcome::with_packet(alloc, arrival.from, octets, None)?),
         Decision::Unread(octets, fault) => {
             let refusal = Refusal::Read(fault);
-            Ok(Outcome::sending(alloc, arrival.from, octets, Some(refusal))?)
+            Ok(Outcome::with_packet(alloc, arrival.from, octets, Some(refusal))?)
         }
         Decision::Miss(header, question) => {
             if header.rd {
                 forward(alloc, pending, upstreams, arrival, header, question)
             } else {
-                let octets = reply_without(alloc, header, 5, &question)?;
-                Ok(Outcome::sending(alloc, arrival.from, octets, None)?)
+                let octets = reply_without(alloc, header, REFUSED, &question)?;
+                Ok(Outcome::with_packet(alloc, arrival.from, octets, None)?)
             }
         }
     }
@@ -105,10 +106,10 @@ fn forward<A: Allocator + Copy>(
     question: Question<A>,
 ) -> Result<Outcome<A>, SiteFault>
     requires opcode { header.opcode < 16 }
-    requires class { question.class ≡ 1 }
+    requires class { question.class ≡ IN }
     requires table { IsTableOf upstreams.now pending.old }
     ensures forwards { Keeps (Forwards upstreams.now pending.old arrival.clock arrival.from
-        arrival.word header (asked question)) ⊤ pending.old result pending.new }
+        arrival.word header (question_data question)) ⊤ pending.old result pending.new }
     ensures table { KeepsTable pending.old pending.new }
 {
     let from = arrival.from;
@@ -120,8 +121,8 @@ fn forward<A: Allocator + Copy>(
     };
     new_entry_is_last();
     match asked {
-        Asked::Again => Ok(Outcome::silent(alloc, 0, None)),
-        Asked::Joined => Ok(Outcome::silent(alloc, 0, None)),
+        Asked::Again => Ok(Outcome::without_packets(alloc, 0, None)),
+        Asked::Joined => Ok(Outcome::without_packets(alloc, 0, None)),
         Asked::Send { upstream, id } => {
             let to = addr_of(upstreams, upstream);
             match query_for(alloc, pending, to, id) {
@@ -142,8 +143,8 @@ fn enter<A: Allocator + Copy>(
     waiter: Waiter<A>,
     arrival: Arrival,
 ) -> Result<Asked, Unasked<A>>
-    requires { waiter.question.class ≡ 1 }
-    ensures asks { Asks pending.old (asker waiter) arrival.clock arrival.word
+    requires { waiter.question.class ≡ IN }
+    ensures asks { Asks pending.old waiter arrival.clock arrival.word
         (asked_or_fault result) pending.new }
     ensures back { IfErr result (λ u. u.waiter ≡ waiter) }
     ensures unchanged { OnErr result (pending.new ≡ pending.old) }
@@ -160,14 +161,14 @@ fn query_for<A: Allocator + Copy>(
     to: Addr,
     id: u16,
 ) -> Result<Outcome<A>, AllocError>
-    requires there { (i : ℕ) × ((e : Open) × At pending.now.entries i e × UsesId id e) }
+    requires there { (i : ℕ) × ((e : EntryData) × At pending.now.entries i e × UsesId id e) }
     requires class { AskClassOne pending.now }
-    ensures { IfOk result (λ o. IsQueryOf pending.now to id (effect o)) }
+    ensures { IfOk result (λ o. IsQueryOf pending.now to id (outcome_data o)) }
 {
     match pending.entry(id) {
         Some(entry) => {
             let octets = entry_query(alloc, id, entry)?;
-            Outcome::sending(alloc, to, octets, None)
+            Outcome::with_packet(alloc, to, octets, None)
         }
         None => unreachable!(),
     }
@@ -181,16 +182,17 @@ fn turn_away<A: Allocator + Copy>(
     unasked: Unasked<A>,
 ) -> Result<Outcome<A>, SiteFault>
     requires { header.opcode < 16 }
-    ensures { TurnsAway from header (asked unasked.waiter.question) unasked.fault result }
+    ensures { TurnsAway from header unasked.waiter.question unasked.fault result }
 {
+    let waiter = &unasked.waiter;
     match unasked.fault {
         PendingFault::OutOfMemory => Err(SiteFault::OutOfMemory { taken: 0 }),
-        PendingFault::Full => Ok(say_full(alloc, from, header, &unasked.waiter.question)?),
-        PendingFault::WaitersFull => Ok(say_full(alloc, from, header, &unasked.waiter.question)?),
+        PendingFault::Full => Ok(say_full(alloc, from, header, &waiter.question)?),
+        PendingFault::WaitersFull => Ok(say_full(alloc, from, header, &waiter.question)?),
     }
 }
 
-/// Code 2 with the question.
+/// A server failure, with the question.
 fn say_full<A: Allocator + Copy>(
     alloc: A,
     from: Addr,
@@ -198,8 +200,9 @@ fn say_full<A: Allocator + Copy>(
     question: &Question<A>,
 ) -> Result<Outcome<A>, AllocError>
     requires { header.opcode < 16 }
-    ensures { IfOk result (λ o. effect o ≡ turned_away from header (asked question.now)) }
+    ensures { IfOk result (λ o. outcome_data o
+        ≡ turns_away from header (question_data question.now)) }
 {
-    let octets = reply_without(alloc, header, 2, question)?;
-    Outcome::sending(alloc, from, octets, Some(Refusal::Full))
+    let octets = reply_without(alloc, header, SERVER_FAILURE, question)?;
+    Outcome::with_packet(alloc, from, octets, Some(Refusal::Full))
 }

@@ -2,15 +2,14 @@
 //! that it is handed is learnt.
 
 ghost use Rattle.std.specs.Prelude.{◌≡◌, ◌<◌, ◌≤◌, ◌++◌, ℕ, List, IfOk, IfErr, OnOk, map, length, take};
-ghost use Rattle.fleet_wire.specs.Message.{Reply, HasReply};
-ghost use Rattle.fleet_observe.specs.Fact.{Fact};
-ghost use Rattle.fleet_observe.specs.Digest.{Summary};
+ghost use Rattle.fleet_wire.specs.Message.{MessageData, HasReply};
+ghost use Rattle.fleet_observe.specs.Observation.{ObservationData};
+ghost use Rattle.fleet_observe.specs.Digest.{DigestData};
 ghost use Rattle.fleet_observe.specs.Meaning.{IsMeaning};
-ghost use Rattle.fleet_observe.specs.Observed.{observed_facts};
+ghost use Rattle.fleet_observe.specs.Observed.{reply_observations};
 ghost use Rattle.fleet_gossip.specs.Packed.{IsPacked};
 ghost use Rattle.fleet_cache.specs.Cached.{IsCached};
-ghost use Rattle.fleet_pending.specs.Outstanding.{Outstanding};
-ghost use Rattle.fleet_pending.specs.Waiter.{asker};
+ghost use Rattle.fleet_pending.specs.PendingData.{PendingData};
 ghost use Rattle.fleet_site.specs.Carried.{Carries};
 ghost use Rattle.fleet_site.specs.Learn.{Learnt};
 ghost use Rattle.fleet_site.specs.Relayed.{Hears, IsMade, IsRelayFor, SaysRefusal, Unlearns};
@@ -48,7 +47,7 @@ fn relay_octets<A: Allocator + Copy>(
     digest: &Digest<A>,
     waiter: &Waiter<A>,
 ) -> Result<Octets<A>, AllocError>
-    ensures { IfOk result (λ octets. octets ≡ (relay_to digest.now (asker waiter.now)).octets) }
+    ensures { IfOk result (λ octets. octets ≡ (relay_to digest.now waiter.now).octets) }
 {
     let octets = relay(alloc, digest, &waiter.question, waiter.id, true)?;
     Ok(Octets::new(octets))
@@ -60,7 +59,7 @@ fn relay_packets<A: Allocator + Copy>(
     digest: &Digest<A>,
     waiters: &[Waiter<A>],
 ) -> Result<Packets<A>, AllocError>
-    ensures { IfOk result (λ ps. ps ≡ map (relay_to digest.now) (map asker waiters.now)) }
+    ensures { IfOk result (λ ps. ps ≡ map (relay_to digest.now) waiters.now) }
 {
     let mut packets = Vec::new(alloc);
     for waiter in waiters {
@@ -160,7 +159,7 @@ pub(crate) fn take_reply<A: Allocator + Copy>(
     clock: Moment,
     octets: &[u8],
 ) -> Result<Outcome<A>, SiteFault>
-    ensures replied { (s : List Fact) → IsCached s cache.old.floor cache.old.items
+    ensures replied { (s : List ObservationData) → IsCached s cache.old.floor cache.old.items
         → Carries (Replied pending.old clock upstream octets.now)
         (IsReplying octets.now) s pending.old result cache.new pending.new }
     ensures floor { cache.new.floor ≡ cache.old.floor }
@@ -178,7 +177,7 @@ fn carry_out<A: Allocator + Copy>(
     pending: &mut Pending<A>,
     relay: Relay<A>,
 ) -> Result<Outcome<A>, SiteFault>
-    ensures taken { (s : List Fact) → IsCached s cache.old.floor cache.old.items
+    ensures taken { (s : List ObservationData) → IsCached s cache.old.floor cache.old.items
         → IsRelayFor relay s pending.old result cache.new pending.new }
     ensures floor { cache.new.floor ≡ cache.old.floor }
     ensures table { KeepsTable pending.old pending.new }
@@ -209,15 +208,15 @@ fn carry_out<A: Allocator + Copy>(
 }
 
 /// The observations that a reply holds.
-fn observed_in<A: Allocator + Copy>(
+fn read_observations<A: Allocator + Copy>(
     alloc: A,
     clock: Moment,
     octets: &[u8],
 ) -> Result<Vec<Observation<A>, A>, Unheard>
     ensures learnt { IfOk result (λ v.
-        (o : Outstanding) → Learnt o clock octets.now (takes v.items o)) }
+        (o : PendingData) → Learnt o clock octets.now (takes v.items o)) }
     ensures refused { IfErr result (λ e.
-        (o : Outstanding) → Unlearns (Learnt o clock octets.now) (HasReply octets.now) o e) }
+        (o : PendingData) → Unlearns (Learnt o clock octets.now) (HasReply octets.now) o e) }
 {
     let message = match message_in(alloc, octets) {
         Ok(message) => message,
@@ -239,7 +238,7 @@ fn observe<A: Allocator + Copy>(
     digest: &Digest<A>,
     clock: Moment,
 ) -> Result<Vec<Observation<A>, A>, AllocError>
-    ensures { IfOk result (λ v. v.items ≡ observed_facts digest.now clock) }
+    ensures { IfOk result (λ v. v.items ≡ reply_observations digest.now clock) }
 {
     observations(alloc, digest, clock)
 }
@@ -251,11 +250,12 @@ pub(crate) fn learn_reply<A: Allocator + Copy>(
     clock: Moment,
     octets: &[u8],
 ) -> Result<Outcome<A>, SiteFault>
-    ensures learnt { (o : Outstanding) (s : List Fact) → IsCached s cache.old.floor cache.old.items
+    ensures learnt { (o : PendingData) (s : List ObservationData)
+        → IsCached s cache.old.floor cache.old.items
         → Carries (Learnt o clock octets.now) (HasReply octets.now) s o result cache.new o }
     ensures floor { cache.new.floor ≡ cache.old.floor }
 {
-    match observed_in(alloc, clock, octets) {
+    match read_observations(alloc, clock, octets) {
         Ok(observed) => take_all(alloc, cache, observed),
         Err(unheard) => refuse(alloc, unheard),
     }
@@ -266,7 +266,7 @@ fn refuse<A: Allocator + Copy>(alloc: A, unheard: Unheard) -> Result<Outcome<A>,
     ensures { SaysRefusal unheard result }
 {
     match unheard {
-        Unheard::Refused(refusal) => Ok(Outcome::silent(alloc, 0, Some(refusal))),
+        Unheard::Refused(refusal) => Ok(Outcome::without_packets(alloc, 0, Some(refusal))),
         Unheard::NoMemory => Err(SiteFault::OutOfMemory { taken: 0 }),
     }
 }

@@ -1,10 +1,10 @@
 //! The loop of a server.
 
-ghost use Rattle.std.specs.Prelude.{◌≡◌, ◌<◌, ◌+◌, ◌∷◌, [], map, is_some};
-ghost use Rattle.fleet_site.specs.Packet.{sent};
-ghost use Rattle.fleet_site.specs.Effect.{plain};
-ghost use Rattle.fleet_site.specs.Sending.{Sends, CarriesOut, to_each, to_peers, swept, counting_refusal, goes_on};
-ghost use Rattle.fleet_site.specs.Turn.{sweeps};
+ghost use Rattle.std.specs.Prelude.{◌≡◌, ◌↔◌, IsTrue, ◌<◌, ◌+◌, ◌∷◌, [], map, is_some};
+ghost use Rattle.fleet_site.specs.Packet.{packet_data};
+ghost use Rattle.fleet_site.specs.OutcomeData.{result_data};
+ghost use Rattle.fleet_site.specs.Sending.{Sends, CarriesOut, to_each, to_peers, sweep_outcome, count_refusal_in, goes_on};
+ghost use Rattle.fleet_site.specs.Turn.{IsSweepDue};
 ghost use Rattle.fleet_site.specs.Served.{Served, FollowsSteps, Turned, Heard, TickedAll, SweptOnce};
 
 use crate::outcome::{Outcome, Packet, Refusal, SiteFault};
@@ -34,7 +34,7 @@ fn send<P: Port>(port: &mut P, to: Addr, bytes: &[u8], report: &mut Report)
 /// Sends packets in their order.
 fn send_packets<P: Port, A: Allocator>(port: &mut P, packets: &[Packet<A>], report: &mut Report)
     ensures { Sends (P.tells port.old) (P.tells port.new)
-        (map sent packets.now) report.old report.new }
+        (map packet_data packets.now) report.old report.new }
 {
     for packet in packets {
         send(port, packet.to, packet.bytes.as_slice(), report);
@@ -68,7 +68,7 @@ fn send_frames<P: Port, A: Allocator>(
 
 /// Counts a refusal, if it is one.
 fn count_refusal(refused: Option<Refusal>, report: &mut Report)
-    ensures { report.new ≡ counting_refusal (is_some refused) report.old }
+    ensures { report.new ≡ count_refusal_in (is_some refused) report.old }
 {
     if refused.is_some() {
         report.count_refused();
@@ -83,8 +83,8 @@ fn carry_out<P: Port, A: Allocator>(
     report: &mut Report,
 ) -> bool
     ensures carried { CarriesOut (P.tells port.old) (P.tells port.new) peers.now
-        (plain answer) report.old report.new }
-    ensures more { result ≡ goes_on (plain answer) }
+        (result_data answer) report.old report.new }
+    ensures more { result ≡ goes_on (result_data answer) }
 {
     match answer {
         Ok(outcome) => {
@@ -108,7 +108,7 @@ fn carry_out_sweep<P: Port, A: Allocator>(
     report: &mut Report,
 )
     ensures { CarriesOut (P.tells port.old) (P.tells port.new) peers.now
-        (swept frames) report.old report.new }
+        (sweep_outcome frames) report.old report.new }
 {
     match frames {
         Ok(frames) => send_frames(port, &frames, peers, report),
@@ -161,7 +161,7 @@ fn tick_all<P: Port, A: Allocator + Copy>(
 
 /// Whether it is time to sweep.
 fn is_sweep_due(now: Moment, since: Moment, every: u32) -> bool
-    ensures { result ≡ sweeps every since now }
+    ensures { IsTrue result ↔ IsSweepDue every since now }
 {
     every > 0 && now.value().saturating_sub(since.value()) >= u64::from(every)
 }
@@ -176,7 +176,7 @@ fn sweep_if_due<P: Port, A: Allocator + Copy>(
     report: &mut Report,
 ) -> Moment
     ensures { SweptOnce (P.tells port.old) (P.tells port.new)
-        (sweeps every since now) now since result site.now site.now report.old report.new }
+        every since now result site.now site.now report.old report.new }
 {
     if is_sweep_due(now, since, every) {
         carry_out_sweep(port, site.peers(), site.sweep(), report);

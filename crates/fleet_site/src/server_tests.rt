@@ -78,7 +78,7 @@ fn clock(alloc: Global, seconds: &[u64]) -> Result<ListClock, Fail> {
 }
 
 /// A port at which one question arrives, and which fails at one call.
-fn asking(alloc: Global, fail_at: Option<u64>) -> Result<MemoryPort, AllocError> {
+fn question_port(alloc: Global, fail_at: Option<u64>) -> Result<MemoryPort, AllocError> {
     let mut arrivals = Vec::with_capacity(alloc, 1)?;
     arrivals.push_reserved(Some((addr(6001), Octets::copy_of(alloc, QUESTION)?)));
     Ok(MemoryPort::new(alloc, arrivals, fail_at))
@@ -92,7 +92,8 @@ fn run(alloc: Global, port: &mut MemoryPort, turns: u32) -> Result<Report, Fail>
     Ok(serve(port, &mut clock, &mut words, &mut site, turns, 0))
 }
 
-fn counted(turns: u64, received: u64, sent: u64, lost: u64, faults: u64) -> Report {
+/// A report without refusals, where memory was found.
+fn report_of(turns: u64, received: u64, sent: u64, lost: u64, faults: u64) -> Report {
     Report {
         turns,
         received,
@@ -116,9 +117,9 @@ fn has_sent(port: &MemoryPort, number: usize, to: u16, octets: &[u8]) -> bool {
 fn a_question_goes_to_each_upstream_and_fails(rt: HostRuntime) -> Result<(), Fail> {
     let alloc = rt.alloc();
     for turns in [3u32, 300] {
-        let mut port = asking(alloc, None)?;
+        let mut port = question_port(alloc, None)?;
         let report = run(alloc, &mut port, turns)?;
-        assert_eq!(rt; report, counted(u64::from(turns), 1, 3, 0, 0));
+        assert_eq!(rt; report, report_of(u64::from(turns), 1, 3, 0, 0));
         assert_eq!(rt; port.failures(), 0);
         assert!(rt; has_sent(&port, 1, 5301, QUERY));
         assert!(rt; has_sent(&port, 3, 5302, QUERY));
@@ -131,32 +132,38 @@ fn a_question_goes_to_each_upstream_and_fails(rt: HostRuntime) -> Result<(), Fai
 fn a_call_that_fails_is_lost_or_a_fault(rt: HostRuntime) -> Result<(), Fail> {
     let alloc = rt.alloc();
     let rows = [
-        (1u64, counted(3, 1, 2, 0, 1)),
-        (2, counted(3, 1, 2, 1, 0)),
-        (3, counted(3, 1, 3, 0, 1)),
-        (4, counted(3, 1, 2, 1, 0)),
-        (5, counted(3, 1, 3, 0, 1)),
-        (6, counted(3, 1, 2, 1, 0)),
-        (7, counted(3, 1, 3, 0, 0)),
+        (1u64, report_of(3, 1, 2, 0, 1)),
+        (2, report_of(3, 1, 2, 1, 0)),
+        (3, report_of(3, 1, 3, 0, 1)),
+        (4, report_of(3, 1, 2, 1, 0)),
+        (5, report_of(3, 1, 3, 0, 1)),
+        (6, report_of(3, 1, 2, 1, 0)),
+        (7, report_of(3, 1, 3, 0, 0)),
     ];
     for (fail_at, report) in rows {
-        let mut port = asking(alloc, Some(fail_at))?;
+        let mut port = question_port(alloc, Some(fail_at))?;
         assert_eq!(rt; run(alloc, &mut port, 3)?, report, "call {fail_at}");
         assert_eq!(rt; port.failures(), report.lost.saturating_add(report.faults));
     }
     Ok(())
 }
 
+/// Four turns of a site that holds the observation of a frame, with a sweep every 30 seconds.
+fn run_with_sweeps(alloc: Global, port: &mut MemoryPort) -> Result<Report, Fail> {
+    let now = Moment::new(100).ok_or("no moment")?;
+    let mut clock = clock(alloc, &[100, 129, 130, 159])?;
+    let mut site = site(alloc)?;
+    site.frame(now, FRAME)?;
+    let mut words = OneWord(0);
+    Ok(serve(port, &mut clock, &mut words, &mut site, 4, 30))
+}
+
 #[test]
 fn sweeps_go_to_each_peer_in_their_time(rt: HostRuntime) -> Result<(), Fail> {
     let alloc = rt.alloc();
-    let mut site = site(alloc)?;
-    site.frame(Moment::new(100).ok_or("no moment")?, FRAME)?;
     let mut port = MemoryPort::new(alloc, Vec::new(alloc), None);
-    let mut clock = clock(alloc, &[100, 129, 130, 159])?;
-    let mut words = OneWord(0);
-    let report = serve(&mut port, &mut clock, &mut words, &mut site, 4, 30);
-    assert_eq!(rt; report, counted(4, 0, 2, 0, 0));
+    let report = run_with_sweeps(alloc, &mut port)?;
+    assert_eq!(rt; report, report_of(4, 0, 2, 0, 0));
     assert!(rt; has_sent(&port, 3, 5401, FRAME));
     assert!(rt; has_sent(&port, 4, 5402, FRAME));
     Ok(())

@@ -1,14 +1,14 @@
 //! A site.
 
 ghost use Rattle.std.specs.Prelude.{◌≡◌, ◌≢◌, ℕ, ◌≤◌, max, List, IsTrue, IfOk, IfErr, OnErr, [], length};
-ghost use Rattle.fleet_observe.specs.Fact.{Fact};
+ghost use Rattle.fleet_observe.specs.Observation.{ObservationData};
 ghost use Rattle.fleet_cache.specs.Cached.{IsCached};
 ghost use Rattle.fleet_gossip.specs.Packed.{IsPacked};
 ghost use Rattle.fleet_site.specs.Looking.{Looks};
 ghost use Rattle.fleet_site.specs.SiteModel.{SiteModel};
 ghost use Rattle.fleet_site.specs.StandsFor.{StandsFor, Follows, Answers, Gathers, opening};
 ghost use Rattle.fleet_site.specs.Sender.{IsSender};
-ghost use Rattle.fleet_site.specs.State.{IsState};
+ghost use Rattle.fleet_site.specs.SiteData.{IsSiteData};
 ghost use Rattle.fleet_site.specs.Step.{datagram as a_datagram, tick as a_tick, frame as a_frame, learn as a_reply};
 ghost use Rattle.fleet_site.specs.Sweep.{IsSweep};
 ghost use Rattle.fleet_site.specs.Tick.{LeavesFewer};
@@ -47,17 +47,17 @@ pub struct Site<A: Allocator = Global> {
 }
 
 impl<A: Allocator> Model for Site<A> {
-    ghost use Rattle.fleet_site.specs.State.{State, state, IsState};
+    ghost use Rattle.fleet_site.specs.SiteData.{SiteData, site_data, IsSiteData};
 
-    ghost Value = { State };
+    ghost Value = { SiteData };
 
-    ghost view = { λ s. state s.config s.cache s.clock s.pending };
+    ghost view = { λ s. site_data s.config s.cache s.clock s.pending };
 
-    ghost invariant = { λ s. IsState (state s.config s.cache s.clock s.pending) };
+    ghost invariant = { λ s. IsSiteData (site_data s.config s.cache s.clock s.pending) };
 }
 
 /// The later of two moments.
-fn later(one: Moment, other: Moment) -> Moment
+fn later_moment(one: Moment, other: Moment) -> Moment
     ensures { result ≡ max one other }
 {
     if one.value() < other.value() {
@@ -121,7 +121,7 @@ impl<A: Allocator + Copy> Site<A> {
     /// What it holds.
     pub fn cache(&self) -> &Cache<A>
         ensures cache { result.now ≡ self.now.cache }
-        ensures lawful { IsState self.now }
+        ensures lawful { IsSiteData self.now }
     {
         &self.cache
     }
@@ -129,7 +129,7 @@ impl<A: Allocator + Copy> Site<A> {
     /// The greatest moment so far.
     pub fn clock(&self) -> Moment
         ensures clock { result ≡ self.now.clock }
-        ensures lawful { IsState self.now }
+        ensures lawful { IsSiteData self.now }
     {
         self.clock
     }
@@ -170,7 +170,7 @@ impl<A: Allocator + Copy> Site<A> {
             → Follows m (a_datagram now from bytes.now word) result self.new }
         ensures setting { self.new.setting ≡ self.old.setting }
     {
-        self.clock = later(self.clock, now);
+        self.clock = later_moment(self.clock, now);
         match sender_of(&self.config, from) {
             Sender::Upstream(place) => {
                 take_reply(
@@ -212,7 +212,7 @@ impl<A: Allocator + Copy> Site<A> {
         ensures fewer { IfOk result (λ o.
             IsTrue o.more → LeavesFewer self.old.outstanding self.new.outstanding self.new.clock) }
     {
-        self.clock = later(self.clock, now);
+        self.clock = later_moment(self.clock, now);
         self.cache.purge(self.clock);
         serve_due(
             self.alloc,
@@ -228,7 +228,7 @@ impl<A: Allocator + Copy> Site<A> {
             → Follows m (a_frame now bytes.now) result self.new }
         ensures setting { self.new.setting ≡ self.old.setting }
     {
-        self.clock = later(self.clock, now);
+        self.clock = later_moment(self.clock, now);
         take_frame(self.alloc, &mut self.cache, bytes)
     }
 
@@ -239,7 +239,7 @@ impl<A: Allocator + Copy> Site<A> {
             → Follows m (a_reply now bytes.now) result self.new }
         ensures setting { self.new.setting ≡ self.old.setting }
     {
-        self.clock = later(self.clock, now);
+        self.clock = later_moment(self.clock, now);
         learn_reply(self.alloc, &mut self.cache, self.clock, bytes)
     }
 
@@ -252,7 +252,7 @@ impl<A: Allocator + Copy> Site<A> {
         ensures memory { IfErr result (λ _. IsAsking bytes.now) }
         ensures setting { self.new.setting ≡ self.old.setting }
     {
-        self.clock = later(self.clock, now);
+        self.clock = later_moment(self.clock, now);
         match decide(self.alloc, &self.cache, self.clock, bytes)? {
             Decision::Dropped => Ok(Looked::Dropped),
             Decision::Reply(octets) => Ok(Looked::Reply(octets)),
@@ -281,7 +281,7 @@ impl<A: Allocator + Copy> Site<A> {
         let count = other.cache.len();
         match self.cache.merge(&other.cache) {
             Ok(()) => {
-                self.clock = later(self.clock, self.cache.floor());
+                self.clock = later_moment(self.clock, self.cache.floor());
                 Ok(count)
             }
             Err(stopped) => Err(SiteFault::OutOfMemory {

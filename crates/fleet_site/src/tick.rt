@@ -1,13 +1,11 @@
 //! What a site does as time passes.
 
 ghost use Rattle.std.specs.Prelude.{◌≡◌, ◌<◌, ◌≤◌, ◌+◌, ◌↔◌, ℕ, IsTrue, IfOk, IfErr, Some, map, length};
-ghost use Rattle.fleet_pending.specs.Due.{NoneDue, Dues, opened_due};
-ghost use Rattle.fleet_pending.specs.Entry.{opened};
-ghost use Rattle.fleet_pending.specs.Outstanding.{IsOpen};
-ghost use Rattle.fleet_pending.specs.Waiter.{asker};
+ghost use Rattle.fleet_pending.specs.Due.{NoneDue, Dues, due_entry};
+ghost use Rattle.fleet_pending.specs.PendingData.{IsEntryData};
 ghost use Rattle.fleet_site.specs.Carried.{Keeps};
-ghost use Rattle.fleet_site.specs.Effect.{effect};
-ghost use Rattle.fleet_site.specs.Packet.{sent};
+ghost use Rattle.fleet_site.specs.OutcomeData.{outcome_data};
+ghost use Rattle.fleet_site.specs.Packet.{packet_data};
 ghost use Rattle.fleet_site.specs.Serving.{IsPlan, SaysMore};
 ghost use Rattle.fleet_site.specs.Table.{IsTableOf, KeepsTable};
 ghost use Rattle.fleet_site.specs.Tick.{Ticked, LeavesFewer, failure, failure_to};
@@ -15,6 +13,7 @@ ghost use Rattle.fleet_site.specs.Tick.{Ticked, LeavesFewer, failure, failure_to
 use crate::config::addr_of;
 use crate::outcome::{Outcome, Packet, Packets, SiteFault};
 use crate::query::entry_query;
+use crate::rcode::SERVER_FAILURE;
 use fleet_name::Octets;
 use fleet_observe::Moment;
 use fleet_pending::{
@@ -40,9 +39,17 @@ fn failure_octets<A: Allocator + Copy>(
     alloc: A,
     waiter: &Waiter<A>,
 ) -> Result<Octets<A>, AllocError>
-    ensures { IfOk result (λ octets. octets ≡ (failure_to (asker waiter.now)).octets) }
+    ensures { IfOk result (λ octets. octets ≡ (failure_to waiter.now).octets) }
 {
-    let outline = Outline::new(alloc, waiter.id, 0, true, 2, false, Some(&waiter.question));
+    let outline = Outline::new(
+        alloc,
+        waiter.id,
+        0,
+        true,
+        SERVER_FAILURE,
+        false,
+        Some(&waiter.question),
+    );
     Ok(Octets::new(write_reply(alloc, &outline)?))
 }
 
@@ -51,7 +58,7 @@ fn failure_packets<A: Allocator + Copy>(
     alloc: A,
     waiters: &[Waiter<A>],
 ) -> Result<Packets<A>, AllocError>
-    ensures { IfOk result (λ ps. ps ≡ map failure_to (map asker waiters.now)) }
+    ensures { IfOk result (λ ps. ps ≡ map failure_to waiters.now) }
 {
     let mut packets = Vec::new(alloc);
     for waiter in waiters {
@@ -76,7 +83,7 @@ fn make_plan<A: Allocator + Copy>(
     ensures memory { IfErr result (λ _. ¬ NoneDue pending.now.entries clock) }
 {
     match pending.due(clock) {
-        None => Ok(Plan::Idle(Outcome::silent(alloc, 0, None))),
+        None => Ok(Plan::Idle(Outcome::without_packets(alloc, 0, None))),
         Some(due) => plan_due(alloc, pending, upstreams, clock, due),
     }
 }
@@ -91,7 +98,7 @@ fn plan_due<A: Allocator + Copy>(
 ) -> Result<Plan<A>, AllocError>
     requires table { IsTableOf upstreams.now pending.now }
     requires dues { Dues pending.now clock (Some due) }
-    requires is_open { IsOpen (opened_due due) }
+    requires is_open { IsEntryData (due_entry due) }
     ensures { IfOk result (λ p. IsPlan upstreams.now pending.now clock p) }
 {
     let _ = pending;
@@ -104,7 +111,7 @@ fn plan_due<A: Allocator + Copy>(
         } => {
             let octets = entry_query(alloc, id, entry)?;
             let to = addr_of(upstreams, upstream);
-            let outcome = Outcome::sending(alloc, to, octets, None)?;
+            let outcome = Outcome::with_packet(alloc, to, octets, None)?;
             Ok(Plan::Retry(id, outcome))
         }
         Due::Failed { id, entry } => {
@@ -151,7 +158,7 @@ pub(crate) fn serve_due<A: Allocator + Copy>(
 
 /// The outcome, which says whether an entry is due.
 fn and_more<A: Allocator>(pending: &Pending<A>, clock: Moment, outcome: Outcome<A>) -> Outcome<A>
-    ensures { SaysMore pending.now clock (effect outcome) (effect result) }
+    ensures { SaysMore pending.now clock (outcome_data outcome) (outcome_data result) }
 {
     match pending.due(clock) {
         Some(_) => with_more(outcome, true),
@@ -161,7 +168,7 @@ fn and_more<A: Allocator>(pending: &Pending<A>, clock: Moment, outcome: Outcome<
 
 /// The outcome, which says whether there is more.
 fn with_more<A: Allocator>(mut outcome: Outcome<A>, more: bool) -> Outcome<A>
-    ensures { effect result ≡ record (effect outcome) { more = more } }
+    ensures { outcome_data result ≡ record (outcome_data outcome) { more = more } }
 {
     outcome.more = more;
     outcome

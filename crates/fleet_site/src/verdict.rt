@@ -1,14 +1,17 @@
 //! What is made of octets that are asked, before the table of open questions is looked at.
 
 ghost use Rattle.std.specs.Prelude.{◌≡◌, ◌≤◌, ◌<◌, ◌↔◌, List, IsTrue, IfOk, IfErr};
-ghost use Rattle.fleet_wire.specs.Question.{asked};
-ghost use Rattle.fleet_observe.specs.Fact.{Fact};
+ghost use Rattle.fleet_wire.specs.Question.{question_data};
+ghost use Rattle.fleet_site.specs.declared.class.TheConstants.{IN};
+ghost use Rattle.fleet_observe.specs.Observation.{ObservationData};
 ghost use Rattle.fleet_cache.specs.Cached.{IsCached};
 ghost use Rattle.fleet_cache.specs.Kinds.{HasKinds};
-ghost use Rattle.fleet_cache.specs.Told.{told};
+ghost use Rattle.fleet_cache.specs.AnswerData.{answer_data};
 ghost use Rattle.fleet_site.specs.Carried.{IsAskable, IsAnswered, IsUnread};
-ghost use Rattle.fleet_site.specs.Verdict.{IsAsking, verdict, IsServed, DecidesAnswer, DecidesQuestion, Decides};
+ghost use Rattle.fleet_site.specs.Verdict.{IsAsking, verdict, IsServedQuestion, DecidesAnswer, DecidesQuestion, Decides};
 
+use crate::class::IN;
+use crate::rcode::{FORMAT_ERROR, NAME_ERROR, NO_ERROR, NOT_IMPLEMENTED};
 use crate::writing::{bare_reply, deny, reply_without, tell};
 use fleet_cache::{Answer, Cache};
 use fleet_name::Octets;
@@ -41,7 +44,7 @@ pub(crate) fn decide<A: Allocator + Copy>(
     octets: &[u8],
 ) -> Result<Decision<A>, AllocError>
     requires { cache.now.floor ≤ clock }
-    ensures decides { (s : List Fact) → IsCached s cache.now.floor cache.now.items
+    ensures decides { (s : List ObservationData) → IsCached s cache.now.floor cache.now.items
         → IfOk result (λ d. Decides s clock octets.now (verdict d)) }
     ensures askable { IfOk result (λ d. IsAskable d) }
     ensures answered { IfOk result (λ d. IsAnswered d → IsAsking octets.now) }
@@ -55,17 +58,17 @@ pub(crate) fn decide<A: Allocator + Copy>(
         return Ok(Decision::Dropped);
     }
     if header.opcode != 0 {
-        let reply = bare_reply(alloc, header, 4)?;
+        let reply = bare_reply(alloc, header, NOT_IMPLEMENTED)?;
         return Ok(Decision::Reply(reply));
     }
     match read_query(alloc, octets) {
         Ok((_, question)) => decide_question(alloc, cache, clock, header, question),
-        Err(fault) => unread(alloc, header, fault),
+        Err(fault) => decide_unread(alloc, header, fault),
     }
 }
 
 /// Octets that can't be read.
-fn unread<A: Allocator + Copy>(
+fn decide_unread<A: Allocator + Copy>(
     alloc: A,
     header: Header,
     fault: ReadFault,
@@ -77,7 +80,7 @@ fn unread<A: Allocator + Copy>(
     if fault == ReadFault::OutOfMemory {
         return Err(AllocError);
     }
-    let reply = bare_reply(alloc, header, 1)?;
+    let reply = bare_reply(alloc, header, FORMAT_ERROR)?;
     Ok(Decision::Unread(reply, fault))
 }
 
@@ -91,12 +94,12 @@ fn decide_question<A: Allocator + Copy>(
 ) -> Result<Decision<A>, AllocError>
     requires opcode { header.opcode < 16 }
     requires reached { cache.now.floor ≤ clock }
-    ensures decides { (s : List Fact) → IsCached s cache.now.floor cache.now.items
-        → IfOk result (λ d. DecidesQuestion s clock header (asked question) (verdict d)) }
+    ensures decides { (s : List ObservationData) → IsCached s cache.now.floor cache.now.items
+        → IfOk result (λ d. DecidesQuestion s clock header (question_data question) (verdict d)) }
     ensures askable { IfOk result (λ d. IsAskable d) }
 {
     if !is_served(&question) {
-        let reply = reply_without(alloc, header, 4, &question)?;
+        let reply = reply_without(alloc, header, NOT_IMPLEMENTED, &question)?;
         return Ok(Decision::Reply(reply));
     }
     let answer = cache.answer(&question, clock);
@@ -105,9 +108,9 @@ fn decide_question<A: Allocator + Copy>(
 
 /// Whether a question is answered: of class 1, and of a type that data can have.
 fn is_served<A: Allocator>(question: &Question<A>) -> bool
-    ensures { IsTrue result ↔ IsServed (asked question.now) }
+    ensures { IsTrue result ↔ IsServedQuestion (question_data question.now) }
 {
-    question.class == 1 && is_data_type(question.rtype)
+    question.class == IN && is_data_type(question.rtype)
 }
 
 /// What is made of an answer.
@@ -118,10 +121,10 @@ fn decide_answer<A: Allocator + Copy>(
     answer: &Answer<'_, A>,
 ) -> Result<Decision<A>, AllocError>
     requires opcode { header.opcode < 16 }
-    requires served { question.class ≡ 1 }
-    requires kinds { HasKinds (told answer.now) }
+    requires served { question.class ≡ IN }
+    requires kinds { HasKinds (answer_data answer.now) }
     ensures decides { IfOk result (λ d.
-        DecidesAnswer header (asked question) (told answer.now) (verdict d)) }
+        DecidesAnswer header (question_data question) (answer_data answer.now) (verdict d)) }
     ensures askable { IfOk result (λ d. IsAskable d) }
 {
     match answer {
@@ -131,11 +134,11 @@ fn decide_answer<A: Allocator + Copy>(
             Ok(Decision::Reply(reply))
         }
         Answer::NoData { chain, soa } => {
-            let reply = deny(alloc, header, 0, &question, chain, *soa)?;
+            let reply = deny(alloc, header, NO_ERROR, &question, chain, *soa)?;
             Ok(Decision::Reply(reply))
         }
         Answer::NxDomain { chain, soa } => {
-            let reply = deny(alloc, header, 3, &question, chain, *soa)?;
+            let reply = deny(alloc, header, NAME_ERROR, &question, chain, *soa)?;
             Ok(Decision::Reply(reply))
         }
     }

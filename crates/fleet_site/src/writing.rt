@@ -2,11 +2,12 @@
 
 ghost use Rattle.std.specs.Prelude.{◌≡◌, ◌<◌, IfOk, OnOk, Some, None, MatchOption};
 ghost use Rattle.fleet_wire.specs.Outline.{octets_of_outline};
-ghost use Rattle.fleet_wire.specs.Question.{asked};
+ghost use Rattle.fleet_wire.specs.Question.{question_data};
 ghost use Rattle.fleet_cache.specs.Kinds.{IsPositivePart, ArePositiveParts};
-ghost use Rattle.fleet_cache.specs.Shown.{part_of, parts_of};
-ghost use Rattle.fleet_site.specs.Rows.{started, started_octets, AddsRows, AddsChainRows, AddsSoaRow, IsNegativePart, Tells, Denies};
+ghost use Rattle.fleet_cache.specs.Shown.{shown_data, all_shown_data};
+ghost use Rattle.fleet_site.specs.Rows.{bare_outline, bare_octets, AddsRows, AddsChainRows, AddsSoaRow, IsNegativePart, WritesRecords, WritesDenial};
 
+use crate::rcode::NO_ERROR;
 use fleet_cache::{Chain, Shown};
 use fleet_name::Octets;
 use fleet_observe::{Rows, add_rows, add_soa};
@@ -22,12 +23,13 @@ pub(crate) fn tell<A: Allocator + Copy>(
     set: Shown<'_, A>,
 ) -> Result<Octets<A>, AllocError>
     requires opcode { header.opcode < 16 }
-    requires links { ArePositiveParts (parts_of chain.now.items) }
-    requires positive { IsPositivePart (part_of set) }
-    ensures { IfOk result (Tells header (asked question.now) (parts_of chain.now.items)
-        (part_of set.entry)) }
+    requires links { ArePositiveParts (all_shown_data chain.now.items) }
+    requires positive { IsPositivePart (shown_data set) }
+    ensures { IfOk result (WritesRecords header (question_data question.now)
+        (all_shown_data chain.now.items)
+        (shown_data set.entry)) }
 {
-    let mut outline = begin(alloc, header, 0, Some(question));
+    let mut outline = begin(alloc, header, NO_ERROR, Some(question));
     add_chain(&mut outline, chain.as_slice())?;
     add_set(&mut outline, set)?;
     finish(alloc, &outline)
@@ -44,10 +46,11 @@ pub(crate) fn deny<A: Allocator + Copy>(
 ) -> Result<Octets<A>, AllocError>
     requires opcode { header.opcode < 16 }
     requires rcode { rcode < 16 }
-    requires links { ArePositiveParts (parts_of chain.now.items) }
-    requires negative { IsNegativePart (part_of soa) }
-    ensures { IfOk result (Denies header rcode (asked question.now) (parts_of chain.now.items)
-        (part_of soa.entry)) }
+    requires links { ArePositiveParts (all_shown_data chain.now.items) }
+    requires negative { IsNegativePart (shown_data soa) }
+    ensures { IfOk result (WritesDenial header rcode (question_data question.now)
+        (all_shown_data chain.now.items)
+        (shown_data soa.entry)) }
 {
     let mut outline = begin(alloc, header, rcode, Some(question));
     add_chain(&mut outline, chain.as_slice())?;
@@ -60,8 +63,8 @@ fn add_chain<'a, A: Allocator + Copy>(
     outline: &mut Outline<'a, A>,
     chain: &[Option<Shown<'a, A>>],
 ) -> Result<(), AllocError>
-    ensures { ArePositiveParts (parts_of chain.now)
-        → OnOk result (AddsChainRows (parts_of chain.now) outline.old outline.new) }
+    ensures { ArePositiveParts (all_shown_data chain.now)
+        → OnOk result (AddsChainRows (all_shown_data chain.now) outline.old outline.new) }
 {
     for link in chain {
         if let Some(part) = link {
@@ -76,8 +79,8 @@ fn add_set<'a, A: Allocator + Copy>(
     outline: &mut Outline<'a, A>,
     part: Shown<'a, A>,
 ) -> Result<(), AllocError>
-    ensures { IsPositivePart (part_of part.entry)
-        → OnOk result (AddsRows (part_of part.entry) outline.old outline.new) }
+    ensures { IsPositivePart (shown_data part.entry)
+        → OnOk result (AddsRows (shown_data part.entry) outline.old outline.new) }
 {
     let observation = part.observation;
     let rows = Rows {
@@ -94,8 +97,8 @@ fn add_denial<'a, A: Allocator + Copy>(
     outline: &mut Outline<'a, A>,
     part: Shown<'a, A>,
 ) -> Result<(), AllocError>
-    ensures { IsNegativePart (part_of part.entry)
-        → OnOk result (AddsSoaRow (part_of part.entry) outline.old outline.new) }
+    ensures { IsNegativePart (shown_data part.entry)
+        → OnOk result (AddsSoaRow (shown_data part.entry) outline.old outline.new) }
 {
     match part.observation.soa() {
         Some((owner, rdata)) => add_soa(outline, owner, part.ttl, rdata),
@@ -112,8 +115,8 @@ fn begin<'a, A: Allocator + Copy>(
 ) -> Outline<'a, A>
     requires opcode { header.opcode < 16 }
     requires rcode { rcode < 16 }
-    ensures { MatchOption question.entry (result ≡ started header rcode None)
-        (λ q. result ≡ started header rcode (Some (asked q.now))) }
+    ensures { MatchOption question.entry (result ≡ bare_outline header rcode None)
+        (λ q. result ≡ bare_outline header rcode (Some (question_data q.now))) }
 {
     Outline::new(
         alloc,
@@ -142,7 +145,7 @@ pub(crate) fn bare_reply<'a, A: Allocator + Copy + 'a>(
 ) -> Result<Octets<A>, AllocError>
     requires opcode { header.opcode < 16 }
     requires rcode { rcode < 16 }
-    ensures { IfOk result (λ octets. octets ≡ started_octets header rcode None) }
+    ensures { IfOk result (λ octets. octets ≡ bare_octets header rcode None) }
 {
     let question: Option<&'a Question<A>> = None;
     let outline = begin(alloc, header, rcode, question);
@@ -159,7 +162,7 @@ pub(crate) fn reply_without<A: Allocator + Copy>(
     requires opcode { header.opcode < 16 }
     requires rcode { rcode < 16 }
     ensures { IfOk result (λ octets.
-        octets ≡ started_octets header rcode (Some (asked question.now))) }
+        octets ≡ bare_octets header rcode (Some (question_data question.now))) }
 {
     let outline = begin(alloc, header, rcode, Some(question));
     finish(alloc, &outline)

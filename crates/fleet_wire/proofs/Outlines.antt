@@ -1,52 +1,78 @@
 -- The octets of an outline, piece by piece.
-use Rattle.std.proofs.Common.{◌≡◌, ℕ, ◌+◌, ◌<◌, ◌≤◌, List, [], ◌∷◌, ◌++◌, length, refl, sym, ap, ◌∙◌, arith, append_assoc, length-append, Bool, true, false, Option, cond, nat_le}
-use Rattle.std.proofs.lemmas.Bool.Decides.{nat_tests}
+use Rattle.std.proofs.Common.{◌≡◌, ℕ, ◌+◌, ◌<◌, ◌≤◌, List, [], ◌∷◌, ◌++◌, length, refl, sym, ap, ◌∙◌, arith, append_assoc, length-append, Bool, true, Option, cond, nat_le}
+use Rattle.std.proofs.lemmas.Bool.{le-leb, lt-leb}
 use Rattle.fleet_name.specs.Name.{wire}
-use Rattle.fleet_wire.specs.Question.{Asked}
-use Rattle.fleet_wire.specs.Record.{Told}
+use Rattle.fleet_wire.specs.Question.{QuestionData}
+use Rattle.fleet_wire.specs.Record.{RecordData}
 use Rattle.fleet_wire.specs.Number.{u16_octets, u32_octets}
-use Rattle.fleet_wire.specs.Outline.{Sketch, record_octets, rows, question_octets, header_octets, body_size, whole_octets, cut_octets, octets_of_outline}
-
-nat_le-true : {a b : ℕ} → a ≤ b → nat_le a b ≡ true
-nat_le-true {a} {b} h = grind (arith, nat_tests)
-
-nat_le-false : {a b : ℕ} → b < a → nat_le a b ≡ false
-nat_le-false {a} {b} h = grind (arith, nat_tests)
+use Rattle.fleet_wire.specs.declared.bounds.TheConstants.{LONGEST_MESSAGE}
+use Rattle.fleet_wire.specs.Outline.{OutlineData, record_octets, records_octets, question_octets, header_octets, body_size, whole_octets, cut_octets, octets_of_outline}
 
 -- each record has octets
-pub count_rows : (rs : List Told) → length rs ≤ length (rows rs)
+pub count_rows : (rs : List RecordData) → length rs ≤ length (records_octets rs)
 count_rows [] = omega arith
 count_rows (r ∷ rs) =
-    let fixed = u16_octets r.rtype ++ (u16_octets r.class ++ (u32_octets r.ttl ++ (u16_octets (length r.rdata) ++ r.rdata))) in
-    omega (arith, count_rows rs, length-append (record_octets r) (rows rs), length-append (wire r.name) fixed)
+    let fixed =
+    u16_octets r.rtype
+    ++ (u16_octets r.class ++ (u32_octets r.ttl ++ (u16_octets (length r.rdata) ++ r.rdata))) in
+    omega (
+      arith,
+      count_rows rs,
+      length-append (record_octets r) (records_octets rs),
+      length-append (wire r.name) fixed,
+    )
 
-whole_size : (o : Sketch) → length (whole_octets o) ≡ 12 + body_size o.question o.answer o.authority
+whole_size : (o : OutlineData) → length (whole_octets o) ≡ 12 + body_size o.question o.answer o.authority
 whole_size o =
     let h = header_octets o o.tc (length o.answer) (length o.authority) in
-    length-append h (question_octets o.question ++ (rows o.answer ++ rows o.authority))
-    ∙ (ap (λ (n : ℕ). 12 + n) (length-append (question_octets o.question) (rows o.answer ++ rows o.authority) ∙ ap (λ (n : ℕ). length (question_octets o.question) + n) (length-append (rows o.answer) (rows o.authority))))
+    length-append h (question_octets o.question ++ (records_octets o.answer ++ records_octets o.authority))
+    ∙ (ap (λ (n : ℕ). 12 + n)
+    (length-append (question_octets o.question) (records_octets o.answer ++ records_octets o.authority)
+    ∙ ap (λ (n : ℕ). length (question_octets o.question) + n)
+    (length-append (records_octets o.answer) (records_octets o.authority))))
 
-module _ (o : Sketch) (q : Option Asked) (a b : List Told) (is_q : q ≡ o.question) (is_a : a ≡ o.answer) (is_b : b ≡ o.authority) where
+module _ (o : OutlineData) (q : Option QuestionData) (a b : List RecordData) (is_q : q ≡ o.question)
+    (is_a : a ≡ o.answer) (is_b : b ≡ o.authority) where
   size_is : length (whole_octets o) ≡ 12 + body_size q a b
   size_is = rw (is_q, is_a, is_b) (whole_size o)
 
-  pub written_short : (tc : Bool) (an ns : ℕ) (one two three four : List ℕ) → tc ≡ o.tc → an ≡ length a → ns ≡ length b → 12 + body_size q a b ≤ 512
-      → one ≡ header_octets o tc an ns → two ≡ one ++ question_octets q → three ≡ two ++ rows a → four ≡ three ++ rows b → four ≡ octets_of_outline o
+  pub written_short : (tc : Bool) (an ns : ℕ) (one two three four : List ℕ) → tc ≡ o.tc
+      → an ≡ length a → ns ≡ length b → 12 + body_size q a b ≤ LONGEST_MESSAGE
+      → one ≡ header_octets o tc an ns → two ≡ one ++ question_octets q → three ≡ two ++ records_octets a
+      → four ≡ three ++ records_octets b → four ≡ octets_of_outline o
   unfolding octets_of_outline
   written_short tc an ns one two three four is_tc is_an is_ns fits e1 e2 e3 e4 =
-      let chosen : cond (nat_le (length (whole_octets o)) 512) (whole_octets o) (cut_octets o) ≡ whole_octets o =
-      ap (λ (t : Bool). cond t (whole_octets o) (cut_octets o)) (nat_le-true (omega (arith, size_is, fits))) in
-      let header : header_octets o tc an ns ≡ header_octets o o.tc (length o.answer) (length o.authority) = rw (is_tc, is_an, is_ns, is_a, is_b) refl in
-      let h = header_octets o o.tc (length o.answer) (length o.authority) in let y = question_octets o.question in
-      let two_is : two ≡ h ++ y = e2 ∙ (ap (λ (x : List ℕ). x ++ question_octets q) (e1 ∙ header) ∙ ap (λ (x : Option Asked). h ++ question_octets x) is_q) in
-      let three_is : three ≡ (h ++ y) ++ rows o.answer = e3 ∙ (ap (λ (x : List ℕ). x ++ rows a) two_is ∙ ap (λ (x : List Told). (h ++ y) ++ rows x) is_a) in
-      let four_is : four ≡ ((h ++ y) ++ rows o.answer) ++ rows o.authority = e4 ∙ (ap (λ (x : List ℕ). x ++ rows b) three_is ∙ ap (λ (x : List Told). ((h ++ y) ++ rows o.answer) ++ rows x) is_b) in
-      let grouped : ((h ++ y) ++ rows o.answer) ++ rows o.authority ≡ whole_octets o = append_assoc (h ++ y) (rows o.answer) (rows o.authority) ∙ append_assoc h y (rows o.answer ++ rows o.authority) in
+      let chosen : cond (nat_le (length (whole_octets o)) LONGEST_MESSAGE) (whole_octets o)
+      (cut_octets o) ≡ whole_octets o =
+      ap (λ (t : Bool). cond t (whole_octets o) (cut_octets o))
+      (le-leb (length (whole_octets o)) LONGEST_MESSAGE (omega (arith, size_is, fits))) in
+      let header : header_octets o tc an ns
+      ≡ header_octets o o.tc (length o.answer) (length o.authority) =
+      rw (is_tc, is_an, is_ns, is_a, is_b) refl in
+      let h = header_octets o o.tc (length o.answer) (length o.authority) in
+      let y = question_octets o.question in
+      let two_is : two ≡ h ++ y =
+      e2 ∙ (ap (λ (x : List ℕ). x ++ question_octets q) (e1 ∙ header)
+      ∙ ap (λ (x : Option QuestionData). h ++ question_octets x) is_q) in
+      let three_is : three ≡ (h ++ y) ++ records_octets o.answer =
+      e3 ∙ (ap (λ (x : List ℕ). x ++ records_octets a) two_is
+      ∙ ap (λ (x : List RecordData). (h ++ y) ++ records_octets x) is_a) in
+      let four_is : four ≡ ((h ++ y) ++ records_octets o.answer) ++ records_octets o.authority =
+      e4 ∙ (ap (λ (x : List ℕ). x ++ records_octets b) three_is
+      ∙ ap (λ (x : List RecordData). ((h ++ y) ++ records_octets o.answer) ++ records_octets x) is_b) in
+      let grouped : ((h ++ y) ++ records_octets o.answer) ++ records_octets o.authority ≡ whole_octets o =
+      append_assoc (h ++ y) (records_octets o.answer) (records_octets o.authority)
+      ∙ append_assoc h y (records_octets o.answer ++ records_octets o.authority) in
       four_is ∙ (grouped ∙ sym chosen)
 
-  pub written_cut : (one two : List ℕ) → 512 < 12 + body_size q a b → one ≡ header_octets o true 0 0 → two ≡ one ++ question_octets q → two ≡ octets_of_outline o
+  pub written_cut : (one two : List ℕ) → LONGEST_MESSAGE < 12 + body_size q a b
+      → one ≡ header_octets o true 0 0 → two ≡ one ++ question_octets q → two ≡ octets_of_outline o
   unfolding octets_of_outline
   written_cut one two over e1 e2 =
-      let chosen : cond (nat_le (length (whole_octets o)) 512) (whole_octets o) (cut_octets o) ≡ cut_octets o =
-      ap (λ (t : Bool). cond t (whole_octets o) (cut_octets o)) (nat_le-false (omega (arith, size_is, over))) in
-      e2 ∙ (ap (λ (x : List ℕ). x ++ question_octets q) e1 ∙ (ap (λ (x : Option Asked). header_octets o true 0 0 ++ question_octets x) is_q ∙ sym chosen))
+      let chosen : cond (nat_le (length (whole_octets o)) LONGEST_MESSAGE) (whole_octets o)
+      (cut_octets o) ≡ cut_octets o =
+      ap (λ (t : Bool). cond t (whole_octets o) (cut_octets o))
+      (lt-leb (length (whole_octets o)) LONGEST_MESSAGE (omega (arith, size_is, over))) in
+      e2 ∙ (ap (λ (x : List ℕ). x ++ question_octets q) e1
+      ∙ (ap (λ (x : Option QuestionData). header_octets o true 0 0 ++ question_octets x) is_q
+      ∙ sym chosen))

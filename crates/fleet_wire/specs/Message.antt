@@ -2,10 +2,11 @@
 use Rattle.std.specs.Prelude.{◌≡◌, ◌≢◌, ℕ, ◌/◌, ◌%◌, ◌<◌, ◌≤◌, ◌⊎◌, List, [], ◌∷◌, length, slice_index, Bool, true, false, nat_eq, nat_le, IsTrue}
 use Rattle.std.specs.List.{AllByRecursion}
 use Rattle.fleet_wire.specs.Number.{u16_at}
-use Rattle.fleet_wire.specs.Question.{Asked, IsAsked, IsQuestion, QuestionFails}
-use Rattle.fleet_wire.specs.Record.{Told, IsPlainRecord, RecordsAt, RecordsFail}
+use Rattle.fleet_wire.specs.Question.{QuestionData, IsQuestionData, IsQuestion, QuestionFails}
+use Rattle.fleet_wire.specs.Record.{RecordData, IsPlainRecord, RecordsAt, RecordsFail}
+use Rattle.fleet_wire.specs.declared.bounds.TheConstants.{LONGEST_MESSAGE}
 use Rattle.fleet_wire.specs.declared.fault.ReadFault.{ReadFault}
-use Rattle.fleet_wire.specs.declared.fault.ReadFault.TheVariants.{TooShort, TooLong, Truncated, BadLabel, BadPointer, LongName, BadRdata, QuestionCount, OutOfMemory}
+use Rattle.fleet_wire.specs.declared.fault.ReadFault.TheVariants.{TooShort, TooLong, QuestionCount}
 use Rattle.fleet_wire.specs.declared.header.Header.{Header}
 
 -- the header in the first twelve octets (RFC 1035 4.1.1)
@@ -26,26 +27,22 @@ pub record IsHeader (h : Header) : Type 0 where
   pub opcode : h.opcode < 16
   pub rcode : h.rcode < 16
 
--- m has 12 to 512 octets, and counts one question
+-- m has 12 octets to the most of a message, and counts one question
 pub record HasOneQuestion (m : List ℕ) : Type 0 where
   pub long : 12 ≤ length m
-  pub short : length m ≤ 512
+  pub short : length m ≤ LONGEST_MESSAGE
   pub one : u16_at m 4 ≡ 1
 
--- the first fault of a header
-abbrev pub HeaderFails : List ℕ → ReadFault → Type 0
-HeaderFails m TooShort = length m < 12
-HeaderFails m TooLong = 512 < length m
-HeaderFails m QuestionCount = (12 ≤ length m) × (length m ≤ 512) × (u16_at m 4 ≢ 1)
-HeaderFails m Truncated = ⊥
-HeaderFails m BadLabel = ⊥
-HeaderFails m BadPointer = ⊥
-HeaderFails m LongName = ⊥
-HeaderFails m BadRdata = ⊥
-HeaderFails m OutOfMemory = ⊥
+-- The first fault of a header: it is not whole, the message is too long, or it doesn't count one
+-- question.
+pub data HeaderFails (m : List ℕ) (f : ReadFault) : Type 0 where
+  no_header : length m < 12 → f ≡ TooShort → HeaderFails m f
+  long_message : LONGEST_MESSAGE < length m → f ≡ TooLong → HeaderFails m f
+  not_one : 12 ≤ length m → length m ≤ LONGEST_MESSAGE → u16_at m 4 ≢ 1 → f ≡ QuestionCount
+      → HeaderFails m f
 
 -- m has a header and a question, which ends before past; whatever follows is free
-pub record IsQuery (m : List ℕ) (h : Header) (q : Asked) (past : ℕ) : Type 0 where
+pub record IsQuery (m : List ℕ) (h : Header) (q : QuestionData) (past : ℕ) : Type 0 where
   pub counted : HasOneQuestion m
   pub header : h ≡ header_of m
   pub question : IsQuestion m 12 q past
@@ -56,30 +53,30 @@ QueryFails m f = HeaderFails m f ⊎ (HasOneQuestion m × QuestionFails m 12 f)
 
 -- the header and the question have no fault
 abbrev pub HasQuery : List ℕ → Type 0
-HasQuery m = (q : Asked) × (past : ℕ) × IsQuery m (header_of m) q past
+HasQuery m = (q : QuestionData) × (past : ℕ) × IsQuery m (header_of m) q past
 
 -- a message without where it lies in memory
-pub record Reply : Type 0 where
+pub record MessageData : Type 0 where
   pub header : Header
-  pub question : Asked
-  pub answer : List Told
-  pub authority : List Told
+  pub question : QuestionData
+  pub answer : List RecordData
+  pub authority : List RecordData
 
-abbrev pub reply_with : Header → Asked → List Told → List Told → Reply
+abbrev pub reply_with : Header → QuestionData → List RecordData → List RecordData → MessageData
 reply_with header question answer authority =
     record { header = header; question = question; answer = answer; authority = authority }
 
 -- What every reply that was read meets: a lawful header and question, plain records whatever their
 -- class, and none of them where it was cut off.
-pub record IsRead (r : Reply) : Type 0 where
+pub record IsRead (r : MessageData) : Type 0 where
   pub header : IsHeader r.header
-  pub question : IsAsked r.question
+  pub question : IsQuestionData r.question
   pub answer : AllByRecursion IsPlainRecord r.answer
   pub authority : AllByRecursion IsPlainRecord r.authority
   pub cut : IsTrue r.header.tc → (r.answer ≡ []) × (r.authority ≡ [])
 
 -- the sections behind the question: where the message says that it was cut off, none is read
-abbrev pub SectionsAt : List ℕ → ℕ → Bool → List Told → List Told → Type 0
+abbrev pub SectionsAt : List ℕ → ℕ → Bool → List RecordData → List RecordData → Type 0
 SectionsAt m past true a b = (a ≡ []) × (b ≡ [])
 SectionsAt m past false a b = (middle : ℕ) × (end : ℕ) × RecordsAt m past a middle
     × (length a ≡ u16_at m 6) × RecordsAt m middle b end × (length b ≡ u16_at m 8)
@@ -87,21 +84,21 @@ SectionsAt m past false a b = (middle : ℕ) × (end : ℕ) × RecordsAt m past 
 abbrev pub SectionsFail : List ℕ → ℕ → Bool → ReadFault → Type 0
 SectionsFail m past true f = ⊥
 SectionsFail m past false f = RecordsFail m past (u16_at m 6) f
-    ⊎ ((a : List Told) × (middle : ℕ) × RecordsAt m past a middle × (length a ≡ u16_at m 6)
+    ⊎ ((a : List RecordData) × (middle : ℕ) × RecordsAt m past a middle × (length a ≡ u16_at m 6)
     × RecordsFail m middle (u16_at m 8) f)
 
 -- m is this reply; whatever follows its last part is free
-pub record IsReply (m : List ℕ) (r : Reply) : Type 0 where
+pub record IsReply (m : List ℕ) (r : MessageData) : Type 0 where
   pub past : ℕ
   pub query : IsQuery m r.header r.question past
   pub sections : SectionsAt m past r.header.tc r.answer r.authority
 
 -- the octets are a reply
 abbrev pub HasReply : List ℕ → Type 0
-HasReply m = (r : Reply) × IsReply m r
+HasReply m = (r : MessageData) × IsReply m r
 
 -- the first fault of a reply
 abbrev pub ReplyFails : List ℕ → ReadFault → Type 0
 ReplyFails m f = QueryFails m f
-    ⊎ ((q : Asked) × (past : ℕ) × IsQuery m (header_of m) q past
+    ⊎ ((q : QuestionData) × (past : ℕ) × IsQuery m (header_of m) q past
     × SectionsFail m past (header_of m).tc f)

@@ -1,13 +1,14 @@
 -- What name stands at a place of a message (RFC 1035 3.1, 4.1.4).
 use Rattle.std.specs.Prelude.{◌≡◌, ℕ, ◌+◌, ◌-◌, ◌*◌, ◌<◌, ◌≤◌, List, [], ◌∷◌, length, take, drop, slice_index}
 use Rattle.fleet_name.specs.Name.{IsName, lower_all}
+use Rattle.fleet_name.specs.declared.bounds.TheConstants.{LONGEST_LABEL}
 
--- a label stands at p: its length octet, 1 to 63, and its octets
+-- a label stands at p: its length octet, and its octets, one at least
 pub record LabelAt (m : List ℕ) (p : ℕ) (label : List ℕ) : Type 0 where
   pub begins : p < length m
   pub counted : slice_index m p ≡ length label
   pub some : 0 < length label
-  pub short : length label ≤ 63
+  pub short : length label ≤ LONGEST_LABEL
   pub within : p + 1 + length label ≤ length m
   pub octets : label ≡ take (length label) (drop (p + 1) m)
 

@@ -3,24 +3,26 @@ use Rattle.std.specs.Prelude.{◌≡◌, ℕ, ◌+◌, ◌*◌, ◌<◌, ◌≤�
 use Rattle.std.specs.List.{flat_map, AllByRecursion}
 use Rattle.fleet_name.specs.Name.{wire, IsName}
 use Rattle.fleet_wire.specs.Number.{u16_octets, u32_octets}
-use Rattle.fleet_wire.specs.Question.{Asked, IsAsked}
-use Rattle.fleet_wire.specs.Record.{Told}
+use Rattle.fleet_wire.specs.Question.{QuestionData, IsQuestionData}
+use Rattle.fleet_wire.specs.Record.{RecordData}
 use Rattle.fleet_wire.specs.Shape.{IsPlain}
-use Rattle.fleet_wire.specs.Message.{Reply}
+use Rattle.fleet_wire.specs.Message.{MessageData}
+use Rattle.fleet_wire.specs.declared.bounds.TheConstants.{LONGEST_MESSAGE}
 
 -- the header fields, the question if any, and the records of two sections
-pub record Sketch : Type 0 where
+pub record OutlineData : Type 0 where
   pub id : ℕ
   pub opcode : ℕ
   pub rd : Bool
   pub rcode : ℕ
   pub tc : Bool
-  pub question : Option Asked
-  pub answer : List Told
-  pub authority : List Told
+  pub question : Option QuestionData
+  pub answer : List RecordData
+  pub authority : List RecordData
 
-abbrev pub sketch : ℕ → ℕ → Bool → ℕ → Bool → Option Asked → List Told → List Told → Sketch
-sketch id opcode rd rcode tc question answer authority = record {
+abbrev pub outline_data : ℕ → ℕ → Bool → ℕ → Bool → Option QuestionData → List RecordData
+    → List RecordData → OutlineData
+outline_data id opcode rd rcode tc question answer authority = record {
   id = id;
   opcode = opcode;
   rd = rd;
@@ -36,96 +38,98 @@ abbrev pub flag : Bool → ℕ → ℕ
 flag b n = if b then n else 0
 
 -- a record: its name in full, ten octets, and its RDATA
-abbrev pub record_octets : Told → List ℕ
+abbrev pub record_octets : RecordData → List ℕ
 record_octets r = wire r.name
     ++ (u16_octets r.rtype
     ++ (u16_octets r.class ++ (u32_octets r.ttl ++ (u16_octets (length r.rdata) ++ r.rdata))))
 
 -- a question in its own spelling
-abbrev pub asked_octets : Asked → List ℕ
-asked_octets q = q.spelled ++ (u16_octets q.rtype ++ u16_octets q.class)
+abbrev pub spelled_octets : QuestionData → List ℕ
+spelled_octets q = q.spelled ++ (u16_octets q.rtype ++ u16_octets q.class)
 
-abbrev pub question_octets : Option Asked → List ℕ
+abbrev pub question_octets : Option QuestionData → List ℕ
 question_octets None = []
-question_octets (Some q) = asked_octets q
+question_octets (Some q) = spelled_octets q
 
-abbrev pub question_count : Option Asked → ℕ
+abbrev pub question_count : Option QuestionData → ℕ
 question_count None = 0
 question_count (Some q) = 1
 
 -- the twelve octets of a header: a reply, recursion available, and no authority of its own
-abbrev pub header_octets : Sketch → Bool → ℕ → ℕ → List ℕ
+abbrev pub header_octets : OutlineData → Bool → ℕ → ℕ → List ℕ
 header_octets o tc an ns =
     u16_octets o.id
     ++ ((128 + o.opcode * 8 + flag tc 2 + flag o.rd 1) ∷ (128 + o.rcode)
     ∷ (u16_octets (question_count o.question) ++ (u16_octets an ++ (u16_octets ns ++ 0 ∷ 0 ∷ []))))
 
 -- all of it
-abbrev pub whole_octets : Sketch → List ℕ
+abbrev pub whole_octets : OutlineData → List ℕ
 whole_octets o = header_octets o o.tc (length o.answer) (length o.authority)
     ++ (question_octets o.question
     ++ (flat_map record_octets o.answer ++ flat_map record_octets o.authority))
 
 -- header and question alone, cut off
-abbrev pub cut_octets : Sketch → List ℕ
+abbrev pub cut_octets : OutlineData → List ℕ
 cut_octets o = header_octets o true 0 0 ++ question_octets o.question
 
 -- the records of a section, one after the other
-abbrev pub rows : List Told → List ℕ
-rows rs = flat_map record_octets rs
+abbrev pub records_octets : List RecordData → List ℕ
+records_octets rs = flat_map record_octets rs
 
 -- how many octets a reply has behind its header
-abbrev pub body_size : Option Asked → List Told → List Told → ℕ
-body_size q a b = length (question_octets q) + (length (rows a) + length (rows b))
+abbrev pub body_size : Option QuestionData → List RecordData → List RecordData → ℕ
+body_size q a b = length (question_octets q)
+    + (length (records_octets a) + length (records_octets b))
 
 -- a record of the class IN
-abbrev pub line : List (List ℕ) → ℕ → ℕ → List ℕ → Told
+abbrev pub line : List (List ℕ) → ℕ → ℕ → List ℕ → RecordData
 line name rtype ttl rdata =
     record { name = name; rtype = rtype; class = 1; ttl = ttl; rdata = rdata }
 
 -- one more record at the end of a section
-abbrev pub with_answer : Sketch → Told → Sketch
+abbrev pub with_answer : OutlineData → RecordData → OutlineData
 with_answer o r = record o { answer = o.answer ++ r ∷ [] }
 
-abbrev pub with_authority : Sketch → Told → Sketch
+abbrev pub with_authority : OutlineData → RecordData → OutlineData
 with_authority o r = record o { authority = o.authority ++ r ∷ [] }
 
--- the octets of a reply: all of it where that has at most 512 octets
-unfoldable pub octets_of_outline : Sketch → List ℕ
-octets_of_outline o = if nat_le (length (whole_octets o)) 512 then whole_octets o else cut_octets o
+-- the octets of a reply: all of it where that fits a message
+unfoldable pub octets_of_outline : OutlineData → List ℕ
+octets_of_outline o =
+    if nat_le (length (whole_octets o)) LONGEST_MESSAGE then whole_octets o else cut_octets o
 
 -- a line: its owner is a name
-pub record IsLine (r : Told) : Type 0 where
+pub record IsLine (r : RecordData) : Type 0 where
   pub name : IsName r.name
   pub class : r.class ≡ 1
 
-abbrev pub IsAskedIfAny : Option Asked → Type 0
-IsAskedIfAny None = Unit {0}
-IsAskedIfAny (Some q) = IsAsked q
+abbrev pub IsQuestionIfAny : Option QuestionData → Type 0
+IsQuestionIfAny None = Unit {0}
+IsQuestionIfAny (Some q) = IsQuestionData q
 
 -- what every outline of a program meets
-pub record IsSketch (o : Sketch) : Type 0 where
+pub record IsOutlineData (o : OutlineData) : Type 0 where
   pub opcode : o.opcode < 16
   pub rcode : o.rcode < 16
-  pub question : IsAskedIfAny o.question
+  pub question : IsQuestionIfAny o.question
   pub answer : AllByRecursion IsLine o.answer
   pub authority : AllByRecursion IsLine o.authority
 
 -- the RDATA is plain for its type
-abbrev pub HasPlainRdata : Told → Type 0
+abbrev pub HasPlainRdata : RecordData → Type 0
 HasPlainRdata r = IsPlain r.rtype r.rdata
 
 -- an outline that is to be read again: with a question, TC clear, plain RDATA, and within a message
-pub record IsWhole (o : Sketch) (q : Asked) : Type 0 where
+pub record IsWhole (o : OutlineData) (q : QuestionData) : Type 0 where
   pub clear : o.tc ≡ false
   pub question : o.question ≡ Some q
   pub answer : AllByRecursion HasPlainRdata o.answer
   pub authority : AllByRecursion HasPlainRdata o.authority
-  pub fits : length (whole_octets o) ≤ 512
+  pub fits : length (whole_octets o) ≤ LONGEST_MESSAGE
 
 -- the reply that such an outline is
-abbrev pub reply_sketched : Sketch → Asked → Reply
-reply_sketched o q = record {
+abbrev pub message_of_outline : OutlineData → QuestionData → MessageData
+message_of_outline o q = record {
   header = record {
     id = o.id;
     response = true;

@@ -1,14 +1,15 @@
 -- What a query to an upstream is, as octets (RFC 1035 4.1.1, 4.1.2).
 use Rattle.std.specs.Prelude.{ℕ, List, [], ◌∷◌, ◌++◌, true, false}
 use Rattle.fleet_name.specs.Name.{wire}
-use Rattle.fleet_wire.specs.Question.{Asked}
+use Rattle.fleet_wire.specs.Question.{QuestionData}
 use Rattle.fleet_wire.specs.Number.{u16_octets}
-use Rattle.fleet_wire.specs.Outline.{asked_octets}
+use Rattle.fleet_wire.specs.Outline.{spelled_octets}
 use Rattle.fleet_wire.specs.declared.header.Header.{Header}
 
 -- the question with its name in lower case
-abbrev pub lowered : Asked → Asked
-lowered q = record { spelled = wire q.name; name = q.name; rtype = q.rtype; class = q.class }
+abbrev pub lowercase_question : QuestionData → QuestionData
+lowercase_question q = record
+    { spelled = wire q.name; name = q.name; rtype = q.rtype; class = q.class }
 
 -- a header that wants recursion alone and counts one question
 abbrev pub query_head : ℕ → List ℕ
@@ -16,8 +17,8 @@ query_head id = u16_octets id
     ++ (u16_octets 256 ++ (u16_octets 1 ++ (u16_octets 0 ++ (u16_octets 0 ++ u16_octets 0))))
 
 -- the query's octets
-abbrev pub query_octets : ℕ → Asked → List ℕ
-query_octets id q = query_head id ++ asked_octets (lowered q)
+abbrev pub query_octets : ℕ → QuestionData → List ℕ
+query_octets id q = query_head id ++ spelled_octets (lowercase_question q)
 
 -- the header that is read again
 abbrev pub query_header : ℕ → Header

@@ -11,18 +11,18 @@ use Rattle.fleet_wire.specs.declared.question.Question.{Question}
 use Rattle.fleet_wire.specs.declared.query.SpelledQuestion.{SpelledQuestion}
 
 -- a question: its name in its own spelling, as octets, and as labels in lower case
-pub record Asked : Type 0 where
+pub record QuestionData : Type 0 where
   pub spelled : List ℕ
   pub name : List (List ℕ)
   pub rtype : ℕ
   pub class : ℕ
 
-abbrev pub asked : {A : Type 0} → Question A → Asked
-asked q = record { spelled = q.spelled; name = q.name; rtype = q.rtype; class = q.class }
+abbrev pub question_data : {A : Type 0} → Question A → QuestionData
+question_data q = record { spelled = q.spelled; name = q.name; rtype = q.rtype; class = q.class }
 
 -- a question that has taken no memory yet
-abbrev pub asked_spelled : SpelledQuestion → Asked
-asked_spelled q = record {
+abbrev pub spelled_question_data : SpelledQuestion → QuestionData
+spelled_question_data q = record {
   spelled = q.name.octets.items;
   name = lower_all (labels_of q.name.octets.items);
   rtype = q.rtype;
@@ -30,12 +30,12 @@ asked_spelled q = record {
 }
 
 -- a question that is lent, if there is one
-abbrev pub asked_lent : {A : Type 0} → Option (Bor (Question A)) → Option Asked
-asked_lent None = None
-asked_lent (Some q) = Some (asked q.now)
+abbrev pub question_data_lent : {A : Type 0} → Option (Bor (Question A)) → Option QuestionData
+question_data_lent None = None
+question_data_lent (Some q) = Some (question_data q.now)
 
 -- the question q stands at p, and ends before e
-pub record IsQuestion (m : List ℕ) (p : ℕ) (q : Asked) (e : ℕ) : Type 0 where
+pub record IsQuestion (m : List ℕ) (p : ℕ) (q : QuestionData) (e : ℕ) : Type 0 where
   pub labels : List (List ℕ)
   pub past : ℕ
   pub stands : NameAt m p p labels past
@@ -54,6 +54,6 @@ QuestionFails m p f = NameFails m p f
     × (f ≡ Truncated))
 
 -- what every question of a program meets: its spelling in lower case is its name in full
-pub record IsAsked (q : Asked) : Type 0 where
+pub record IsQuestionData (q : QuestionData) : Type 0 where
   pub spelled : lower q.spelled ≡ wire q.name
   pub named : IsName q.name

@@ -12,22 +12,29 @@ use Rattle.fleet_wire.specs.declared.record.Record.{Record}
 use Rattle.fleet_wire.specs.declared.record.SpelledRecord.{SpelledRecord}
 
 -- a record: its owner as labels, the TTL as it was read, and its RDATA
-pub record Told : Type 0 where
+pub record RecordData : Type 0 where
   pub name : List (List ℕ)
   pub rtype : ℕ
   pub class : ℕ
   pub ttl : ℕ
   pub rdata : List ℕ
 
-abbrev pub told : {A : Type 0} → Record A → Told
-told r = record { name = r.name; rtype = r.rtype; class = r.class; ttl = r.ttl; rdata = r.rdata }
+abbrev pub record_data : {A : Type 0} → Record A → RecordData
+record_data r = record {
+  name = r.name;
+  rtype = r.rtype;
+  class = r.class;
+  ttl = r.ttl;
+  rdata =
+      r.rdata;
+}
 
-abbrev pub all_told : {A : Type 0} → List (Record A) → List Told
-all_told rs = map told rs
+abbrev pub all_record_data : {A : Type 0} → List (Record A) → List RecordData
+all_record_data rs = map record_data rs
 
 -- a record that has taken no memory yet
-abbrev pub told_spelled : SpelledRecord → Told
-told_spelled r = record {
+abbrev pub spelled_record_data : SpelledRecord → RecordData
+spelled_record_data r = record {
   name = lower_all (labels_of r.owner.octets.items);
   rtype = r.rtype;
   class = r.class;
@@ -37,7 +44,7 @@ told_spelled r = record {
 
 -- the record r stands at p, and ends before e: a name, ten octets, and the RDATA that the last two
 -- of them count
-pub record RecordAt (m : List ℕ) (p : ℕ) (r : Told) (e : ℕ) : Type 0 where
+pub record RecordAt (m : List ℕ) (p : ℕ) (r : RecordData) (e : ℕ) : Type 0 where
   pub past : ℕ
   pub name : ReadsName m p r.name past
   pub room : past + 10 + u16_at m (past + 8) ≤ length m
@@ -63,20 +70,20 @@ RecordFails m p f = NameFails m p f
     ⊎ ((n : List (List ℕ)) × (past : ℕ) × ReadsName m p n past × FixedFails m past f)
 
 -- the records stand at p in a row, and end before e
-abbrev pub RecordsAt : List ℕ → ℕ → List Told → ℕ → Type 0
+abbrev pub RecordsAt : List ℕ → ℕ → List RecordData → ℕ → Type 0
 RecordsAt m p [] e = e ≡ p
 RecordsAt m p (r ∷ rs) e = (past : ℕ) × RecordAt m p r past × RecordsAt m past rs e
 
 -- so many records stand at p in a row
 abbrev pub HasRecords : List ℕ → ℕ → ℕ → Type 0
-HasRecords m p count = (rs : List Told) × (e : ℕ) × RecordsAt m p rs e × (length rs ≡ count)
+HasRecords m p count = (rs : List RecordData) × (e : ℕ) × RecordsAt m p rs e × (length rs ≡ count)
 
 -- the first fault of so many records at p: behind fewer of them stands none
 abbrev pub RecordsFail : List ℕ → ℕ → ℕ → ReadFault → Type 0
-RecordsFail m p count f = (rs : List Told) × (past : ℕ) × RecordsAt m p rs past
+RecordsFail m p count f = (rs : List RecordData) × (past : ℕ) × RecordsAt m p rs past
     × (length rs < count) × RecordFails m past f
 
 -- a record whose RDATA has no pointer: its names in full and in lower case
-pub record IsPlainRecord (r : Told) : Type 0 where
+pub record IsPlainRecord (r : RecordData) : Type 0 where
   pub name : IsName r.name
   pub rdata : IsPlain r.rtype r.rdata

@@ -2,10 +2,12 @@
 -- 1035 3.3, RFC 2782).
 use Rattle.std.specs.Prelude.{◌≡◌, ◌≢◌, ℕ, ◌+◌, ◌<◌, ◌≤◌, ◌⊎◌, List, [], ◌∷◌, ◌++◌, length, take, drop, Option, Some, None, if◌then◌else◌, nat_eq, ◌||◌}
 use Rattle.fleet_name.specs.Name.{wire, IsName}
+use Rattle.fleet_name.specs.declared.bounds.TheConstants.{LONGEST_NAME}
 use Rattle.fleet_wire.specs.NameAt.{ReadsName}
 use Rattle.fleet_wire.specs.Fault.{NameFails}
 use Rattle.fleet_wire.specs.declared.fault.ReadFault.{ReadFault}
 use Rattle.fleet_wire.specs.declared.fault.ReadFault.TheVariants.{Truncated, BadRdata}
+use Rattle.fleet_wire.specs.declared.rtype.TheConstants.{NS, MD, MF, CNAME, SOA, MB, MG, MR, PTR, MINFO, MX, SRV}
 use Rattle.fleet_wire.specs.declared.shape.Part.{Part}
 use Rattle.fleet_wire.specs.declared.shape.Part.TheVariants.{Plain, Name}
 
@@ -14,12 +16,12 @@ use Rattle.fleet_wire.specs.declared.shape.Part.TheVariants.{Plain, Name}
 -- and a name, SRV three of them and a name. The RDATA of any other type is plain octets.
 abbrev pub shape_of : ℕ → Option (List Part)
 shape_of t =
-    if nat_eq t 2 || nat_eq t 3 || nat_eq t 4 || nat_eq t 5 || nat_eq t 7 || nat_eq t 8
-    || nat_eq t 9 || nat_eq t 12 then Some (Name ∷ []) else
-    if nat_eq t 6 then Some (Name ∷ Name ∷ Plain 20 ∷ []) else
-    if nat_eq t 14 then Some (Name ∷ Name ∷ []) else
-    if nat_eq t 15 then Some (Plain 2 ∷ Name ∷ []) else
-    if nat_eq t 33 then Some (Plain 6 ∷ Name ∷ []) else None
+    if nat_eq t NS || nat_eq t MD || nat_eq t MF || nat_eq t CNAME || nat_eq t MB || nat_eq t MG
+    || nat_eq t MR || nat_eq t PTR then Some (Name ∷ []) else
+    if nat_eq t SOA then Some (Name ∷ Name ∷ Plain 20 ∷ []) else
+    if nat_eq t MINFO then Some (Name ∷ Name ∷ []) else
+    if nat_eq t MX then Some (Plain 2 ∷ Name ∷ []) else
+    if nat_eq t SRV then Some (Plain 6 ∷ Name ∷ []) else None
 
 -- the parts stand at p one after the other, as these octets with each name in full, and end before
 -- e
@@ -43,7 +45,7 @@ PartsFail m (Name ∷ parts) p f = NameFails m p f
 abbrev pub room_of : List Part → ℕ
 room_of [] = 0
 room_of (Plain n ∷ parts) = n + room_of parts
-room_of (Name ∷ parts) = 255 + room_of parts
+room_of (Name ∷ parts) = LONGEST_NAME + room_of parts
 
 -- k octets of RDATA at p, read by their shape
 abbrev pub ShapeAt : List ℕ → ℕ → ℕ → Option (List Part) → List ℕ → Type 0

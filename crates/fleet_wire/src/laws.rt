@@ -3,10 +3,10 @@
 ghost use Rattle.std.specs.Prelude.{◌≡◌, ℕ, List, length};
 ghost use Rattle.fleet_name.specs.Name.{IsName};
 ghost use Rattle.fleet_wire.specs.NameAt.{ReadsName};
-ghost use Rattle.fleet_wire.specs.Question.{Asked};
-ghost use Rattle.fleet_wire.specs.Message.{IsQuery, QueryFails, Reply, IsReply, ReplyFails};
-ghost use Rattle.fleet_wire.specs.Outline.{Sketch, IsSketch, IsWhole, octets_of_outline, reply_sketched};
-ghost use Rattle.fleet_wire.specs.Query.{lowered, query_octets, query_header};
+ghost use Rattle.fleet_wire.specs.Question.{QuestionData};
+ghost use Rattle.fleet_wire.specs.Message.{IsQuery, QueryFails, MessageData, IsReply, ReplyFails};
+ghost use Rattle.fleet_wire.specs.Outline.{OutlineData, IsOutlineData, IsWhole, octets_of_outline, message_of_outline};
+ghost use Rattle.fleet_wire.specs.Query.{lowercase_question, query_octets, query_header};
 ghost use Rattle.fleet_wire.specs.declared.header.Header.{Header};
 ghost use Rattle.fleet_wire.specs.declared.fault.ReadFault.{ReadFault};
 
@@ -18,24 +18,25 @@ pub fn one_name()
 
 /// A message is one query at most.
 pub fn one_query()
-    ensures { (m : List ℕ) (h k : Header) (a b : Asked) (x y : ℕ) → IsQuery m h a x
+    ensures { (m : List ℕ) (h k : Header) (a b : QuestionData) (x y : ℕ) → IsQuery m h a x
         → IsQuery m k b y → (h ≡ k) × (a ≡ b) × (x ≡ y) }
 {}
 
 /// A message is one reply at most.
 pub fn one_reply()
-    ensures { (m : List ℕ) (a b : Reply) → IsReply m a → IsReply m b → a ≡ b }
+    ensures { (m : List ℕ) (a b : MessageData) → IsReply m a → IsReply m b → a ≡ b }
 {}
 
 /// What is a query has no fault.
 pub fn query_or_fault()
-    ensures { (m : List ℕ) (h : Header) (q : Asked) (past : ℕ) (f : ReadFault) → IsQuery m h q past
+    ensures { (m : List ℕ) (h : Header) (q : QuestionData) (past : ℕ) (f : ReadFault)
+        → IsQuery m h q past
         → QueryFails m f → ⊥ }
 {}
 
 /// What is a reply has no fault.
 pub fn reply_or_fault()
-    ensures { (m : List ℕ) (r : Reply) (f : ReadFault) → IsReply m r → ReplyFails m f → ⊥ }
+    ensures { (m : List ℕ) (r : MessageData) (f : ReadFault) → IsReply m r → ReplyFails m f → ⊥ }
 {}
 
 /// A message has one first fault as a query at most.
@@ -51,12 +52,13 @@ pub fn one_reply_fault()
 /// The octets of an outline with a question, plain RDATA and TC clear are read as its lines, if all
 /// of it fits a message.
 pub fn reply_reads_back()
-    ensures { (o : Sketch) (q : Asked) → IsSketch o → IsWhole o q
-        → IsReply (octets_of_outline o) (reply_sketched o q) }
+    ensures { (o : OutlineData) (q : QuestionData) → IsOutlineData o → IsWhole o q
+        → IsReply (octets_of_outline o) (message_of_outline o q) }
 {}
 
 /// A query is read again, with its name in lower case.
 pub fn query_reads_back()
-    ensures { (id : ℕ) (q : Asked) → IsName q.name
-        → IsQuery (query_octets id q) (query_header id) (lowered q) (length (query_octets id q)) }
+    ensures { (id : ℕ) (q : QuestionData) → IsName q.name
+        → IsQuery (query_octets id q) (query_header id) (lowercase_question q)
+        (length (query_octets id q)) }
 {}

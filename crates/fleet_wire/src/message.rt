@@ -1,8 +1,8 @@
 //! Replies that were read.
 
 ghost use Rattle.std.specs.Prelude.{◌≡◌};
-ghost use Rattle.fleet_wire.specs.Question.{asked};
-ghost use Rattle.fleet_wire.specs.Record.{all_told};
+ghost use Rattle.fleet_wire.specs.Question.{question_data};
+ghost use Rattle.fleet_wire.specs.Record.{all_record_data};
 ghost use Rattle.fleet_wire.specs.Message.{IsRead, reply_with};
 
 use crate::header::Header;
@@ -22,17 +22,18 @@ pub struct Message<A: Allocator = Global> {
 }
 
 impl<A: Allocator> Model for Message<A> {
-    ghost use Rattle.fleet_wire.specs.Question.{asked};
-    ghost use Rattle.fleet_wire.specs.Record.{all_told};
-    ghost use Rattle.fleet_wire.specs.Message.{Reply, IsRead, reply_with};
+    ghost use Rattle.fleet_wire.specs.Question.{question_data};
+    ghost use Rattle.fleet_wire.specs.Record.{all_record_data};
+    ghost use Rattle.fleet_wire.specs.Message.{MessageData, IsRead, reply_with};
 
-    ghost Value = { Reply };
+    ghost Value = { MessageData };
 
-    ghost view = { λ m. reply_with m.header (asked m.question) (all_told m.answer.items)
-        (all_told m.authority.items) };
+    ghost view = { λ m. reply_with m.header (question_data m.question)
+        (all_record_data m.answer.items)
+        (all_record_data m.authority.items) };
 
-    ghost invariant = { λ m. IsRead (reply_with m.header (asked m.question)
-        (all_told m.answer.items) (all_told m.authority.items)) };
+    ghost invariant = { λ m. IsRead (reply_with m.header (question_data m.question)
+        (all_record_data m.answer.items) (all_record_data m.authority.items)) };
 }
 
 impl<A: Allocator> Message<A> {
@@ -43,11 +44,11 @@ impl<A: Allocator> Message<A> {
         answer: Vec<Record<A>, A>,
         authority: Vec<Record<A>, A>,
     ) -> Message<A>
-        requires { IsRead (reply_with header (asked question) (all_told answer.items)
-            (all_told authority.items)) }
+        requires { IsRead (reply_with header (question_data question) (all_record_data answer.items)
+            (all_record_data authority.items)) }
         ensures { result
-            ≡ reply_with header (asked question) (all_told answer.items)
-            (all_told authority.items) }
+            ≡ reply_with header (question_data question) (all_record_data answer.items)
+            (all_record_data authority.items) }
     {
         Message {
             header,
@@ -67,7 +68,7 @@ impl<A: Allocator> Message<A> {
 
     /// The question.
     pub fn question(&self) -> &Question<A>
-        ensures question { asked result.now ≡ self.now.question }
+        ensures question { question_data result.now ≡ self.now.question }
         ensures read { IsRead self.now }
     {
         &self.question
@@ -75,7 +76,7 @@ impl<A: Allocator> Message<A> {
 
     /// The records of the answer section, in their order.
     pub fn answer(&self) -> &[Record<A>]
-        ensures answer { all_told result.now ≡ self.now.answer }
+        ensures answer { all_record_data result.now ≡ self.now.answer }
         ensures read { IsRead self.now }
     {
         &self.answer
@@ -83,7 +84,7 @@ impl<A: Allocator> Message<A> {
 
     /// The records of the authority section, in their order.
     pub fn authority(&self) -> &[Record<A>]
-        ensures authority { all_told result.now ≡ self.now.authority }
+        ensures authority { all_record_data result.now ≡ self.now.authority }
         ensures read { IsRead self.now }
     {
         &self.authority

@@ -1,7 +1,8 @@
 //! Reading a name (RFC 1035 3.1, 4.1.4).
 
 ghost use Rattle.std.specs.Prelude.{◌≡◌, ℕ, ◌+◌, ◌-◌, ◌<◌, ◌≤◌, List, ◌++◌, length, slice_index, IfOk, IfErr, MatchResult};
-ghost use Rattle.fleet_name.specs.Name.{frame, lower_all, labels_of, IsSpelling};
+ghost use Rattle.fleet_name.specs.Name.{label_octets, lower_all, labels_of, IsSpelling};
+ghost use Rattle.fleet_name.specs.declared.bounds.TheConstants.{LONGEST_NAME};
 ghost use Rattle.fleet_wire.specs.NameAt.{NameAt};
 ghost use Rattle.fleet_wire.specs.Fault.{FaultAt, NameFails};
 ghost use Rattle.fleet_wire.specs.Step.{IsStep};
@@ -9,6 +10,7 @@ ghost use Rattle.fleet_wire.specs.Step.{IsStep};
 use crate::fault::ReadFault;
 use arrayvec::ArrayVec;
 use fleet_name::Name;
+use fleet_name::bounds::LONGEST_NAME;
 use std::alloc::{AllocError, Allocator};
 
 /// What stands at a place where a label may begin.
@@ -37,7 +39,7 @@ pub(crate) fn step_at(
     start: usize,
     used: usize,
 ) -> Result<Step<'_>, ReadFault>
-    requires { used ≤ 255 }
+    requires { used ≤ LONGEST_NAME }
     ensures { MatchResult result (IsStep message.now at start used)
         (FaultAt message.now at start used) }
 {
@@ -70,11 +72,11 @@ fn label_at(message: &[u8], at: usize, count: usize, used: usize) -> Result<Step
     requires counted { slice_index message.now at ≡ count }
     requires some { 0 < count }
     requires short { count < 64 }
-    requires used { used ≤ 255 }
+    requires used { used ≤ LONGEST_NAME }
     ensures { (s : ℕ)
         → MatchResult result (IsStep message.now at s used) (FaultAt message.now at s used) }
 {
-    if used + count + 1 > 255 {
+    if used + count + 1 > LONGEST_NAME {
         return Err(ReadFault::LongName);
     }
     let (_, rest) = message.split_at(at + 1);
@@ -88,15 +90,15 @@ fn label_at(message: &[u8], at: usize, count: usize, used: usize) -> Result<Step
 /// Adds a label in its own case.
 fn append_label(octets: &mut ArrayVec<u8, 255>, label: &[u8])
     requires short { length label.now < 64 }
-    requires room { length octets.old.items + length label.now < 255 }
-    ensures { octets.new.items ≡ octets.old.items ++ frame label.now }
+    requires room { length octets.old.items + length label.now < LONGEST_NAME }
+    ensures { octets.new.items ≡ octets.old.items ++ label_octets label.now }
 {
     octets.push(label.len() as u8);
     let _ = octets.try_extend_from_slice(label);
 }
 
 /// The name at a place of a message.
-pub(crate) fn spelled_at(message: &[u8], offset: usize) -> Result<Spelled, ReadFault>
+pub(crate) fn spelling_at(message: &[u8], offset: usize) -> Result<Spelled, ReadFault>
     ensures found { IfOk result (λ r.
         NameAt message.now offset offset (labels_of r.octets.items) r.end) }
     ensures spelled { IfOk result (λ r. IsSpelling r.octets.items) }

@@ -1,6 +1,6 @@
 //! Whether RDATA is plain: each name in full and in lower case.
 
-ghost use Rattle.std.specs.Prelude.{◌≡◌, ℕ, List, ◌++◌, ◌↔◌, IsTrue, IsFalse, MatchOption};
+ghost use Rattle.std.specs.Prelude.{◌≡◌, ℕ, List, ◌++◌, ◌↔◌, IsTrue, MatchOption};
 ghost use Rattle.fleet_name.specs.Name.{wire, IsName};
 ghost use Rattle.fleet_wire.specs.Shape.{ArePlain, IsPlain};
 
@@ -35,8 +35,7 @@ fn after_name(octets: &[u8]) -> Option<&[u8]>
 
 /// Whether the octets are those of the parts, and no more.
 fn are_plain(parts: &[Part], octets: &[u8]) -> bool
-    ensures yes { IsTrue result → ArePlain parts.now octets.now }
-    ensures no { IsFalse result → ArePlain parts.now octets.now → ⊥ }
+    ensures { IsTrue result ↔ ArePlain parts.now octets.now }
 {
     let mut rest = octets;
     for part in parts {

@@ -1,17 +1,18 @@
 //! Queries: the header and the question of a message (RFC 1035 4.1.1, 4.1.2).
 
 ghost use Rattle.std.specs.Prelude.{◌≡◌, ℕ, ◌+◌, ◌≤◌, ◌++◌, length, IfOk, OnOk, IfErr, MatchResult};
+ghost use Rattle.fleet_name.specs.Fault.{OrMemory};
 ghost use Rattle.fleet_name.specs.Name.{labels_of, IsSpelling};
-ghost use Rattle.fleet_wire.specs.Question.{Asked, asked, asked_spelled, IsQuestion, QuestionFails};
-ghost use Rattle.fleet_wire.specs.Fault.{OrMemory};
+ghost use Rattle.fleet_wire.specs.Question.{QuestionData, question_data, spelled_question_data, IsQuestion, QuestionFails};
 ghost use Rattle.fleet_wire.specs.Message.{header_of, IsHeader, HasOneQuestion, HeaderFails, IsQuery, QueryFails, HasQuery};
-ghost use Rattle.fleet_wire.specs.Query.{query_head, query_octets, query_header, lowered};
+ghost use Rattle.fleet_wire.specs.Query.{query_head, query_octets, query_header, lowercase_question};
 ghost use Rattle.fleet_wire.specs.declared.header.Header.{Header};
 ghost use Rattle.fleet_wire.specs.declared.fault.ReadFault.TheVariants.{OutOfMemory};
 
+use crate::bounds::LONGEST_MESSAGE;
 use crate::fault::ReadFault;
 use crate::header::{Header, header_at};
-use crate::name_reader::{Spelled, name_of, spelled_at};
+use crate::name_reader::{Spelled, name_of, spelling_at};
 use crate::number::{push_short, short_at};
 use crate::question::Question;
 use fleet_name::Octets;
@@ -25,7 +26,7 @@ pub(crate) fn counted_header(message: &[u8]) -> Result<Header, ReadFault>
     if message.len() < 12 {
         return Err(ReadFault::TooShort);
     }
-    if message.len() > 512 {
+    if message.len() > LONGEST_MESSAGE {
         return Err(ReadFault::TooLong);
     }
     let header = header_at(message);
@@ -47,12 +48,13 @@ pub(crate) struct SpelledQuestion {
 
 /// The question at a place of a message.
 pub(crate) fn question_at(message: &[u8], offset: usize) -> Result<SpelledQuestion, ReadFault>
-    ensures found { IfOk result (λ q. IsQuestion message.now offset (asked_spelled q) q.end) }
+    ensures found { IfOk result (λ q. IsQuestion message.now offset (spelled_question_data q)
+        q.end) }
     ensures spelled { IfOk result (λ q. IsSpelling q.name.octets.items) }
     ensures counted { IfOk result (λ q. q.name.labels ≡ length (labels_of q.name.octets.items)) }
     ensures fault { IfErr result (λ f. QuestionFails message.now offset f) }
 {
-    let name = spelled_at(message, offset)?;
+    let name = spelling_at(message, offset)?;
     let past = name.end;
     if message.len() - past < 4 {
         return Err(ReadFault::Truncated);
@@ -72,7 +74,7 @@ pub(crate) fn question_of<A: Allocator + Copy>(
 ) -> Result<Question<A>, AllocError>
     requires spelled { IsSpelling spelled.now.name.octets.items }
     requires counted { spelled.now.name.labels ≡ length (labels_of spelled.now.name.octets.items) }
-    ensures { IfOk result (λ q. asked q ≡ asked_spelled spelled.now) }
+    ensures { IfOk result (λ q. question_data q ≡ spelled_question_data spelled.now) }
 {
     let name = name_of(alloc, &spelled.name)?;
     let octets = Octets::copy_of(alloc, spelled.name.octets.as_slice())?;
@@ -94,10 +96,11 @@ pub fn read_query<A: Allocator + Copy>(
     alloc: A,
     message: &[u8],
 ) -> Result<(Header, Question<A>), ReadFault>
-    ensures found { IfOk result (λ r. (past : ℕ) × IsQuery message.now r.0 (asked r.1) past) }
+    ensures found { IfOk result (λ r. (past : ℕ)
+        × IsQuery message.now r.0 (question_data r.1) past) }
     ensures lawful { IfOk result (λ r. IsHeader r.0) }
-    ensures fault { IfErr result (λ f. OrMemory f (QueryFails message.now f)) }
-    ensures only { (h : Header) (q : Asked) (past : ℕ) → IsQuery message.now h q past
+    ensures fault { IfErr result (λ f. OrMemory OutOfMemory f (QueryFails message.now f)) }
+    ensures only { (h : Header) (q : QuestionData) (past : ℕ) → IsQuery message.now h q past
         → IfErr result (λ f. f ≡ OutOfMemory) }
     ensures memory { IfErr result (λ f. f ≡ OutOfMemory → HasQuery message.now) }
 {
@@ -126,10 +129,11 @@ pub fn write_query<A: Allocator, B: Allocator>(
     id: u16,
     question: &Question<B>,
 ) -> Result<Vec<u8, A>, AllocError>
-    ensures octets { IfOk result (λ v. v.items ≡ query_octets id (asked question.now)) }
+    ensures octets { IfOk result (λ v. v.items ≡ query_octets id (question_data question.now)) }
     // It is read again.
     ensures reads_back { IfOk result (λ v.
-        IsQuery v.items (query_header id) (lowered (asked question.now)) (length v.items)) }
+        IsQuery v.items (query_header id) (lowercase_question (question_data question.now))
+        (length v.items)) }
 {
     let name = question.name.octets();
     let mut octets = Vec::new(alloc);

@@ -23,13 +23,13 @@ pub struct Question<A: Allocator = Global> {
 
 impl<A: Allocator> Question<A> {
     ghost use Rattle.std.specs.Prelude.{◌≡◌, IfOk};
-    ghost use Rattle.fleet_wire.specs.Question.{asked};
+    ghost use Rattle.fleet_wire.specs.Question.{question_data};
 
     /// A copy of the question, or `Err` where there is no memory for it.
     pub fn try_clone(&self) -> Result<Question<A>, AllocError>
     where
         A: Copy,
-        ensures { IfOk result (λ q. asked q ≡ asked self.now) }
+        ensures { IfOk result (λ q. question_data q ≡ question_data self.now) }
     {
         let spelled = self.spelled.try_clone()?;
         let name = self.name.try_clone()?;

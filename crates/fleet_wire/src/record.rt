@@ -2,10 +2,11 @@
 
 ghost use Rattle.std.specs.Prelude.{◌≡◌, ℕ, ◌≤◌, List, length, IfOk, IfErr};
 ghost use Rattle.fleet_name.specs.Name.{labels_of, IsSpelling};
-ghost use Rattle.fleet_wire.specs.Record.{Told, told, told_spelled, all_told, RecordAt, RecordFails, RecordsAt, HasRecords, RecordsFail};
+ghost use Rattle.fleet_wire.specs.Record.{RecordData, record_data, spelled_record_data, all_record_data, RecordAt, RecordFails, RecordsAt, HasRecords, RecordsFail};
+ghost use Rattle.fleet_wire.specs.declared.bounds.TheConstants.{LONGEST_MESSAGE};
 
 use crate::fault::ReadFault;
-use crate::name_reader::{Spelled, name_of, spelled_at};
+use crate::name_reader::{Spelled, name_of, spelling_at};
 use crate::number::{long_at, short_at};
 use crate::shape::{Rdata, rdata_at};
 use fleet_name::{Name, Octets};
@@ -40,13 +41,13 @@ pub(crate) struct SpelledRecord {
 
 /// The record at a place of a message.
 fn record_at(message: &[u8], offset: usize) -> Result<SpelledRecord, ReadFault>
-    requires short { length message.now ≤ 512 }
-    ensures found { IfOk result (λ r. RecordAt message.now offset (told_spelled r) r.end) }
+    requires short { length message.now ≤ LONGEST_MESSAGE }
+    ensures found { IfOk result (λ r. RecordAt message.now offset (spelled_record_data r) r.end) }
     ensures spelled { IfOk result (λ r. IsSpelling r.owner.octets.items) }
     ensures counted { IfOk result (λ r. r.owner.labels ≡ length (labels_of r.owner.octets.items)) }
     ensures fault { IfErr result (λ f. RecordFails message.now offset f) }
 {
-    let owner = spelled_at(message, offset)?;
+    let owner = spelling_at(message, offset)?;
     let past = owner.end;
     if message.len() - past < 10 {
         return Err(ReadFault::Truncated);
@@ -69,9 +70,9 @@ fn record_at(message: &[u8], offset: usize) -> Result<SpelledRecord, ReadFault>
 
 /// Where so many records in a row end that stand at a place of a message.
 pub(crate) fn records_end(message: &[u8], offset: usize, count: u16) -> Result<usize, ReadFault>
-    requires short { length message.now ≤ 512 }
+    requires short { length message.now ≤ LONGEST_MESSAGE }
     ensures found { IfOk result (λ e.
-        (rs : List Told) × RecordsAt message.now offset rs e × (length rs ≡ count)) }
+        (rs : List RecordData) × RecordsAt message.now offset rs e × (length rs ≡ count)) }
     ensures fault { IfErr result (λ f. RecordsFail message.now offset count f) }
 {
     let mut at = offset;
@@ -89,7 +90,7 @@ fn record_of<A: Allocator + Copy>(
     requires spelled { IsSpelling spelled.now.owner.octets.items }
     requires counted { spelled.now.owner.labels
         ≡ length (labels_of spelled.now.owner.octets.items) }
-    ensures { IfOk result (λ r. told r ≡ told_spelled spelled.now) }
+    ensures { IfOk result (λ r. record_data r ≡ spelled_record_data spelled.now) }
 {
     let name = name_of(alloc, &spelled.owner)?;
     let rdata = Octets::copy_of(alloc, spelled.rdata.as_slice())?;
@@ -109,10 +110,11 @@ pub(crate) fn records_of<A: Allocator + Copy>(
     offset: usize,
     count: u16,
 ) -> Result<(Vec<Record<A>, A>, usize), AllocError>
-    requires short { length message.now ≤ 512 }
+    requires short { length message.now ≤ LONGEST_MESSAGE }
     requires stand { HasRecords message.now offset count }
-    ensures found { IfOk result (λ r. RecordsAt message.now offset (all_told r.0.items) r.1) }
-    ensures counted { IfOk result (λ r. length (all_told r.0.items) ≡ count) }
+    ensures found { IfOk result (λ r. RecordsAt message.now offset (all_record_data r.0.items)
+        r.1) }
+    ensures counted { IfOk result (λ r. length (all_record_data r.0.items) ≡ count) }
 {
     let mut records = Vec::new(alloc);
     let mut at = offset;

@@ -1,10 +1,10 @@
 //! Reading a reply (RFC 1035 4.1).
 
 ghost use Rattle.std.specs.Prelude.{◌≡◌, length, IfOk, IfErr};
+ghost use Rattle.fleet_name.specs.Fault.{OrMemory};
 ghost use Rattle.fleet_name.specs.Name.{labels_of, IsSpelling};
-ghost use Rattle.fleet_wire.specs.Question.{asked_spelled};
-ghost use Rattle.fleet_wire.specs.Fault.{OrMemory};
-ghost use Rattle.fleet_wire.specs.Message.{IsQuery, Reply, IsReply, HasReply, ReplyFails};
+ghost use Rattle.fleet_wire.specs.Question.{spelled_question_data};
+ghost use Rattle.fleet_wire.specs.Message.{IsQuery, MessageData, IsReply, HasReply, ReplyFails};
 ghost use Rattle.fleet_wire.specs.declared.fault.ReadFault.TheVariants.{OutOfMemory};
 
 use crate::fault::ReadFault;
@@ -17,7 +17,7 @@ use std::alloc::{AllocError, Allocator};
 /// The header and the question of a message that is a reply. Its records are read too, and not
 /// kept.
 fn reply_head(message: &[u8]) -> Result<(Header, SpelledQuestion), ReadFault>
-    ensures query { IfOk result (λ r. IsQuery message.now r.0 (asked_spelled r.1) r.1.end) }
+    ensures query { IfOk result (λ r. IsQuery message.now r.0 (spelled_question_data r.1) r.1.end) }
     ensures whole { IfOk result (λ _. HasReply message.now) }
     ensures spelled { IfOk result (λ r. IsSpelling r.1.name.octets.items) }
     ensures counted { IfOk result (λ r.
@@ -41,7 +41,8 @@ fn message_of<A: Allocator + Copy>(
     header: Header,
     spelled: &SpelledQuestion,
 ) -> Result<Message<A>, AllocError>
-    requires query { IsQuery message.now header (asked_spelled spelled.now) spelled.now.end }
+    requires query { IsQuery message.now header (spelled_question_data spelled.now)
+        spelled.now.end }
     requires whole { HasReply message.now }
     requires spelled { IsSpelling spelled.now.name.octets.items }
     requires counted { spelled.now.name.labels ≡ length (labels_of spelled.now.name.octets.items) }
@@ -68,8 +69,8 @@ fn message_of<A: Allocator + Copy>(
 /// `OutOfMemory` is told only where there is none of these.
 pub fn read_reply<A: Allocator + Copy>(alloc: A, message: &[u8]) -> Result<Message<A>, ReadFault>
     ensures found { IfOk result (λ r. IsReply message.now r) }
-    ensures fault { IfErr result (λ f. OrMemory f (ReplyFails message.now f)) }
-    ensures only { (r : Reply) → IsReply message.now r → IfErr result (λ f. f ≡ OutOfMemory) }
+    ensures fault { IfErr result (λ f. OrMemory OutOfMemory f (ReplyFails message.now f)) }
+    ensures only { (r : MessageData) → IsReply message.now r → IfErr result (λ f. f ≡ OutOfMemory) }
     ensures memory { IfErr result (λ f. f ≡ OutOfMemory → HasReply message.now) }
 {
     let (header, spelled) = reply_head(message)?;

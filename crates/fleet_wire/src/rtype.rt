@@ -1,25 +1,37 @@
 //! The types of records with names in their RDATA (RFC 1035 3.2.2, RFC 2782).
 
-pub(crate) const NS: u16 = 2;
+/// An authoritative name server of the owner (RFC 1035 3.3.11).
+pub const NS: u16 = 2;
 
-pub(crate) const MD: u16 = 3;
+/// A mail destination, obsolete (RFC 1035 3.3.4).
+pub const MD: u16 = 3;
 
-pub(crate) const MF: u16 = 4;
+/// A mail forwarder, obsolete (RFC 1035 3.3.5).
+pub const MF: u16 = 4;
 
-pub(crate) const CNAME: u16 = 5;
+/// The canonical name that the owner is an alias of (RFC 1035 3.3.1).
+pub const CNAME: u16 = 5;
 
-pub(crate) const SOA: u16 = 6;
+/// The start of a zone of authority (RFC 1035 3.3.13).
+pub const SOA: u16 = 6;
 
-pub(crate) const MB: u16 = 7;
+/// A host with a mailbox, experimental (RFC 1035 3.3.3).
+pub const MB: u16 = 7;
 
-pub(crate) const MG: u16 = 8;
+/// A member of a mail group, experimental (RFC 1035 3.3.6).
+pub const MG: u16 = 8;
 
-pub(crate) const MR: u16 = 9;
+/// A new name of a mailbox, experimental (RFC 1035 3.3.8).
+pub const MR: u16 = 9;
 
-pub(crate) const PTR: u16 = 12;
+/// A pointer to another name (RFC 1035 3.3.12).
+pub const PTR: u16 = 12;
 
-pub(crate) const MINFO: u16 = 14;
+/// Who answers for a mailbox, experimental (RFC 1035 3.3.7).
+pub const MINFO: u16 = 14;
 
-pub(crate) const MX: u16 = 15;
+/// A host that takes mail for the owner (RFC 1035 3.3.9).
+pub const MX: u16 = 15;
 
-pub(crate) const SRV: u16 = 33;
+/// A host with a service of the owner (RFC 2782).
+pub const SRV: u16 = 33;

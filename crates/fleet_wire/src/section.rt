@@ -3,7 +3,8 @@
 ghost use Rattle.std.specs.Prelude.{◌≡◌, ◌≤◌, [], ◌∷◌, ◌++◌, length, OnOk, OnErr};
 ghost use Rattle.fleet_name.specs.Name.{IsName};
 ghost use Rattle.fleet_wire.specs.Outline.{line};
-ghost use Rattle.fleet_wire.specs.Line.{told_line, told_lines};
+ghost use Rattle.fleet_wire.specs.Line.{record_of_line, records_of_lines};
+ghost use Rattle.fleet_wire.specs.declared.bounds.TheConstants.{LONGEST_MESSAGE};
 
 use crate::line::Line;
 use arrayvec::ArrayVec;
@@ -21,12 +22,12 @@ pub(crate) struct Section<'a, A: Allocator> {
 
 impl<'a, A: Allocator> Model for Section<'a, A> {
     ghost use Rattle.std.specs.Prelude.{List, ◌++◌};
-    ghost use Rattle.fleet_wire.specs.Record.{Told};
-    ghost use Rattle.fleet_wire.specs.Line.{told_lines};
+    ghost use Rattle.fleet_wire.specs.Record.{RecordData};
+    ghost use Rattle.fleet_wire.specs.Line.{records_of_lines};
 
-    ghost Value = { List Told };
+    ghost Value = { List RecordData };
 
-    ghost view = { λ s. told_lines s.first.items ++ told_lines s.more.items };
+    ghost view = { λ s. records_of_lines s.first.items ++ records_of_lines s.more.items };
 }
 
 impl<'a, A: Allocator> Section<'a, A> {
@@ -42,7 +43,7 @@ impl<'a, A: Allocator> Section<'a, A> {
 
     /// Adds a line at the end, or leaves the section as it was where there is no memory for it.
     pub(crate) fn push(&mut self, line: Line<'a>) -> Result<(), AllocError>
-        ensures ok { OnOk result (self.new ≡ self.old ++ told_line line.entry ∷ []) }
+        ensures ok { OnOk result (self.new ≡ self.old ++ record_of_line line.entry ∷ []) }
         ensures err { OnErr result (self.new ≡ self.old) }
     {
         if self.more.is_empty() && !self.first.is_full() {
@@ -55,7 +56,7 @@ impl<'a, A: Allocator> Section<'a, A> {
 
     /// How many lines there are.
     pub(crate) fn len(&self) -> usize
-        requires { length self.now ≤ 512 }
+        requires { length self.now ≤ LONGEST_MESSAGE }
         ensures { result ≡ length self.now }
     {
         self.first.len() + self.more.len()
@@ -63,7 +64,7 @@ impl<'a, A: Allocator> Section<'a, A> {
 
     /// The lines in the value itself, and the others.
     pub(crate) fn parts(&self) -> (&[Line], &[Line])
-        ensures { told_lines result.0.now ++ told_lines result.1.now ≡ self.now }
+        ensures { records_of_lines result.0.now ++ records_of_lines result.1.now ≡ self.now }
     {
         (self.first.as_slice(), &self.more)
     }
@@ -76,7 +77,7 @@ pub(crate) fn line_of<'a, A: Allocator>(
     ttl: u32,
     rdata: &'a [u8],
 ) -> Line<'a>
-    ensures line { told_line result ≡ line name.entry.now rtype ttl rdata.entry.now }
+    ensures line { record_of_line result ≡ line name.entry.now rtype ttl rdata.entry.now }
     ensures named { IsName name.entry.now }
 {
     Line {

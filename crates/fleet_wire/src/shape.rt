@@ -2,13 +2,15 @@
 
 ghost use Rattle.std.specs.Prelude.{◌≡◌, ℕ, ◌+◌, ◌<◌, ◌≤◌, List, ◌++◌, length, take, drop, Some, None, IfOk, IfErr, IfSome, MatchOption, MatchResult};
 ghost use Rattle.fleet_name.specs.Name.{lower, wire};
+ghost use Rattle.fleet_name.specs.declared.bounds.TheConstants.{LONGEST_NAME};
 ghost use Rattle.fleet_wire.specs.NameAt.{ReadsName};
 ghost use Rattle.fleet_wire.specs.Fault.{NameFails};
 ghost use Rattle.fleet_wire.specs.Shape.{shape_of, room_of, PartsAt, PartsFail, ShapeAt, ShapeFails};
 ghost use Rattle.fleet_wire.specs.declared.fault.ReadFault.TheVariants.{Truncated};
+ghost use Rattle.fleet_wire.specs.declared.bounds.TheConstants.{LONGEST_MESSAGE};
 
 use crate::fault::ReadFault;
-use crate::name_reader::spelled_at;
+use crate::name_reader::spelling_at;
 use crate::rtype::{CNAME, MB, MD, MF, MG, MINFO, MR, MX, NS, PTR, SOA, SRV};
 use arrayvec::ArrayVec;
 
@@ -42,7 +44,7 @@ pub(crate) fn parts_of(rtype: u16) -> Option<&'static [Part]>
 }
 
 /// So many octets at a place.
-fn plain_at(message: &[u8], at: usize, count: usize) -> Result<&[u8], ReadFault>
+fn octets_at(message: &[u8], at: usize, count: usize) -> Result<&[u8], ReadFault>
     requires { at ≤ length message.now }
     ensures { MatchResult result
         (λ s. (at + count ≤ length message.now) × (s.now ≡ take count (drop at message.now)))
@@ -57,7 +59,7 @@ fn plain_at(message: &[u8], at: usize, count: usize) -> Result<&[u8], ReadFault>
 }
 
 /// Adds octets as they are.
-fn append_plain(out: &mut Rdata, octets: &[u8])
+fn append_octets(out: &mut Rdata, octets: &[u8])
     requires room { length out.old.items + length octets.now ≤ LONGEST_RDATA }
     ensures { out.new.items ≡ out.old.items ++ octets.now }
 {
@@ -65,7 +67,7 @@ fn append_plain(out: &mut Rdata, octets: &[u8])
 }
 
 /// Adds octets in lower case.
-fn append_lowered(out: &mut Rdata, octets: &[u8])
+fn append_lower(out: &mut Rdata, octets: &[u8])
     requires room { length out.old.items + length octets.now ≤ LONGEST_RDATA }
     ensures { out.new.items ≡ out.old.items ++ lower octets.now }
 {
@@ -76,14 +78,14 @@ fn append_lowered(out: &mut Rdata, octets: &[u8])
 
 /// Adds the name at a place, in full and in lower case, and tells where it ends.
 fn append_name(out: &mut Rdata, message: &[u8], at: usize) -> Result<usize, ReadFault>
-    requires room { length out.old.items + 255 ≤ LONGEST_RDATA }
+    requires room { length out.old.items + LONGEST_NAME ≤ LONGEST_RDATA }
     ensures found { IfOk result (λ past. (n : List (List ℕ)) × ReadsName message.now at n past
         × (out.new.items ≡ out.old.items ++ wire n)) }
-    ensures room { length out.new.items ≤ length out.old.items + 255 }
+    ensures room { length out.new.items ≤ length out.old.items + LONGEST_NAME }
     ensures fault { IfErr result (λ f. NameFails message.now at f) }
 {
-    let spelled = spelled_at(message, at)?;
-    append_lowered(out, spelled.octets.as_slice());
+    let spelled = spelling_at(message, at)?;
+    append_lower(out, spelled.octets.as_slice());
     Ok(spelled.end)
 }
 
@@ -99,7 +101,7 @@ fn parts_at(message: &[u8], parts: &[Part], offset: usize) -> Result<(Rdata, usi
     for part in parts {
         match part {
             Part::Plain(count) => {
-                append_plain(&mut octets, plain_at(message, at, *count)?);
+                append_octets(&mut octets, octets_at(message, at, *count)?);
                 at += *count;
             }
             Part::Name => at = append_name(&mut octets, message, at)?,
@@ -116,13 +118,13 @@ pub(crate) fn rdata_at(
     rtype: u16,
 ) -> Result<Rdata, ReadFault>
     requires within { at + count ≤ length message.now }
-    requires short { length message.now ≤ 512 }
+    requires short { length message.now ≤ LONGEST_MESSAGE }
     ensures found { IfOk result (λ r. ShapeAt message.now at count (shape_of rtype) r.items) }
     ensures fault { IfErr result (λ f. ShapeFails message.now at count (shape_of rtype) f) }
 {
     let Some(parts) = parts_of(rtype) else {
         let mut octets = ArrayVec::new();
-        append_plain(&mut octets, plain_at(message, at, count)?);
+        append_octets(&mut octets, octets_at(message, at, count)?);
         return Ok(octets);
     };
     let (octets, end) = parts_at(message, parts, at)?;

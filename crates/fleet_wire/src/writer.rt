@@ -2,11 +2,13 @@
 
 ghost use Rattle.std.specs.Prelude.{◌≡◌, ℕ, ◌+◌, ◌<◌, ◌≤◌, ◌++◌, List, length, IfOk, OnOk, IfSome, MatchOption};
 ghost use Rattle.fleet_wire.specs.Number.{u16_octets, u32_octets};
-ghost use Rattle.fleet_wire.specs.Question.{Asked, asked_lent};
-ghost use Rattle.fleet_wire.specs.Line.{told_line, told_lines};
+ghost use Rattle.fleet_wire.specs.Question.{QuestionData, question_data_lent};
+ghost use Rattle.fleet_wire.specs.Line.{record_of_line, records_of_lines};
 ghost use Rattle.fleet_wire.specs.Message.{IsReply};
-ghost use Rattle.fleet_wire.specs.Outline.{record_octets, question_octets, rows, body_size, header_octets, octets_of_outline, IsWhole, reply_sketched};
+ghost use Rattle.fleet_wire.specs.Outline.{record_octets, question_octets, records_octets, body_size, header_octets, octets_of_outline, IsWhole, message_of_outline};
+ghost use Rattle.fleet_wire.specs.declared.bounds.TheConstants.{LONGEST_MESSAGE};
 
+use crate::bounds::LONGEST_MESSAGE;
 use crate::line::Line;
 use crate::number::{push_long, push_short};
 use crate::outline::Outline;
@@ -20,7 +22,7 @@ fn push_question<A: Allocator, B: Allocator>(
     question: Option<&Question<B>>,
 ) -> Result<(), AllocError>
     ensures { OnOk result (out.new.items
-        ≡ out.old.items ++ question_octets (asked_lent question.entry)) }
+        ≡ out.old.items ++ question_octets (question_data_lent question.entry)) }
 {
     match question {
         None => Ok(()),
@@ -34,7 +36,7 @@ fn push_question<A: Allocator, B: Allocator>(
 
 /// How many octets a question has: its name in full, which has 255 at most, and four.
 fn question_size<A: Allocator>(question: Option<&Question<A>>) -> usize
-    ensures size { result ≡ length (question_octets (asked_lent question.entry)) }
+    ensures size { result ≡ length (question_octets (question_data_lent question.entry)) }
     ensures short { result ≤ 259 }
 {
     match question {
@@ -64,7 +66,8 @@ fn push_fixed<A: Allocator>(
 /// Adds a record.
 fn push_record<A: Allocator>(out: &mut Vec<u8, A>, line: &Line) -> Result<(), AllocError>
     requires { length line.now.rdata.now < 65536 }
-    ensures { OnOk result (out.new.items ≡ out.old.items ++ record_octets (told_line line.now)) }
+    ensures { OnOk result (out.new.items
+        ≡ out.old.items ++ record_octets (record_of_line line.now)) }
 {
     out.extend_from_slice(line.owner)?;
     let count = line.rdata.len() as u16;
@@ -74,8 +77,9 @@ fn push_record<A: Allocator>(out: &mut Vec<u8, A>, line: &Line) -> Result<(), Al
 
 /// Adds the records of lines.
 fn push_lines<A: Allocator>(out: &mut Vec<u8, A>, lines: &[Line]) -> Result<(), AllocError>
-    requires { length (rows (told_lines lines.now)) ≤ 512 }
-    ensures { OnOk result (out.new.items ≡ out.old.items ++ rows (told_lines lines.now)) }
+    requires { length (records_octets (records_of_lines lines.now)) ≤ LONGEST_MESSAGE }
+    ensures { OnOk result (out.new.items
+        ≡ out.old.items ++ records_octets (records_of_lines lines.now)) }
 {
     for line in lines {
         push_record(out, line)?;
@@ -88,8 +92,8 @@ fn push_section<A: Allocator, B: Allocator>(
     out: &mut Vec<u8, A>,
     section: &Section<B>,
 ) -> Result<(), AllocError>
-    requires { length (rows section.now) ≤ 512 }
-    ensures { OnOk result (out.new.items ≡ out.old.items ++ rows section.now) }
+    requires { length (records_octets section.now) ≤ LONGEST_MESSAGE }
+    ensures { OnOk result (out.new.items ≡ out.old.items ++ records_octets section.now) }
 {
     let (first, more) = section.parts();
     push_lines(out, first)?;
@@ -98,8 +102,8 @@ fn push_section<A: Allocator, B: Allocator>(
 
 /// How much of the room is left behind the octets of the lines' records, if they fit.
 fn room_after(lines: &[Line], room: usize) -> Option<usize>
-    ensures { MatchOption result (room < length (rows (told_lines lines.now)))
-        (λ left. left + length (rows (told_lines lines.now)) ≡ room) }
+    ensures { MatchOption result (room < length (records_octets (records_of_lines lines.now)))
+        (λ left. left + length (records_octets (records_of_lines lines.now)) ≡ room) }
 {
     let mut left = room;
     for line in lines {
@@ -119,8 +123,8 @@ fn room_after(lines: &[Line], room: usize) -> Option<usize>
 
 /// How much of the room is left behind the octets of a section, if they fit.
 fn room_behind<A: Allocator>(section: &Section<A>, room: usize) -> Option<usize>
-    ensures { MatchOption result (room < length (rows section.now))
-        (λ left. left + length (rows section.now) ≡ room) }
+    ensures { MatchOption result (room < length (records_octets section.now))
+        (λ left. left + length (records_octets section.now) ≡ room) }
 {
     let (first, more) = section.parts();
     let left = room_after(first, room)?;
@@ -134,13 +138,15 @@ fn size_within<A: Allocator>(
     authority: &Section<A>,
 ) -> Option<usize>
     ensures size { MatchOption result
-        (512 < 12 + body_size (asked_lent question.entry) answer.now authority.now)
-        (λ size. size ≡ 12 + body_size (asked_lent question.entry) answer.now authority.now) }
-    ensures short { IfSome result (λ size. size ≤ 512) }
+        (LONGEST_MESSAGE < 12 + body_size (question_data_lent question.entry) answer.now
+        authority.now)
+        (λ size. size ≡ 12 + body_size (question_data_lent question.entry) answer.now
+        authority.now) }
+    ensures short { IfSome result (λ size. size ≤ LONGEST_MESSAGE) }
 {
-    let room = room_behind(answer, 500 - question_size(question))?;
+    let room = room_behind(answer, LONGEST_MESSAGE - 12 - question_size(question))?;
     let left = room_behind(authority, room)?;
-    Some(512 - left)
+    Some(LONGEST_MESSAGE - left)
 }
 
 /// Adds the header.
@@ -176,7 +182,8 @@ pub fn write_reply<A: Allocator, B: Allocator>(
     ensures octets { IfOk result (λ v. v.items ≡ octets_of_outline outline.now) }
     // Where it has a question, plain RDATA, TC clear, and fits a message, it is read again.
     ensures reads_back { IfOk result (λ v.
-        (q : Asked) → IsWhole outline.now q → IsReply v.items (reply_sketched outline.now q)) }
+        (q : QuestionData) → IsWhole outline.now q
+        → IsReply v.items (message_of_outline outline.now q)) }
 {
     let Some(size) = size_within(outline.question, &outline.answer, &outline.authority) else {
         let mut octets = Vec::with_capacity(alloc, 12 + question_size(outline.question))?;

@@ -1,10 +1,10 @@
 -- What an event makes of the site at which it happens.
 use Rattle.std.specs.Prelude.{◌≡◌, ◌≢◌, ℕ, max, List, [], ◌++◌, Option, Some, None, Result, Ok, Err}
-use Rattle.fleet_observe.specs.Fact.{Fact, AreFacts}
+use Rattle.fleet_observe.specs.Observation.{ObservationData, AreObservations}
 use Rattle.fleet_name.specs.Places.{At}
 use Rattle.fleet_cache.specs.Cached.{IsCached}
 use Rattle.fleet_site.specs.Choice.{when◌then◌otherwise◌}
-use Rattle.fleet_site.specs.Effect.{nothing, effect}
+use Rattle.fleet_site.specs.OutcomeData.{nothing, outcome_data}
 use Rattle.fleet_site.specs.Merge.{Merges}
 use Rattle.fleet_site.specs.SiteModel.{SiteModel}
 use Rattle.fleet_site.specs.StandsFor.{opening as site_at_first}
@@ -21,8 +21,8 @@ use Rattle.fleet_world.specs.declared.event.Event.TheVariants.{Datagram, Tick, S
 
 -- what joins all that was taken joins all that was heard of, and the horizon rises with the floor
 pub record Joins (a b : Replica) : Type 0 where
-  pub brought : List Fact
-  pub observations : AreFacts brought
+  pub brought : List ObservationData
+  pub observations : AreObservations brought
   pub taken : b.site.taken ≡ brought ++ a.site.taken
   pub heard : b.heard ≡ brought ++ a.heard
   pub delivered : b.delivered ≡ a.delivered
@@ -56,11 +56,11 @@ pub record Delivers {A : Type 0} (m : FleetModel) (now number : ℕ)
 -- the frames of all that the site holds go out, and nothing else is said
 pub record Sweeps {A : Type 0} (o : Outcome A) (a : Replica) : Type 0 where
   pub sweep : IsSweep a.site o.frames
-  pub says : effect o ≡ record nothing { frames = o.frames }
+  pub says : outcome_data o ≡ record nothing { frames = o.frames }
 
 -- the site holds something: a sweep of a site that holds nothing needs no memory
 pub record HoldsSome (a : Replica) : Type 0 where
-  pub items : List Fact
+  pub items : List ObservationData
   pub cached : IsCached a.site.taken a.site.floor items
   pub some : items ≢ []
 
@@ -96,9 +96,10 @@ Becomes m (Deliver site now number) r a b = Delivers m now number r a b
 Becomes m (Sweep site) (Ok o) a b = Sweeps o a × (b ≡ a)
 Becomes m (Sweep site) (Err (OutOfMemory count)) a b = (count ≡ 0) × (b ≡ a) × HoldsSome a
 Becomes m (Merge into from) (Ok o) a b =
-    when into ≡ from then (effect o ≡ nothing) × (b ≡ a) otherwise
-    (MergesAll m from o.taken a b × (effect o ≡ record nothing { taken = o.taken }))
+    when into ≡ from then (outcome_data o ≡ nothing) × (b ≡ a) otherwise
+    (MergesAll m from o.taken a b × (outcome_data o ≡ record nothing { taken = o.taken }))
 Becomes m (Merge into from) (Err (OutOfMemory count)) a b =
     (into ≢ from) × MergesFirst m from count a b
-Becomes m (Restart site) (Ok o) a b = (effect o ≡ nothing) × (b ≡ new_replica (site_again a.site))
+Becomes m (Restart site) (Ok o) a b = (outcome_data o ≡ nothing)
+    × (b ≡ new_replica (site_again a.site))
 Becomes m (Restart site) (Err (OutOfMemory count)) a b = ⊥

@@ -1,7 +1,7 @@
 //! What calls at a site give, as the outcome of an event.
 
 ghost use Rattle.std.specs.Prelude.{◌≡◌};
-ghost use Rattle.fleet_site.specs.Effect.{effect, nothing};
+ghost use Rattle.fleet_site.specs.OutcomeData.{outcome_data, nothing};
 ghost use Rattle.fleet_world.specs.Keeping.{SweepsAs, MergesAs, LooksAs};
 
 use crate::fault::WorldFault;
@@ -10,8 +10,8 @@ use fleet_site::{Frames, Looked, Outcome, Packets, SiteFault};
 use std::alloc::{AllocError, Allocator};
 
 /// So many observations were given, and nothing is sent.
-pub(crate) fn silent<A: Allocator + Copy>(alloc: A, taken: usize) -> Outcome<A>
-    ensures { effect result ≡ record nothing { taken = taken } }
+pub(crate) fn quiet_outcome<A: Allocator + Copy>(alloc: A, taken: usize) -> Outcome<A>
+    ensures { outcome_data result ≡ record nothing { taken = taken } }
 {
     Outcome {
         packets: Packets::new(Vec::new(alloc)),
@@ -49,7 +49,7 @@ pub(crate) fn as_merge<A: Allocator + Copy>(
     ensures { MergesAs done result }
 {
     match done {
-        Ok(taken) => Ok(silent(alloc, taken)),
+        Ok(taken) => Ok(quiet_outcome(alloc, taken)),
         Err(fault) => Err(fault),
     }
 }

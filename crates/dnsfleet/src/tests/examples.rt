@@ -1,6 +1,9 @@
 //! Scripts with what they print.
 
-use std::alloc::Global;
+use super::datagrams::DATAGRAMS;
+use super::frames::FRAMES;
+use super::questions::QUESTIONS;
+use std::alloc::{AllocError, Global};
 use std::test::Fail;
 
 /// A script with what it prints.
@@ -50,4 +53,33 @@ fn add_repeated(text: &mut String, repeated: &str) -> Result<(), Fail> {
         text.push_str(octets)?;
     }
     Ok(())
+}
+
+/// Adds the examples of a text.
+fn add_examples(all: &mut Vec<Example>, text: &'static str) -> Result<(), AllocError> {
+    for part in text.split("= ") {
+        if let Some((shows, transcript)) = part.split_once('\n') {
+            all.push(Example { shows, transcript })?;
+        }
+    }
+    Ok(())
+}
+
+/// All examples.
+pub fn all_examples(alloc: Global) -> Result<Vec<Example>, AllocError> {
+    let mut all = Vec::new(alloc);
+    add_examples(&mut all, QUESTIONS)?;
+    add_examples(&mut all, DATAGRAMS)?;
+    add_examples(&mut all, FRAMES)?;
+    Ok(all)
+}
+
+/// The example that shows this.
+pub fn example_of(alloc: Global, shows: &str) -> Result<Example, Fail> {
+    for example in &all_examples(alloc)? {
+        if example.shows == shows {
+            return Ok(*example);
+        }
+    }
+    Err("no such example".into())
 }

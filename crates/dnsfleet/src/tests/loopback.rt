@@ -144,10 +144,8 @@ fn shows_record(answer: &[u8]) -> bool {
         && answer.get(50..) == ANSWER.get(50..)
 }
 
-#[test]
-fn counts_what_fails(rt: HostRuntime) -> Result<(), Fail> {
-    let mut port = UdpPort::bind(&rt, loopback(0))?;
-    assert!(rt; UdpPort::bind(&rt, port.address()).is_err());
+/// Two sends of a port fail and are counted; a receive that finds nothing is not.
+fn check_failures(rt: &impl Abort, port: &mut UdpPort) -> Result<(), Fail> {
     assert!(rt; port.send(loopback(0), b"x").is_err());
     let elsewhere = Addr {
         host: 0x0a00_0001,
@@ -158,19 +156,37 @@ fn counts_what_fails(rt: HostRuntime) -> Result<(), Fail> {
     let mut buffer = [0u8; 8];
     assert!(rt; matches!(port.recv(&mut buffer), Ok(None)));
     assert_eq!(rt; port.failures(), 2);
-    let (client, from) = open(&rt)?;
-    for (bytes, len) in [
-        (b"".as_slice(), 0usize),
-        (b"12345678", 8),
-        (b"123456789", 8),
-    ] {
-        send(&client, port.address(), bytes)?;
-        match port.recv(&mut buffer) {
-            Ok(Some(got)) => assert_eq!(rt; got, (from, len)),
-            _ => assert!(rt; false, "{len}"),
-        }
-        assert_eq!(rt; buffer.get(..len), bytes.get(..len));
+    Ok(())
+}
+
+/// A port receives the first octets of a datagram, at most eight.
+fn check_arrival(
+    rt: &impl Abort,
+    port: &mut UdpPort,
+    client: &UdpSocket,
+    from: Addr,
+    bytes: &[u8],
+) -> Result<(), Fail> {
+    let mut buffer = [0u8; 8];
+    let len = bytes.len().min(8);
+    send(client, port.address(), bytes)?;
+    match port.recv(&mut buffer) {
+        Ok(Some(got)) => assert_eq!(rt; got, (from, len)),
+        _ => assert!(rt; false, "{len}"),
     }
+    assert_eq!(rt; buffer.get(..len), bytes.get(..len));
+    Ok(())
+}
+
+#[test]
+fn counts_what_fails(rt: HostRuntime) -> Result<(), Fail> {
+    let mut port = UdpPort::bind(&rt, loopback(0))?;
+    assert!(rt; UdpPort::bind(&rt, port.address()).is_err());
+    check_failures(&rt, &mut port)?;
+    let (client, from) = open(&rt)?;
+    check_arrival(&rt, &mut port, &client, from, b"")?;
+    check_arrival(&rt, &mut port, &client, from, b"12345678")?;
+    check_arrival(&rt, &mut port, &client, from, b"123456789")?;
     port.send(from, b"abc")?;
     assert_eq!(rt; receive(rt.alloc(), &client)?.as_slice(), b"abc".as_slice());
     assert_eq!(rt; port.failures(), 2);

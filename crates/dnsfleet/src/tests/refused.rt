@@ -12,10 +12,11 @@ mod sites;
 
 use crate::What;
 use crate::fleet::Fleet;
+use crate::tests::examples::example_of;
 use crate::tests::refusing::Refusing;
 use lines::{
-    Ended, Line, begin, example_of, fleet_after, has_same_sites, keeps_same_frames, lines_of,
-    run_line, run_part, without_frames,
+    Ended, Line, begin, fleet_after, has_same_sites, keeps_same_frames, lines_of, run_line,
+    run_part, without_frames,
 };
 use std::alloc::{Allocator, Global};
 use std::process::Abort;
@@ -114,6 +115,20 @@ fn check_short<A: Allocator + Copy>(
     Ok(())
 }
 
+/// Checks what a line printed whose frames were not kept: all else of what it prints.
+fn check_text<A: Allocator + Copy>(
+    rt: &impl Abort,
+    alloc: A,
+    line: &Line<'_>,
+    text: &str,
+) -> Result<(), Fail> {
+    let told = without_frames(alloc, text)?;
+    let wanted = without_frames(alloc, line.prints)?;
+    let shows = line.text;
+    assert_eq!(rt; told.as_str(), wanted.as_str(), "{shows}");
+    Ok(())
+}
+
 /// Checks a fleet after a line that was done, and whose frames were not kept.
 fn check_lost<A: Allocator + Copy>(
     rt: &impl Abort,
@@ -123,15 +138,13 @@ fn check_lost<A: Allocator + Copy>(
     line: &Line<'_>,
     text: &str,
 ) -> Result<(), Fail> {
+    check_text(rt, alloc, line, text)?;
     let shows = line.text;
-    let told = without_frames(alloc, text)?;
-    let wanted = without_frames(alloc, line.prints)?;
-    assert_eq!(rt; told.as_str(), wanted.as_str(), "{shows}");
     assert!(rt;
         keeps_same_frames(fleet.world()?, before.world()?),
         "{shows}"
     );
-    run_line(before.world()?, alloc, line.text)?;
+    run_line(before.world()?, alloc, shows)?;
     assert!(rt; has_same_sites(fleet.world()?, before.world()?), "{shows}");
     Ok(())
 }
@@ -162,6 +175,26 @@ fn check_line<A: Allocator + Copy>(
     Ok(true)
 }
 
+/// Does the last of these lines on a fleet that did the others, and whose memory may be refused;
+/// says whether the next one follows.
+fn run_last<A: Allocator + Copy>(
+    rt: &impl Abort,
+    ample: A,
+    refusing: &Refusing<Global>,
+    fleet: &mut Fleet<A>,
+    lines: &[Line<'_>],
+    met: &mut Met,
+) -> Result<bool, Fail> {
+    let first = lines.first().ok_or("no line")?.text;
+    let (line, others) = lines.split_last().ok_or("no line")?;
+    let had_refused = refusing.has_refused();
+    let ended = run_line(fleet.world()?, ample, line.text)?;
+    let is_done = matches!(&ended, Ended::Done(_));
+    assert_eq!(rt; is_done, refusing.has_refused() == had_refused);
+    let mut before = fleet_after(ample, first, others)?;
+    check_line(rt, ample, fleet, &mut before, line, ended, met)
+}
+
 /// Does lines on a fleet whose memory may be refused.
 fn run_lines<A: Allocator + Copy>(
     rt: &impl Abort,
@@ -171,16 +204,15 @@ fn run_lines<A: Allocator + Copy>(
     lines: &[Line<'_>],
     met: &mut Met,
 ) -> Result<(), Fail> {
-    let first = lines.first().ok_or("no line")?.text;
     let mut fleet = Fleet::new(alloc);
-    begin_refused(rt, &mut fleet, refusing, first)?;
-    for (place, line) in lines.iter().enumerate() {
-        let had_refused = refusing.has_refused();
-        let ended = run_line(fleet.world()?, ample, line.text)?;
-        let is_done = matches!(&ended, Ended::Done(_));
-        assert_eq!(rt; is_done, refusing.has_refused() == had_refused);
-        let mut before = fleet_after(ample, first, &lines[..place])?;
-        if !check_line(rt, ample, &mut fleet, &mut before, line, ended, met)? {
+    begin_refused(
+        rt,
+        &mut fleet,
+        refusing,
+        lines.first().ok_or("no line")?.text,
+    )?;
+    for place in 0..lines.len() {
+        if !run_last(rt, ample, refusing, &mut fleet, &lines[..=place], met)? {
             return Ok(());
         }
     }
@@ -234,10 +266,10 @@ fn after_others(alloc: Global, count: u8, transcript: &str) -> Result<String, Fa
 fn a_line_without_memory_is_done_again(rt: HostRuntime) -> Result<(), Fail> {
     let mut met = Met::new();
     for shows in REFUSED {
-        let example = example_of(shows).ok_or("no example")?;
+        let example = example_of(rt.alloc(), shows)?;
         refuse_each(&rt, rt.alloc(), example.transcript, &mut met)?;
     }
-    let denial = example_of(DENIAL).ok_or("no example")?;
+    let denial = example_of(rt.alloc(), DENIAL)?;
     for count in 1..5u8 {
         let text = after_others(rt.alloc(), count, denial.transcript)?;
         refuse_each(&rt, rt.alloc(), text.as_str(), &mut met)?;

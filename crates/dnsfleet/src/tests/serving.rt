@@ -13,7 +13,7 @@ const KEY: &str = "000102030405060708090a0b0c0d0e0f101112131415161718191A1B1C1D1
 
 /// Runs the program with words, and gives the status with what was printed on standard output and
 /// on standard error.
-fn ran(rt: &HostRuntime, words: &str) -> Result<(ExitCode, String, String), Fail> {
+fn run_words(rt: &HostRuntime, words: &str) -> Result<(ExitCode, String, String), Fail> {
     let told = Told::new(rt.alloc());
     let mut list = Vec::new(rt.alloc());
     for word in words.split(' ') {
@@ -40,7 +40,7 @@ fn looks_at_its_words_before_its_key(rt: HostRuntime) -> Result<(), Fail> {
         "dnsfleet serve --config / --key 00 --turns 1 more",
         "dnsfleet script more",
     ] {
-        let (code, output, errors) = ran(&rt, words)?;
+        let (code, output, errors) = run_words(&rt, words)?;
         assert!(rt; code == ExitCode::from(2), "{words}");
         assert_eq!(rt; output.as_str(), "", "{words}");
         assert!(rt; errors.starts_with("error: "), "{words}");
@@ -48,39 +48,34 @@ fn looks_at_its_words_before_its_key(rt: HostRuntime) -> Result<(), Fail> {
     Ok(())
 }
 
-#[test]
-fn takes_its_words(rt: HostRuntime) -> Result<(), Fail> {
-    for (words, wanted) in [
-        (
-            [
-                "dnsfleet", "serve", "--config", "c", "--key", "k", "--turns", "1",
-            ],
-            ("c", "k", 1u32),
-        ),
-        (
-            [
-                "dnsfleet",
-                "serve",
-                "--turns",
-                "4294967295",
-                "--key",
-                "",
-                "--config",
-                "",
-            ],
-            ("", "", u32::MAX),
-        ),
-    ] {
-        let matches = program(rt.alloc())?.try_get_matches_from(words.as_slice())?;
-        match matches.subcommand() {
-            Some(("serve", matches)) => {
-                let words = Words::of(matches);
-                assert_eq!(rt; (words.config, words.key, words.turns), wanted);
-            }
-            _ => assert!(rt; false),
+/// The program takes the words of `serve`, and these of them count.
+fn check_words(
+    rt: &impl Abort,
+    alloc: Global,
+    words: &str,
+    wanted: (&str, &str, u32),
+) -> Result<(), Fail> {
+    let mut list = Vec::new(alloc);
+    for word in words.split(' ') {
+        list.push(word)?;
+    }
+    let matches = program(alloc)?.try_get_matches_from(list.as_slice())?;
+    match matches.subcommand() {
+        Some(("serve", matches)) => {
+            let words = Words::of(matches);
+            assert_eq!(rt; (words.config, words.key, words.turns), wanted);
         }
+        _ => assert!(rt; false),
     }
     Ok(())
+}
+
+#[test]
+fn takes_its_words(rt: HostRuntime) -> Result<(), Fail> {
+    let words = "dnsfleet serve --config c --key k --turns 1";
+    check_words(&rt, rt.alloc(), words, ("c", "k", 1))?;
+    let words = "dnsfleet serve --turns 4294967295 --key  --config ";
+    check_words(&rt, rt.alloc(), words, ("", "", u32::MAX))
 }
 
 #[test]
@@ -91,7 +86,7 @@ fn helps(rt: HostRuntime) -> Result<(), Fail> {
         ("dnsfleet serve --help", "  listen = \"127.0.0.1:5400\""),
         ("dnsfleet help serve", "  listen = \"127.0.0.1:5400\""),
     ] {
-        let (code, output, errors) = ran(&rt, words)?;
+        let (code, output, errors) = run_words(&rt, words)?;
         assert!(rt; code == ExitCode::SUCCESS, "{words}");
         assert!(rt; output.contains(example), "{words}");
         assert_eq!(rt; errors.as_str(), "", "{words}");
@@ -99,26 +94,36 @@ fn helps(rt: HostRuntime) -> Result<(), Fail> {
     Ok(())
 }
 
+/// Runs the program with a key and a configuration that is not readable.
+fn run_key(rt: &HostRuntime, key: &str) -> Result<(ExitCode, String, String), Fail> {
+    let words = format!(in rt.alloc(); "dnsfleet serve --turns 1 --config / --key {key}")?;
+    run_words(rt, words.as_str())
+}
+
+/// A run ended with this status, and told this alone, on standard error.
+fn check_run(rt: &impl Abort, run: (ExitCode, String, String), status: u8, told: &str) {
+    let (code, output, errors) = run;
+    assert!(rt; code == ExitCode::from(status), "{told}");
+    assert_eq!(rt; output.as_str(), "", "{told}");
+    assert_eq!(rt; errors.as_str(), told);
+}
+
 #[test]
 fn looks_at_its_key_before_its_configuration(rt: HostRuntime) -> Result<(), Fail> {
-    let mut text = String::new(rt.alloc());
     for length in [0usize, 2, 62, 63, 65, 66] {
-        text.clear();
+        let mut key = String::new(rt.alloc());
         for _ in 0..length {
-            text.push('0')?;
+            key.push('0')?;
         }
-        let words = format!(in rt.alloc(); "dnsfleet serve --turns 1 --config / --key {text}")?;
-        let (code, output, errors) = ran(&rt, words.as_str())?;
-        assert!(rt; code == ExitCode::from(2), "{length}");
-        assert_eq!(rt; output.as_str(), "", "{length}");
         let told = "dnsfleet: key: 64 hexadecimal digits wanted\n";
-        assert_eq!(rt; errors.as_str(), told, "{length}");
+        check_run(&rt, run_key(&rt, key.as_str())?, 2, told);
     }
-    let words = format!(in rt.alloc(); "dnsfleet serve --turns 1 --config / --key {KEY}")?;
-    let (code, output, errors) = ran(&rt, words.as_str())?;
-    assert!(rt; code == ExitCode::from(1));
-    assert_eq!(rt; output.as_str(), "");
-    assert_eq!(rt; errors.as_str(), "dnsfleet: config: not readable\n");
+    check_run(
+        &rt,
+        run_key(&rt, KEY)?,
+        1,
+        "dnsfleet: config: not readable\n",
+    );
     Ok(())
 }
 
@@ -197,7 +202,7 @@ const TEXTS: [(ConfigurationFault, &str); 14] = [
 ];
 
 /// Serves three turns with settings, and gives the status with what was printed.
-fn served(
+fn serve_turns(
     rt: &HostRuntime,
     settings: Result<Settings, ConfigurationFault>,
 ) -> Result<(ExitCode, String, String), Fail> {
@@ -209,11 +214,8 @@ fn served(
 #[test]
 fn tells_faults_of_its_configuration(rt: HostRuntime) -> Result<(), Fail> {
     for (fault, text) in TEXTS {
-        let (code, output, errors) = served(&rt, Err(fault))?;
-        assert!(rt; code == ExitCode::from(1), "{text}");
-        assert_eq!(rt; output.as_str(), "", "{text}");
-        let wanted = format!(in rt.alloc(); "dnsfleet: config: {text}\n")?;
-        assert_eq!(rt; errors.as_str(), wanted.as_str());
+        let told = format!(in rt.alloc(); "dnsfleet: config: {text}\n")?;
+        check_run(&rt, serve_turns(&rt, Err(fault))?, 1, told.as_str());
     }
     Ok(())
 }
@@ -226,21 +228,27 @@ fn settings_for(alloc: Global, port: u16) -> Result<Settings, Fail> {
     Ok(read_settings(alloc, text.as_bytes())?)
 }
 
+/// Serves three turns at a port of 127.0.0.1.
+fn serve_at(rt: &HostRuntime, port: u16) -> Result<(ExitCode, String, String), Fail> {
+    serve_turns(rt, Ok(settings_for(rt.alloc(), port)?))
+}
+
+/// What is printed of three turns at a port at which nothing comes in.
+fn quiet_text(alloc: Global, port: u16) -> Result<String, Fail> {
+    Ok(format!(in alloc;
+        "listening 127.0.0.1:{port}\nturns 3 received 0 sent 0 lost 0 faults 0 refused 0 short 0\n"
+    )?)
+}
+
 #[test]
 fn prints_where_it_listens_and_what_it_counted(rt: HostRuntime) -> Result<(), Fail> {
     let taken = UdpPort::bind(&rt, loopback(0))?;
     let port = taken.address().port;
-    let (code, output, errors) = served(&rt, Ok(settings_for(rt.alloc(), port)?))?;
-    assert!(rt; code == ExitCode::from(1));
-    assert_eq!(rt; output.as_str(), "");
-    assert_eq!(rt; errors.as_str(), "dnsfleet: socket\n");
+    check_run(&rt, serve_at(&rt, port)?, 1, "dnsfleet: socket\n");
     drop(taken);
-    let (code, output, errors) = served(&rt, Ok(settings_for(rt.alloc(), port)?))?;
+    let (code, output, errors) = serve_at(&rt, port)?;
     assert!(rt; code == ExitCode::SUCCESS);
-    let wanted = format!(in rt.alloc();
-        "listening 127.0.0.1:{port}\nturns 3 received 0 sent 0 lost 0 faults 0 refused 0 short 0\n"
-    )?;
-    assert_eq!(rt; output.as_str(), wanted.as_str());
+    assert_eq!(rt; output.as_str(), quiet_text(rt.alloc(), port)?.as_str());
     assert_eq!(rt; errors.as_str(), "");
     Ok(())
 }

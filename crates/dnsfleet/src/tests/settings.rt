@@ -3,6 +3,7 @@
 use crate::{Settings, SettingsFault, read_settings};
 use fleet_pending::Addr;
 use std::alloc::Global;
+use std::process::Abort;
 use std::test::Fail;
 
 /// An address of 127.0.0.1.
@@ -22,18 +23,43 @@ fn read(alloc: Global, first: &str, second: &str) -> Result<Result<Settings, Set
     Ok(read_settings(alloc, text.as_bytes()))
 }
 
+/// What is told of two texts, one after the other, which are no configuration.
+fn fault_of(alloc: Global, first: &str, second: &str) -> Result<String, Fail> {
+    match read(alloc, first, second)? {
+        Ok(_) => Err("no fault".into()),
+        Err(fault) => Ok(format!(in alloc; "{fault}")?),
+    }
+}
+
+/// Compares what settings say.
+fn check_settings(
+    rt: &impl Abort,
+    settings: &Settings,
+    listen: u16,
+    upstreams: &[Addr],
+    peers: &[Addr],
+    sweep: u32,
+) {
+    assert_eq!(rt; settings.listen, loopback(listen));
+    assert_eq!(rt; settings.config.upstreams(), upstreams);
+    assert_eq!(rt; settings.config.peers(), peers);
+    assert_eq!(rt; settings.sweep, sweep);
+}
+
+/// A configuration with all four keys, in another order.
+const FULL: &str = "\
+sweep = 0
+peers = ['10.0.0.1:53', \"255.255.255.255:65535\",]
+listen = '127.0.0.1:1'
+upstreams = [ # three
+\"127.0.0.1:3\",
+\"127.0.0.1:2\", \"127.0.0.1:1\"]";
+
 #[test]
 fn reads_settings(rt: HostRuntime) -> Result<(), Fail> {
     let settings = read(rt.alloc(), LEAST, "")??;
-    assert_eq!(rt; settings.listen, loopback(5400));
-    assert_eq!(rt; settings.config.upstreams(), [loopback(5301)].as_slice());
-    assert_eq!(rt; settings.config.peers().len(), 0);
-    assert_eq!(rt; settings.sweep, 30);
-    let settings = read(
-        rt.alloc(),
-        "sweep = 0\npeers = ['10.0.0.1:53', \"255.255.255.255:65535\",]\nlisten = '127.0.0.1:1'\n",
-        "upstreams = [ # three\n\"127.0.0.1:3\",\n\"127.0.0.1:2\", \"127.0.0.1:1\"]",
-    )??;
+    check_settings(&rt, &settings, 5400, &[loopback(5301)], &[], 30);
+    let settings = read(rt.alloc(), FULL, "")??;
     let peers = [
         Addr {
             host: 0x0a00_0001,
@@ -45,138 +71,152 @@ fn reads_settings(rt: HostRuntime) -> Result<(), Fail> {
         },
     ];
     let upstreams = [loopback(3), loopback(2), loopback(1)];
-    assert_eq!(rt; settings.listen, loopback(1));
-    assert_eq!(rt; settings.config.upstreams(), upstreams.as_slice());
-    assert_eq!(rt; settings.config.peers(), peers.as_slice());
-    assert_eq!(rt; settings.sweep, 0);
+    check_settings(&rt, &settings, 1, &upstreams, &peers, 0);
     Ok(())
 }
 
-/// Texts with one fault, behind the two keys that are required.
-const ADDED: [(&str, SettingsFault); 16] = [
-    ("x = 1", SettingsFault::UnknownKey),
-    ("listen = \"127.0.0.1:5400\"", SettingsFault::NotToml),
-    ("sweep =", SettingsFault::NotToml),
-    ("peers = [\"127.0.0.1:5301\"]", SettingsFault::AddressTwice),
-    (
-        "peers = [\"127.0.0.1:1\", \"127.0.0.1:1\"]",
-        SettingsFault::AddressTwice,
-    ),
-    ("peers = \"127.0.0.1:1\"", SettingsFault::WrongKind),
-    ("peers = [1]", SettingsFault::WrongKind),
-    ("peers = [[\"127.0.0.1:1\"]]", SettingsFault::WrongKind),
-    ("peers = [\"\"]", SettingsFault::BadAddress),
-    ("sweep = \"30\"", SettingsFault::WrongKind),
-    ("sweep = 30.0", SettingsFault::WrongKind),
-    ("sweep = true", SettingsFault::WrongKind),
-    ("sweep = 3601", SettingsFault::BadSweep),
-    ("sweep = -1", SettingsFault::BadSweep),
-    ("sweep = 4294967296", SettingsFault::BadSweep),
-    ("[listen2]", SettingsFault::UnknownKey),
-];
+/// Faults, each behind `! ` and above a text that has it alone, behind the two keys that are
+/// required.
+const ADDED: &str = "\
+! unknown key
+x = 1
+! not TOML
+listen = \"127.0.0.1:5400\"
+! not TOML
+sweep =
+! address twice
+peers = [\"127.0.0.1:5301\"]
+! address twice
+peers = [\"127.0.0.1:1\", \"127.0.0.1:1\"]
+! wrong kind
+peers = \"127.0.0.1:1\"
+! wrong kind
+peers = [1]
+! wrong kind
+peers = [[\"127.0.0.1:1\"]]
+! bad address
+peers = [\"\"]
+! wrong kind
+sweep = \"30\"
+! wrong kind
+sweep = 30.0
+! wrong kind
+sweep = true
+! bad sweep
+sweep = 3601
+! bad sweep
+sweep = -1
+! bad sweep
+sweep = 4294967296
+! unknown key
+[listen2]
+";
 
-/// Whole texts, of which the first fault is told.
-const WHOLE: [(&str, SettingsFault); 27] = [
-    ("", SettingsFault::MissingKey),
-    (
-        "upstreams = [\"127.0.0.1:5301\"]",
-        SettingsFault::MissingKey,
-    ),
-    ("listen = \"127.0.0.1:5400\"", SettingsFault::MissingKey),
-    ("x = 1\nlisten =", SettingsFault::NotToml),
-    ("x = 1", SettingsFault::UnknownKey),
-    ("Listen = \"127.0.0.1:5400\"", SettingsFault::UnknownKey),
-    ("upstreams = 1", SettingsFault::MissingKey),
-    ("listen = 1", SettingsFault::WrongKind),
-    (
-        "listen = [\"127.0.0.1:5400\"]\nupstreams = []",
-        SettingsFault::WrongKind,
-    ),
-    (
-        "listen = \"localhost:5301\"\nupstreams = [\"127.0.0.1:5301\"]",
-        SettingsFault::BadAddress,
-    ),
-    (
-        "listen = \"127.0.0.1:05301\"\nupstreams = 1",
-        SettingsFault::BadAddress,
-    ),
-    (
-        "listen = \"127.0.0.1:0\"\nupstreams = 1",
-        SettingsFault::BadAddress,
-    ),
-    (
-        "listen = \"127.0.0.2:5400\"\nupstreams = [\"127.0.0.1:5301\"]",
-        SettingsFault::NotLoopback,
-    ),
-    ("listen = \"127.0.0.2:5400\"", SettingsFault::NotLoopback),
-    (
-        "listen = \"127.0.0.1:1\"\nupstreams = [1]\npeers = 1",
-        SettingsFault::WrongKind,
-    ),
-    (
-        "listen = \"127.0.0.1:1\"\nupstreams = [\"\", 1]",
-        SettingsFault::WrongKind,
-    ),
-    (
-        "listen = \"127.0.0.1:5400\"\nupstreams = [\"localhost:5301\"]",
-        SettingsFault::BadAddress,
-    ),
-    (
-        "listen = \"127.0.0.1:1\"\nupstreams = [\"\"]\npeers = 1",
-        SettingsFault::BadAddress,
-    ),
-    (
-        "listen = \"127.0.0.1:1\"\nupstreams = []\npeers = 1",
-        SettingsFault::WrongKind,
-    ),
-    (
-        "listen = \"127.0.0.1:1\"\nupstreams = []\npeers = [1]\nsweep = -1",
-        SettingsFault::WrongKind,
-    ),
-    (
-        "listen = \"127.0.0.1:1\"\nupstreams = []\npeers = [\"\"]\nsweep = ''",
-        SettingsFault::BadAddress,
-    ),
-    (
-        "listen = \"127.0.0.1:1\"\nupstreams = []\nsweep = ''",
-        SettingsFault::WrongKind,
-    ),
-    (
-        "listen = \"127.0.0.1:1\"\nupstreams = []\nsweep = 3601",
-        SettingsFault::BadSweep,
-    ),
-    (
-        "listen = \"127.0.0.1:1\"\nupstreams = []",
-        SettingsFault::NoUpstream,
-    ),
-    (
-        "listen = \"127.0.0.1:1\"\nupstreams = []\npeers = ['127.0.0.1:2', '127.0.0.1:2']",
-        SettingsFault::NoUpstream,
-    ),
-    (
-        "listen = \"127.0.0.1:1\"\nupstreams = ['1.1.1.1:1', '1.1.1.1:1']",
-        SettingsFault::AddressTwice,
-    ),
-    (
-        "listen = \"127.0.0.1:1\"\nupstreams = ['1.1.1.1:1', '1.1.1.1:2', '1.1.1.1:3', '1.1.1.1:4', '1.1.1.1:1']",
-        SettingsFault::TooManyUpstreams,
-    ),
-];
+/// First faults of whole texts, each behind `! ` and above its text.
+const WHOLE: &str = "\
+! missing key
+
+! missing key
+upstreams = [\"127.0.0.1:5301\"]
+! missing key
+listen = \"127.0.0.1:5400\"
+! not TOML
+x = 1
+listen =
+! unknown key
+x = 1
+! unknown key
+Listen = \"127.0.0.1:5400\"
+! missing key
+upstreams = 1
+! wrong kind
+listen = 1
+! wrong kind
+listen = [\"127.0.0.1:5400\"]
+upstreams = []
+! bad address
+listen = \"localhost:5301\"
+upstreams = [\"127.0.0.1:5301\"]
+! bad address
+listen = \"127.0.0.1:05301\"
+upstreams = 1
+! bad address
+listen = \"127.0.0.1:0\"
+upstreams = 1
+! listen is not 127.0.0.1
+listen = \"127.0.0.2:5400\"
+upstreams = [\"127.0.0.1:5301\"]
+! listen is not 127.0.0.1
+listen = \"127.0.0.2:5400\"
+! wrong kind
+listen = \"127.0.0.1:1\"
+upstreams = [1]
+peers = 1
+! wrong kind
+listen = \"127.0.0.1:1\"
+upstreams = [\"\", 1]
+! bad address
+listen = \"127.0.0.1:5400\"
+upstreams = [\"localhost:5301\"]
+! bad address
+listen = \"127.0.0.1:1\"
+upstreams = [\"\"]
+peers = 1
+! wrong kind
+listen = \"127.0.0.1:1\"
+upstreams = []
+peers = 1
+! wrong kind
+listen = \"127.0.0.1:1\"
+upstreams = []
+peers = [1]
+sweep = -1
+! bad address
+listen = \"127.0.0.1:1\"
+upstreams = []
+peers = [\"\"]
+sweep = ''
+! wrong kind
+listen = \"127.0.0.1:1\"
+upstreams = []
+sweep = ''
+! bad sweep
+listen = \"127.0.0.1:1\"
+upstreams = []
+sweep = 3601
+! no upstream
+listen = \"127.0.0.1:1\"
+upstreams = []
+! no upstream
+listen = \"127.0.0.1:1\"
+upstreams = []
+peers = ['127.0.0.1:2', '127.0.0.1:2']
+! address twice
+listen = \"127.0.0.1:1\"
+upstreams = ['1.1.1.1:1', '1.1.1.1:1']
+! too many upstreams
+listen = \"127.0.0.1:1\"
+upstreams = ['1.1.1.1:1', '1.1.1.1:2', '1.1.1.1:3', '1.1.1.1:4', '1.1.1.1:1']
+";
+
+/// Reads each text of a table behind these keys, and says how many there are.
+fn check_faults(rt: &impl Abort, alloc: Global, keys: &str, table: &str) -> Result<u32, Fail> {
+    let mut count = 0u32;
+    for row in table.split("! ") {
+        if let Some((wanted, text)) = row.split_once('\n') {
+            let text = text.strip_suffix('\n').ok_or("no line feed")?;
+            let told = fault_of(alloc, keys, text)?;
+            assert_eq!(rt; told.as_str(), wanted, "{text}");
+            count = count.saturating_add(1);
+        }
+    }
+    Ok(count)
+}
 
 #[test]
 fn tells_the_first_fault(rt: HostRuntime) -> Result<(), Fail> {
-    for (text, fault) in ADDED {
-        match read(rt.alloc(), LEAST, text)? {
-            Ok(_) => assert!(rt; false, "{text}"),
-            Err(found) => assert_eq!(rt; found, fault, "{text}"),
-        }
-    }
-    for (text, fault) in WHOLE {
-        match read(rt.alloc(), text, "")? {
-            Ok(_) => assert!(rt; false, "{text}"),
-            Err(found) => assert_eq!(rt; found, fault, "{text}"),
-        }
-    }
+    assert_eq!(rt; check_faults(&rt, rt.alloc(), LEAST, ADDED)?, 16);
+    assert_eq!(rt; check_faults(&rt, rt.alloc(), "", WHOLE)?, 27);
     Ok(())
 }
 
@@ -191,41 +231,58 @@ fn add_list(text: &mut String, key: &str, first: u16, count: u16) -> Result<(), 
     Ok(())
 }
 
+/// Reads a configuration with so many upstreams and peers. The ports of the peers begin at 10, so
+/// an eleventh upstream is a peer too.
+fn check_lists(
+    rt: &impl Abort,
+    alloc: Global,
+    upstreams: u16,
+    peers: u16,
+    wanted: Option<SettingsFault>,
+) -> Result<(), Fail> {
+    let mut text = String::new(alloc);
+    text.push_str("listen = \"127.0.0.1:10\"\n")?;
+    add_list(&mut text, "upstreams", 1, upstreams)?;
+    add_list(&mut text, "peers", 10, peers)?;
+    let read = read_settings(alloc, text.as_bytes());
+    assert_eq!(rt; read.err(), wanted, "{text}");
+    Ok(())
+}
+
 #[test]
 fn bounds_its_lists(rt: HostRuntime) -> Result<(), Fail> {
-    for (upstreams, peers, wanted) in [
-        (4, 16, None),
-        (5, 16, Some(SettingsFault::TooManyUpstreams)),
-        (5, 17, Some(SettingsFault::TooManyUpstreams)),
-        (4, 17, Some(SettingsFault::TooManyPeers)),
-        // The ports of the peers begin at 10, so the eleventh upstream is a peer too.
-        (11, 1, Some(SettingsFault::TooManyUpstreams)),
-    ] {
-        let mut text = String::new(rt.alloc());
-        text.push_str("listen = \"127.0.0.1:10\"\n")?;
-        add_list(&mut text, "upstreams", 1, upstreams)?;
-        add_list(&mut text, "peers", 10, peers)?;
-        let read = read_settings(rt.alloc(), text.as_bytes());
-        assert_eq!(rt; read.err(), wanted, "{text}");
+    let upstreams = Some(SettingsFault::TooManyUpstreams);
+    check_lists(&rt, rt.alloc(), 4, 16, None)?;
+    check_lists(&rt, rt.alloc(), 5, 16, upstreams)?;
+    check_lists(&rt, rt.alloc(), 5, 17, upstreams)?;
+    check_lists(&rt, rt.alloc(), 4, 17, Some(SettingsFault::TooManyPeers))?;
+    check_lists(&rt, rt.alloc(), 11, 1, upstreams)
+}
+
+/// Reads a configuration of so many octets, of which line feeds are the last.
+fn check_length(
+    rt: &impl Abort,
+    alloc: Global,
+    begin: &str,
+    length: usize,
+    wanted: Option<SettingsFault>,
+) -> Result<(), Fail> {
+    let mut octets = Vec::from_slice(alloc, begin.as_bytes())?;
+    for _ in begin.len()..length {
+        octets.push(b'\n')?;
     }
+    let read = read_settings(alloc, &octets);
+    assert_eq!(rt; read.err(), wanted, "{length}");
     Ok(())
 }
 
 #[test]
 fn bounds_its_length(rt: HostRuntime) -> Result<(), Fail> {
-    for (begin, length, wanted) in [
-        (LEAST, 65536usize, None),
-        (LEAST, 65537, Some(SettingsFault::TooLong)),
-        ("=", 65536, Some(SettingsFault::NotToml)),
-        ("=", 65537, Some(SettingsFault::TooLong)),
-    ] {
-        let mut octets = Vec::from_slice(rt.alloc(), begin.as_bytes())?;
-        for _ in begin.len()..length {
-            octets.push(b'\n')?;
-        }
-        let read = read_settings(rt.alloc(), &octets);
-        assert_eq!(rt; read.err(), wanted, "{length}");
-    }
+    let long = Some(SettingsFault::TooLong);
+    check_length(&rt, rt.alloc(), LEAST, 65536, None)?;
+    check_length(&rt, rt.alloc(), LEAST, 65537, long)?;
+    check_length(&rt, rt.alloc(), "=", 65536, Some(SettingsFault::NotToml))?;
+    check_length(&rt, rt.alloc(), "=", 65537, long)?;
     let read = read_settings(rt.alloc(), b"listen = \"\xff\"");
     assert_eq!(rt; read.err(), Some(SettingsFault::NotToml));
     Ok(())

@@ -1,6 +1,6 @@
 //! Replies that are forged by one who does not know the id of the query.
 
-use super::{LEARNT, QUESTION, RELAY, REPLY, arrival, fleet, kept, sends};
+use super::{LEARNT, QUESTION, RELAY, REPLY, arrival, fleet, keeps, sends};
 use fleet_site::Refusal;
 use std::test::Fail;
 
@@ -34,6 +34,6 @@ fn a_reply_under_each_other_id_is_for_no_question(rt: HostRuntime) -> Result<(),
     let told = world.step(&arrival(alloc, 101, 5301, 0, REPLY)?)?;
     assert!(rt; told.refused.is_none() && sends(&told, 6001, RELAY));
     assert_eq!(rt; told.taken, 1);
-    assert!(rt; kept(&world, 0, LEARNT) && world.frame(1).is_none());
+    assert!(rt; keeps(&world, 0, LEARNT) && world.frame(1).is_none());
     Ok(())
 }

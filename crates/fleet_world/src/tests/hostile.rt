@@ -3,7 +3,7 @@
 //! kept frames as they were.
 
 use super::messages::MESSAGES;
-use super::{arrival, at, local, octets, outside};
+use super::{arrival, at, frame_event, local, octets};
 use crate::{Event, Stepped, World};
 use fleet_gossip::FrameFault;
 use fleet_observe::DigestFault;
@@ -30,7 +30,7 @@ enum Way {
 
 impl Way {
     /// After how many that were not refused a world begins anew: an upstream's settle the question.
-    fn many(self) -> u32 {
+    fn limit(self) -> u32 {
         match self {
             Way::Upstream => 1,
             _ => 8,
@@ -44,12 +44,12 @@ fn event(alloc: Global, way: Way, bytes: &[u8]) -> Result<Event, Fail> {
         Way::Stranger => arrival(alloc, 103, 6003, 0x5678, bytes),
         Way::Upstream => arrival(alloc, 103, 5301, 0, bytes),
         Way::Peer => arrival(alloc, 103, 5401, 0, bytes),
-        Way::Frame => outside(alloc, 0, 103, bytes),
-        Way::Reply => learnt(alloc, 103, bytes),
+        Way::Frame => frame_event(alloc, 0, 103, bytes),
+        Way::Reply => learn_event(alloc, 103, bytes),
     }
 }
 
-fn learnt(alloc: Global, seconds: u64, bytes: &[u8]) -> Result<Event, Fail> {
+fn learn_event(alloc: Global, seconds: u64, bytes: &[u8]) -> Result<Event, Fail> {
     let bytes = octets(alloc, bytes)?;
     Ok(Event::Learn {
         site: 0,
@@ -86,7 +86,7 @@ fn id_of(message: &[u8]) -> u16 {
 
 /// A world of one site that took a frame in and swept, that asks its second upstream one question,
 /// and its first that of the message, under the message's id.
-fn running(alloc: Global, message: &[u8]) -> Result<World, Fail> {
+fn new_world(alloc: Global, message: &[u8]) -> Result<World, Fail> {
     let mut upstreams = Vec::new(alloc);
     upstreams.push(local(5301))?;
     upstreams.push(local(5302))?;
@@ -95,7 +95,7 @@ fn running(alloc: Global, message: &[u8]) -> Result<World, Fail> {
     let mut configs = Vec::new(alloc);
     configs.push(Config::new(upstreams, peers)?)?;
     let mut world = World::new(alloc, configs)?;
-    world.step(&outside(alloc, 0, 100, HELD)?)?;
+    world.step(&frame_event(alloc, 0, 100, HELD)?)?;
     world.step(&Event::Sweep { site: 0 })?;
     world.step(&arrival(alloc, 100, 6001, 0x1111, ASKED)?)?;
     world.step(&Event::Tick {
@@ -109,7 +109,7 @@ fn running(alloc: Global, message: &[u8]) -> Result<World, Fail> {
 
 /// Whether the site holds the same in both worlds, and both have the same kept frames, of which
 /// there are at most two.
-fn alike(one: &World, other: &World) -> bool {
+fn are_alike(one: &World, other: &World) -> bool {
     for number in 0..3usize {
         if one.frame(number) != other.frame(number) {
             return false;
@@ -153,7 +153,7 @@ fn check_questions(rt: &impl Abort, one: &mut World, other: &mut World) -> Resul
             seconds = seconds.saturating_add(2);
         }
         if seconds > 110 {
-            assert!(rt; alike(one, other));
+            assert!(rt; are_alike(one, other));
             return Ok(());
         }
     }
@@ -171,8 +171,8 @@ struct Twins {
 
 fn new_twins(alloc: Global, message: &[u8]) -> Result<Twins, Fail> {
     Ok(Twins {
-        world: running(alloc, message)?,
-        spared: running(alloc, message)?,
+        world: new_world(alloc, message)?,
+        spared: new_world(alloc, message)?,
         since: 0,
     })
 }
@@ -182,7 +182,7 @@ fn check_event(rt: &impl Abort, twins: &mut Twins, event: &Event) -> Result<Opti
     let done = twins.world.step(event)?;
     if done.refused.is_some() {
         assert!(rt; done.taken == 0 && done.frames.as_slice().is_empty());
-        assert!(rt; alike(&twins.world, &twins.spared));
+        assert!(rt; are_alike(&twins.world, &twins.spared));
     } else {
         assert!(rt; did_alike(&done, &twins.spared.step(event)?));
         twins.since = twins.since.saturating_add(1);
@@ -222,7 +222,7 @@ fn check_message(
             }
             let refused = check_event(rt, &mut twins, &event(alloc, way, &bytes)?)?;
             assert!(rt; count(counts, refused), "{refused:?}");
-            if twins.since == way.many() {
+            if twins.since == way.limit() {
                 check_questions(rt, &mut twins.world, &mut twins.spared)?;
                 twins = new_twins(alloc, message)?;
             }
@@ -250,15 +250,15 @@ fn check_way(rt: &impl Abort, alloc: Global, way: Way, wanted: &[Count]) -> Resu
     Ok(())
 }
 
-fn unread(fault: ReadFault, number: u32) -> Count {
+fn read_count(fault: ReadFault, number: u32) -> Count {
     (Some(Refusal::Read(fault)), number)
 }
 
-fn unmeant(fault: DigestFault, number: u32) -> Count {
+fn digest_count(fault: DigestFault, number: u32) -> Count {
     (Some(Refusal::Digest(fault)), number)
 }
 
-fn no_frame(fault: FrameFault, number: u32) -> Count {
+fn frame_count(fault: FrameFault, number: u32) -> Count {
     (Some(Refusal::Frame(fault)), number)
 }
 
@@ -267,11 +267,11 @@ fn refused_datagrams_of_strangers_change_nothing(rt: HostRuntime) -> Result<(), 
     let wanted = [
         (None, 5644),
         (Some(Refusal::Dropped), 24413),
-        unread(ReadFault::QuestionCount, 6202),
-        unread(ReadFault::Truncated, 84),
-        unread(ReadFault::BadLabel, 83),
-        unread(ReadFault::BadPointer, 448),
-        unread(ReadFault::LongName, 1336),
+        read_count(ReadFault::QuestionCount, 6202),
+        read_count(ReadFault::Truncated, 84),
+        read_count(ReadFault::BadLabel, 83),
+        read_count(ReadFault::BadPointer, 448),
+        read_count(ReadFault::LongName, 1336),
     ];
     check_way(&rt, rt.alloc(), Way::Stranger, &wanted)
 }
@@ -282,14 +282,14 @@ fn refused_datagrams_of_an_upstream_change_nothing(rt: HostRuntime) -> Result<()
         (None, 15886),
         (Some(Refusal::Dropped), 13857),
         (Some(Refusal::Unmatched), 3857),
-        unread(ReadFault::QuestionCount, 600),
-        unread(ReadFault::Truncated, 2062),
-        unread(ReadFault::BadLabel, 561),
-        unread(ReadFault::BadPointer, 730),
-        unread(ReadFault::LongName, 3),
-        unread(ReadFault::BadRdata, 143),
-        unmeant(DigestFault::NotReply, 136),
-        unmeant(DigestFault::BadChain, 375),
+        read_count(ReadFault::QuestionCount, 600),
+        read_count(ReadFault::Truncated, 2062),
+        read_count(ReadFault::BadLabel, 561),
+        read_count(ReadFault::BadPointer, 730),
+        read_count(ReadFault::LongName, 3),
+        read_count(ReadFault::BadRdata, 143),
+        digest_count(DigestFault::NotReply, 136),
+        digest_count(DigestFault::BadChain, 375),
     ];
     check_way(&rt, rt.alloc(), Way::Upstream, &wanted)
 }
@@ -298,16 +298,16 @@ fn refused_datagrams_of_an_upstream_change_nothing(rt: HostRuntime) -> Result<()
 fn check_frames(rt: &impl Abort, alloc: Global, way: Way) -> Result<(), Fail> {
     let wanted = [
         (None, 2711),
-        no_frame(FrameFault::BadMagic, 32420),
-        no_frame(FrameFault::BadVersion, 280),
-        no_frame(FrameFault::Truncated, 525),
-        no_frame(FrameFault::BadKind, 279),
-        no_frame(FrameFault::BadRank, 170),
-        no_frame(FrameFault::BadMoment, 408),
-        no_frame(FrameFault::BadLife, 431),
-        no_frame(FrameFault::BadName, 250),
-        no_frame(FrameFault::BadBody, 583),
-        no_frame(FrameFault::Trailing, 153),
+        frame_count(FrameFault::BadMagic, 32420),
+        frame_count(FrameFault::BadVersion, 280),
+        frame_count(FrameFault::Truncated, 525),
+        frame_count(FrameFault::BadKind, 279),
+        frame_count(FrameFault::BadRank, 170),
+        frame_count(FrameFault::BadMoment, 408),
+        frame_count(FrameFault::BadLife, 431),
+        frame_count(FrameFault::BadName, 250),
+        frame_count(FrameFault::BadBody, 583),
+        frame_count(FrameFault::Trailing, 153),
     ];
     check_way(rt, alloc, way, &wanted)
 }
@@ -326,15 +326,15 @@ fn refused_frames_change_nothing(rt: HostRuntime) -> Result<(), Fail> {
 fn refused_replies_change_nothing(rt: HostRuntime) -> Result<(), Fail> {
     let wanted = [
         (None, 18681),
-        unread(ReadFault::TooShort, 60),
-        unread(ReadFault::QuestionCount, 7056),
-        unread(ReadFault::Truncated, 2534),
-        unread(ReadFault::BadLabel, 647),
-        unread(ReadFault::BadPointer, 1191),
-        unread(ReadFault::LongName, 1341),
-        unread(ReadFault::BadRdata, 143),
-        unmeant(DigestFault::NotReply, 6101),
-        unmeant(DigestFault::BadChain, 456),
+        read_count(ReadFault::TooShort, 60),
+        read_count(ReadFault::QuestionCount, 7056),
+        read_count(ReadFault::Truncated, 2534),
+        read_count(ReadFault::BadLabel, 647),
+        read_count(ReadFault::BadPointer, 1191),
+        read_count(ReadFault::LongName, 1341),
+        read_count(ReadFault::BadRdata, 143),
+        digest_count(DigestFault::NotReply, 6101),
+        digest_count(DigestFault::BadChain, 456),
     ];
     check_way(&rt, rt.alloc(), Way::Reply, &wanted)
 }

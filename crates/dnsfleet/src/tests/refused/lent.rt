@@ -5,52 +5,34 @@ ghost use Rattle.std.specs.Prelude.{◌<◌};
 use crate::command::{Command, read_command};
 use crate::fleet::Fleet;
 use crate::print::print_looked;
-use crate::tests::refused::lines::{begin, example_of, lines_of, run_line};
+use crate::tests::examples::example_of;
+use crate::tests::refused::lines::{Line, begin, lines_of, run_line};
 use crate::tests::refusing::Refusing;
 use fleet_cache::{Answer, Cache, Chain, Shown};
 use fleet_name::Octets;
 use fleet_observe::{Moment, Rows, add_rows, add_soa};
 use fleet_site::Looked;
 use fleet_wire::{Header, Outline, Question, read_query, write_reply};
+use fleet_world::World;
 use std::alloc::{Allocator, Global};
+use std::process::Abort;
 use std::test::Fail;
 
-/// What the examples show whose questions are answered so, and how many questions each has.
-const LENT: [(&str, u64); 12] = [
-    (
-        "of two observations the higher rank answers while it lasts",
-        3,
-    ),
-    ("the same in the other order", 3),
-    (
-        "of the same rank the later answers, and the one that lasts longer after it",
-        3,
-    ),
-    ("what is learnt is answered until its end", 2),
-    (
-        "a name error behind two aliases denies the last target, for each type but the alias itself",
-        4,
-    ),
-    (
-        "a name error denies the names below it until data there is learnt later",
-        3,
-    ),
-    ("eight aliases are followed", 1),
-    ("a ninth is a miss", 1),
-    ("so are aliases of one another", 1),
-    (
-        "a denial holds for three hours at most, and is told with the SOA of an ancestor",
-        1,
-    ),
-    (
-        "no data behind an alias is told with the alias and the SOA",
-        1,
-    ),
-    (
-        "an alias whose target is not known is a miss, and answers where it is asked for",
-        2,
-    ),
-];
+/// How many questions an example has, and what it shows.
+const LENT: &str = "\
+3 of two observations the higher rank answers while it lasts
+3 the same in the other order
+3 of the same rank the later answers, and the one that lasts longer after it
+2 what is learnt is answered until its end
+4 a name error behind two aliases denies the last target, for each type but the alias itself
+3 a name error denies the names below it until data there is learnt later
+1 eight aliases are followed
+1 a ninth is a miss
+1 so are aliases of one another
+1 a denial holds for three hours at most, and is told with the SOA of an ancestor
+1 no data behind an alias is told with the alias and the SOA
+2 an alias whose target is not known is a miss, and answers where it is asked for
+";
 
 /// The records of a part.
 fn rows_of<'a, A: Allocator>(part: Shown<'a, A>) -> Rows<'a, A> {
@@ -76,7 +58,7 @@ fn add_links<'a, A: Allocator + Copy>(
 }
 
 /// The reply that tells links and the records that they lead to.
-fn found<A: Allocator + Copy>(
+fn found_reply<A: Allocator + Copy>(
     alloc: A,
     header: Header,
     question: &Question<A>,
@@ -90,7 +72,7 @@ fn found<A: Allocator + Copy>(
 }
 
 /// The reply that tells links and the denial that they lead to, with its SOA.
-fn denied<A: Allocator + Copy>(
+fn denial_reply<A: Allocator + Copy>(
     alloc: A,
     header: Header,
     rcode: u8,
@@ -108,23 +90,23 @@ fn denied<A: Allocator + Copy>(
 }
 
 /// What a site makes of an answer.
-fn looked_of<A: Allocator + Copy>(
+fn look_at<A: Allocator + Copy>(
     alloc: A,
     header: Header,
     question: &Question<A>,
     answer: &Answer<'_, A>,
 ) -> Result<Looked<A>, Fail> {
     let reply = match answer {
-        Answer::Found { chain, set } => found(alloc, header, question, chain, *set)?,
-        Answer::NoData { chain, soa } => denied(alloc, header, 0, question, chain, *soa)?,
-        Answer::NxDomain { chain, soa } => denied(alloc, header, 3, question, chain, *soa)?,
+        Answer::Found { chain, set } => found_reply(alloc, header, question, chain, *set)?,
+        Answer::NoData { chain, soa } => denial_reply(alloc, header, 0, question, chain, *soa)?,
+        Answer::NxDomain { chain, soa } => denial_reply(alloc, header, 3, question, chain, *soa)?,
         Answer::Miss => return Ok(Looked::Miss),
     };
     Ok(Looked::Reply(Octets::new(reply)))
 }
 
 /// The reply to a question, looked up while every call for memory is refused, as it is printed.
-fn answered<A: Allocator + Copy>(
+fn print_answer<A: Allocator + Copy>(
     alloc: A,
     refusing: &Refusing<Global>,
     cache: &Cache<A>,
@@ -135,39 +117,67 @@ fn answered<A: Allocator + Copy>(
     refusing.refuse_all(true);
     let answer = cache.answer(&question, now);
     refusing.refuse_all(false);
-    let looked = looked_of(alloc, header, &question, &answer)?;
+    let looked = look_at(alloc, header, &question, &answer)?;
     let mut printed = String::new(alloc);
     print_looked(&mut printed, &looked)?;
     Ok(printed)
 }
 
+/// Does a line, and says whether it is a question.
+fn run_lent<A: Allocator + Copy>(
+    rt: &impl Abort,
+    alloc: A,
+    refusing: &Refusing<Global>,
+    world: &mut World<A>,
+    line: &Line<'_>,
+) -> Result<bool, Fail> {
+    let Command::Ask {
+        site,
+        now,
+        question,
+    } = read_command(line.text)?
+    else {
+        run_line(world, alloc, line.text)?;
+        return Ok(false);
+    };
+    let octets = question.octets(alloc)?;
+    let cache = world.site(site).ok_or("no site")?.cache();
+    let printed = print_answer(alloc, refusing, cache, now, octets.as_slice())?;
+    assert_eq!(rt; printed.as_str(), line.prints);
+    Ok(true)
+}
+
+/// Does the lines of an example, and says how many are questions.
+fn count_lent<A: Allocator + Copy>(
+    rt: &impl Abort,
+    alloc: A,
+    refusing: &Refusing<Global>,
+    lines: &[Line<'_>],
+) -> Result<u64, Fail> {
+    let mut fleet = Fleet::new(alloc);
+    begin(&mut fleet, lines.first().ok_or("no line")?.text)?;
+    let mut count = 0u64;
+    for line in lines {
+        if run_lent(rt, alloc, refusing, fleet.world()?, line)? {
+            count = count.saturating_add(1);
+        }
+    }
+    Ok(count)
+}
+
+/// Does the lines of the example that shows this.
+fn run_example(rt: &impl Abort, alloc: Global, shows: &str) -> Result<u64, Fail> {
+    let example = example_of(alloc, shows)?;
+    let lines = lines_of(alloc, example.transcript)?;
+    let refusing = Refusing::after(alloc, 0);
+    count_lent(rt, &refusing, &refusing, &lines)
+}
+
 #[test]
 fn answers_are_lent_where_no_memory_is_left(rt: HostRuntime) -> Result<(), Fail> {
-    for (shows, questions) in LENT {
-        let example = example_of(shows).ok_or("no such example")?;
-        let refusing = Refusing::after(rt.alloc(), 0);
-        let lines = lines_of(rt.alloc(), example.transcript)?;
-        let mut fleet = Fleet::new(&refusing);
-        begin(&mut fleet, lines.first().ok_or("no line")?.text)?;
-        let mut asked = 0u64;
-        for line in &lines {
-            let world = fleet.world()?;
-            let Command::Ask {
-                site,
-                now,
-                question,
-            } = read_command(line.text)?
-            else {
-                run_line(world, &refusing, line.text)?;
-                continue;
-            };
-            let octets = question.octets(rt.alloc())?;
-            let cache = world.site(site).ok_or("no site")?.cache();
-            let printed = answered(&refusing, &refusing, cache, now, octets.as_slice())?;
-            assert_eq!(rt; printed.as_str(), line.prints);
-            asked = asked.saturating_add(1);
-        }
-        assert_eq!(rt; asked, questions);
+    for row in LENT.lines() {
+        let (count, shows) = row.split_once(' ').ok_or("no count")?;
+        assert_eq!(rt; run_example(&rt, rt.alloc(), shows)?, count.parse::<u64>()?);
     }
     Ok(())
 }

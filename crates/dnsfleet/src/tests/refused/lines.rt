@@ -4,10 +4,6 @@ use crate::What;
 use crate::command::{Command, Step, read_command};
 use crate::fleet::Fleet;
 use crate::print::{print_looked, print_same, print_site, print_stepped};
-use crate::tests::datagrams::DATAGRAMS;
-use crate::tests::examples::Example;
-use crate::tests::frames::FRAMES;
-use crate::tests::questions::QUESTIONS;
 use crate::tests::refused::parts::part_of;
 use fleet_name::Octets;
 use fleet_observe::Moment;
@@ -22,18 +18,6 @@ pub struct Line<'a> {
     pub text: &'a str,
     /// What it prints.
     pub prints: &'a str,
-}
-
-/// The example that shows this.
-pub fn example_of(shows: &str) -> Option<Example> {
-    for examples in [&QUESTIONS[..], &DATAGRAMS[..], &FRAMES[..]] {
-        for example in examples {
-            if example.shows == shows {
-                return Some(*example);
-            }
-        }
-    }
-    None
 }
 
 /// The lines of a transcript.
@@ -67,6 +51,45 @@ pub fn begin<A: Allocator + Copy>(fleet: &mut Fleet<A>, first: &str) -> Result<(
     Ok(())
 }
 
+/// Asks a site.
+fn ask<A: Allocator + Copy>(
+    world: &mut World<A>,
+    alloc: A,
+    site: usize,
+    now: Moment,
+    octets: &[u8],
+) -> Result<Ended<A>, Fail> {
+    let mut out = String::new(alloc);
+    match world.ask(site, now, octets) {
+        Ok(looked) => print_looked(&mut out, &looked)?,
+        Err(WorldFault::Memory { taken }) => return Ok(Ended::Short(taken)),
+        Err(fault) => return Err(fault.into()),
+    }
+    Ok(Ended::Done(out))
+}
+
+/// Whether two sites hold the same.
+fn have_same_items<A: Allocator + Copy>(
+    world: &World<A>,
+    one: usize,
+    other: usize,
+) -> Result<bool, Fail> {
+    let one = world.site(one).ok_or("no site")?;
+    let other = world.site(other).ok_or("no site")?;
+    Ok(one.cache().same(other.cache()))
+}
+
+/// Does an event.
+fn run_step<A: Allocator + Copy>(
+    world: &mut World<A>,
+    alloc: A,
+    step: Step<'_>,
+) -> Result<Ended<A>, Fail> {
+    let event = step.event(alloc)?;
+    let stepped = world.step(&event);
+    end_of(world, alloc, &event, stepped)
+}
+
 /// Does a line.
 pub fn run_line<A: Allocator + Copy>(
     world: &mut World<A>,
@@ -80,31 +103,16 @@ pub fn run_line<A: Allocator + Copy>(
             site,
             now,
             question,
-        } => {
-            let question = question.octets(alloc)?;
-            match world.ask(site, now, question.as_slice()) {
-                Ok(looked) => print_looked(&mut out, &looked)?,
-                Err(WorldFault::Memory { taken }) => return Ok(Ended::Short(taken)),
-                Err(fault) => return Err(fault.into()),
-            }
-        }
+        } => return ask(world, alloc, site, now, question.octets(alloc)?.as_slice()),
         Command::Show { site } => print_site(&mut out, world.site(site).ok_or("no site")?)?,
-        Command::Same { one, other } => {
-            let one = world.site(one).ok_or("no site")?;
-            let other = world.site(other).ok_or("no site")?;
-            print_same(&mut out, one.cache().same(other.cache()))?;
-        }
-        Command::Step(step) => {
-            let event = step.event(alloc)?;
-            let stepped = world.step(&event);
-            return ended_of(world, alloc, &event, stepped);
-        }
+        Command::Same { one, other } => print_same(&mut out, have_same_items(world, one, other)?)?,
+        Command::Step(step) => return run_step(world, alloc, step),
     }
     Ok(Ended::Done(out))
 }
 
 /// What an event prints.
-pub fn printed_of<A: Allocator + Copy>(
+pub fn print_event<A: Allocator + Copy>(
     world: &World<A>,
     alloc: A,
     event: &Event<A>,
@@ -116,17 +124,17 @@ pub fn printed_of<A: Allocator + Copy>(
 }
 
 /// What became of an event.
-fn ended_of<A: Allocator + Copy>(
+fn end_of<A: Allocator + Copy>(
     world: &World<A>,
     alloc: A,
     event: &Event<A>,
     stepped: Result<Stepped<A>, WorldFault<A>>,
 ) -> Result<Ended<A>, Fail> {
     match stepped {
-        Ok(stepped) => Ok(Ended::Done(printed_of(world, alloc, event, &stepped)?)),
+        Ok(stepped) => Ok(Ended::Done(print_event(world, alloc, event, &stepped)?)),
         Err(WorldFault::Memory { taken }) => Ok(Ended::Short(taken)),
         Err(WorldFault::FramesLost(stepped)) => {
-            Ok(Ended::Lost(printed_of(world, alloc, event, &stepped)?))
+            Ok(Ended::Lost(print_event(world, alloc, event, &stepped)?))
         }
         Err(fault) => Err(fault.into()),
     }

@@ -2,9 +2,9 @@
 
 use crate::command::{Command, read_command};
 use crate::fleet::Fleet;
+use crate::tests::examples::example_of;
 use crate::tests::refused::lines::{
-    Line, example_of, fleet_after, has_same_sites, keeps_same_frames, lines_of, printed_of,
-    run_part,
+    Line, fleet_after, has_same_sites, keeps_same_frames, lines_of, print_event, run_part,
 };
 use crate::tests::refused::{MANY, REFUSED, begin_refused, check_lost};
 use crate::tests::refusing::Refusing;
@@ -46,7 +46,7 @@ fn check_run<A: Allocator + Copy>(
 ) -> Result<(), Fail> {
     assert_eq!(rt; all.len(), steps.len());
     for ((event, stepped), line) in events.iter().zip(all).zip(steps) {
-        let text = printed_of(world, alloc, event, stepped)?;
+        let text = print_event(world, alloc, event, stepped)?;
         assert_eq!(rt; text.as_str(), line.prints);
     }
     Ok(())
@@ -101,14 +101,33 @@ fn go_on<A: Allocator + Copy>(
         }
         WorldFault::FramesLost(stepped) => {
             let event = events.get(at).ok_or("no event")?;
-            let text = printed_of(fleet.world()?, ample, event, &stepped)?;
+            let text = print_event(fleet.world()?, ample, event, &stepped)?;
             check_lost(rt, ample, fleet, &mut before, line, text.as_str())
         }
         fault => Err(fault.into()),
     }
 }
 
-/// Runs events at once on a fleet whose memory may be refused.
+/// Runs events at once on a fleet that has begun, and whose memory may be refused.
+fn run_events<A: Allocator + Copy>(
+    rt: &impl Abort,
+    ample: A,
+    refusing: &Refusing<Global>,
+    fleet: &mut Fleet<A>,
+    first: &str,
+    steps: &[Line<'_>],
+) -> Result<(), Fail> {
+    let events = events_of(ample, steps)?;
+    let had_refused = refusing.has_refused();
+    let ran = fleet.world()?.run(&events);
+    assert_eq!(rt; ran.is_ok(), refusing.has_refused() == had_refused);
+    match ran {
+        Ok(all) => check_run(rt, ample, fleet.world()?, &events, &all, steps),
+        Err(halted) => go_on(rt, ample, fleet, first, steps, &events, halted),
+    }
+}
+
+/// Makes the sites of a fleet whose memory may be refused, and runs events at once.
 fn run_steps<A: Allocator + Copy>(
     rt: &impl Abort,
     ample: A,
@@ -117,16 +136,9 @@ fn run_steps<A: Allocator + Copy>(
     first: &str,
     steps: &[Line<'_>],
 ) -> Result<(), Fail> {
-    let events = events_of(ample, steps)?;
     let mut fleet = Fleet::new(alloc);
     begin_refused(rt, &mut fleet, refusing, first)?;
-    let had_refused = refusing.has_refused();
-    let ran = fleet.world()?.run(&events);
-    assert_eq!(rt; ran.is_ok(), refusing.has_refused() == had_refused);
-    match ran {
-        Ok(all) => check_run(rt, ample, fleet.world()?, &events, &all, steps),
-        Err(halted) => go_on(rt, ample, &mut fleet, first, steps, &events, halted),
-    }
+    run_events(rt, ample, refusing, &mut fleet, first, steps)
 }
 
 /// Runs the events of an example at once with a call refused, and says whether that call was made.
@@ -157,7 +169,7 @@ fn refuse_each(rt: &impl Abort, alloc: Global, lines: &[Line<'_>]) -> Result<(),
 #[test]
 fn a_run_without_memory_goes_on_where_it_halted(rt: HostRuntime) -> Result<(), Fail> {
     for shows in REFUSED {
-        let example = example_of(shows).ok_or("no example")?;
+        let example = example_of(rt.alloc(), shows)?;
         let lines = lines_of(rt.alloc(), example.transcript)?;
         refuse_each(&rt, rt.alloc(), &lines)?;
     }

@@ -1,9 +1,6 @@
 //! Scripts with one call for memory refused.
 
-use crate::tests::datagrams::DATAGRAMS;
-use crate::tests::examples::Example;
-use crate::tests::frames::FRAMES;
-use crate::tests::questions::QUESTIONS;
+use crate::tests::examples::{Example, all_examples};
 use crate::tests::refused::MANY;
 use crate::tests::refused::lines::{Line, lines_of};
 use crate::tests::refusing::Refusing;
@@ -66,10 +63,8 @@ fn refuse_each(rt: &impl Abort, alloc: Global, example: &Example) -> Result<(), 
 
 #[test]
 fn a_script_ends_where_a_call_is_refused(rt: HostRuntime) -> Result<(), Fail> {
-    for examples in [&QUESTIONS[..], &DATAGRAMS[..], &FRAMES[..]] {
-        for example in examples {
-            refuse_each(&rt, rt.alloc(), example)?;
-        }
+    for example in &all_examples(rt.alloc())? {
+        refuse_each(&rt, rt.alloc(), example)?;
     }
     Ok(())
 }

@@ -89,7 +89,7 @@ fn clock<A: Allocator>(alloc: A) -> Result<ListClock<A>, Fail> {
 }
 
 /// What three turns may count where the datagram came in.
-fn counted(sent: u64, lost: u64, faults: u64, short: u64) -> Report {
+fn report_of(sent: u64, lost: u64, faults: u64, short: u64) -> Report {
     Report {
         turns: 3,
         received: 1,
@@ -105,11 +105,11 @@ fn counted(sent: u64, lost: u64, faults: u64, short: u64) -> Report {
 /// the question, which then comes a turn later, or another.
 fn short_reports() -> [Report; 5] {
     [
-        counted(0, 0, 0, 1),
-        counted(2, 0, 0, 1),
-        counted(2, 1, 0, 0),
-        counted(2, 0, 1, 0),
-        counted(3, 0, 1, 0),
+        report_of(0, 0, 0, 1),
+        report_of(2, 0, 0, 1),
+        report_of(2, 1, 0, 0),
+        report_of(2, 0, 1, 0),
+        report_of(3, 0, 1, 0),
     ]
 }
 
@@ -143,14 +143,14 @@ fn is_sending<A: Allocator + Copy>(outcome: &Outcome<A>, port: u16, octets: &[u8
     }
 }
 
-/// Checks the table of a site after its turns: where a query went out and its failure did not, that
-/// failure is due at 106; and where none went out, the question is as new.
-fn check_table<A: Allocator + Copy>(
+/// Checks a tick after the turns: where a query went out and its failure did not, that failure is
+/// due at 106.
+fn check_tick<A: Allocator + Copy>(
     rt: &impl Abort,
     site: &mut Site<A>,
+    late: Moment,
     sent: u64,
 ) -> Result<(), Fail> {
-    let late = Moment::new(106).ok_or("no moment")?;
     let told = site.tick(late)?;
     assert!(rt; !told.more);
     if sent == 2 {
@@ -158,8 +158,20 @@ fn check_table<A: Allocator + Copy>(
     } else {
         assert!(rt; told.packets.as_slice().is_empty());
     }
-    let asked = site.datagram(late, addr(6001), QUESTION, 0x1234)?;
-    assert!(rt; is_sending(&asked, 5301, QUERY));
+    Ok(())
+}
+
+/// Checks the table of a site after its turns: it has one failure that is due, or none, and then
+/// the question is as new.
+fn check_table<A: Allocator + Copy>(
+    rt: &impl Abort,
+    site: &mut Site<A>,
+    sent: u64,
+) -> Result<(), Fail> {
+    let late = Moment::new(106).ok_or("no moment")?;
+    check_tick(rt, site, late, sent)?;
+    let told = site.datagram(late, addr(6001), QUESTION, 0x1234)?;
+    assert!(rt; is_sending(&told, 5301, QUERY));
     Ok(())
 }
 
@@ -192,7 +204,7 @@ fn a_server_counts_what_found_no_memory(rt: HostRuntime) -> Result<(), Fail> {
     let mut met = [false; 5];
     for call in 1..MANY {
         let report = serve_refused(&rt, rt.alloc(), call)?;
-        if report == counted(3, 0, 0, 0) {
+        if report == report_of(3, 0, 0, 0) {
             assert_eq!(rt; met, [true; 5]);
             return Ok(());
         }

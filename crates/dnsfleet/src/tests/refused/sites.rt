@@ -21,25 +21,41 @@ fn site<A: Allocator + Copy>(alloc: A, ample: A) -> Result<Site<A>, Fail> {
     Ok(Site::new(alloc, Config::new(upstreams, Vec::new(ample))?))
 }
 
+/// The site learns the reply: how many observations it took, and whether that was all.
+fn learn<A: Allocator + Copy>(site: &mut Site<A>, now: Moment) -> (usize, bool) {
+    match site.learn(now, REPLY) {
+        Ok(outcome) => (outcome.taken, true),
+        Err(SiteFault::OutOfMemory { taken }) => (taken, false),
+    }
+}
+
+/// A site whose memory may be refused learns the reply, a second time where it was; says whether it
+/// was.
+fn check_learning<A: Allocator + Copy>(
+    rt: &impl Abort,
+    refusing: &Refusing<Global>,
+    site: &mut Site<A>,
+) -> Result<bool, Fail> {
+    let now = Moment::new(100).ok_or("no moment")?;
+    let (taken, is_all) = learn(site, now);
+    assert_eq!(rt; is_all, !refusing.has_refused());
+    assert_eq!(rt; site.clock(), now);
+    assert_eq!(rt; site.cache().len(), taken);
+    if is_all {
+        assert_eq!(rt; taken, 3);
+        return Ok(false);
+    }
+    assert_eq!(rt; learn(site, now), (3, true));
+    assert_eq!(rt; site.cache().len(), 3);
+    Ok(true)
+}
+
 /// A site learns the reply with a call refused; says whether that call was made.
 fn learn_refused(rt: &impl Abort, alloc: Global, call: u64) -> Result<bool, Fail> {
     let ample = Refusing::after(alloc, 0);
     let refusing = Refusing::after(alloc, call);
     let mut site = site(&refusing, &ample)?;
-    let now = Moment::new(100).ok_or("no moment")?;
-    let learnt = site.learn(now, REPLY);
-    assert_eq!(rt; learnt.is_err(), refusing.has_refused());
-    assert_eq!(rt; site.clock(), now);
-    match learnt {
-        Ok(outcome) => {
-            assert_eq!(rt; (outcome.taken, site.cache().len()), (3, 3));
-            return Ok(false);
-        }
-        Err(SiteFault::OutOfMemory { taken }) => assert_eq!(rt; site.cache().len(), taken),
-    }
-    assert_eq!(rt; site.learn(now, REPLY)?.taken, 3);
-    assert_eq!(rt; site.cache().len(), 3);
-    Ok(true)
+    check_learning(rt, &refusing, &mut site)
 }
 
 #[test]

@@ -1,15 +1,15 @@
 use Rattle.std.proofs.Common.{◌≡◌, ◌+◌, true, false, List, length, Option, Some, None, is_some, Bor, sym, ap, ◌∙◌, arith}
 use mathlib.Core.Bool.{false≢true}
 use Rattle.std.specs.Iterator.{YieldsFirstRef}
-use Rattle.fleet_observe.specs.Fact.{Fact}
+use Rattle.fleet_observe.specs.Observation.{ObservationData}
 use Rattle.fleet_cache.proofs.cache.count.Goals as goal
 
 -- where one comes, one less is left; else none is
-one_less : (items new : List Fact) (o : Option (Bor Fact)) → YieldsFirstRef (λ s. s) items o new → is_some o ≡ true → length items ≡ length new + 1
+one_less : (items new : List ObservationData) (o : Option (Bor ObservationData)) → YieldsFirstRef (λ s. s) items o new → is_some o ≡ true → length items ≡ length new + 1
 one_less items new None steps e = absurd (false≢true e)
 one_less items new (Some x) steps e = let n = ap length steps in omega (arith, n)
 
-none_left : (items new : List Fact) (o : Option (Bor Fact)) → YieldsFirstRef (λ s. s) items o new → is_some o ≡ false → length items ≡ 0
+none_left : (items new : List ObservationData) (o : Option (Bor ObservationData)) → YieldsFirstRef (λ s. s) items o new → is_some o ≡ false → length items ≡ 0
 none_left items new None steps e = ap length steps.0
 none_left items new (Some x) steps e = absurd (false≢true (sym e))
 

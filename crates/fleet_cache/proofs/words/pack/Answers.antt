@@ -1,7 +1,7 @@
 use Rattle.std.proofs.Common.{◌≡◌, ◌<◌, length, refl, ◌∙◌, ap, arith}
 use Rattle.std.proofs.lemmas.Bool.Decides.{nat_tests}
 use Rattle.fleet_cache.specs.Packed.{weights, weigh}
-use Rattle.fleet_cache.proofs.Packing.{bytes_read, so_far, all_packed}
+use Rattle.fleet_cache.proofs.Packing.{bytes_read, words_so_far, all_packed}
 use Rattle.fleet_cache.proofs.words.pack.Goals as goal
 
 pub loop-rest-init : goal.loop-rest-init
@@ -20,7 +20,7 @@ loop-rest-smaller c =
 pub loop-rest-preserved : goal.loop-rest-preserved
 loop-rest-preserved c =
     let some : 0 < length c.loop-rest.rest.now = grind (arith, nat_tests, c.is_empty.ensures, c.loop-rest-test.true) in
-    so_far c.args.octets.now c.loop-rest.words.items c.push.new.self.items c.loop-rest.rest.now c.split_at.result.1.now c.word_of.result c.min.result c.loop-rest.invariant.0 c.loop-rest.invariant.1 some c.min.ensures
+    words_so_far c.args.octets.now c.loop-rest.words.items c.push.new.self.items c.loop-rest.rest.now c.split_at.result.1.now c.word_of.result c.min.result c.loop-rest.invariant.0 c.loop-rest.invariant.1 some c.min.ensures
     (c.word_of.ensures.word ∙ ap (weigh weights) c.split_at.ensures.front) c.split_at.ensures.back c.push.ensures.items
 
 pub returns-clause-words : goal.returns-clause-words

@@ -1,7 +1,7 @@
 use Rattle.std.proofs.Common.{◌≡◌, ◌++◌, [], ℕ, List, length}
 use Rattle.std.specs.Prelude.{MatchOption}
 use Rattle.std.specs.List.{flat_map}
-use Rattle.fleet_observe.specs.Body.{sized, positive_body}
+use Rattle.fleet_observe.specs.Body.{octets_with_length, positive_body}
 use Rattle.fleet_gossip.specs.Entry.{AreFirstRdatas}
 use Rattle.fleet_gossip.specs.Steps.{EndWith}
 use Rattle.fleet_gossip.proofs.body.read_rdatas.Given as goal
@@ -11,7 +11,7 @@ invariant-loop l = record {
   before : List (List ℕ);
   first : AreFirstRdatas l.rtype before;
   ends : MatchOption l.last (before ≡ []) (λ r. EndWith before r.now);
-  whole : l.fn.reader ≡ flat_map sized before ++ l.reader;
+  whole : l.fn.reader ≡ flat_map octets_with_length before ++ l.reader;
   counted : length before ≡ l.counter;
   size : l.size ≡ length (positive_body before);
 }

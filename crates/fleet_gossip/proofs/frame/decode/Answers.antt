@@ -1,6 +1,6 @@
 use Rattle.std.proofs.Common.{inr}
 use Rattle.std.proofs.lemmas.Result.{err_from_is_err_and}
-use Rattle.fleet_gossip.proofs.FrameSteps.{spelled, has_entries, if_err}
+use Rattle.fleet_gossip.proofs.FrameSteps.{spells_frame, has_entries, if_err}
 use Rattle.fleet_gossip.proofs.Frames.{list_or_fault}
 use Rattle.fleet_gossip.proofs.Memory.{fault_other}
 use Rattle.fleet_gossip.proofs.frame.decode.Goals as goal
@@ -26,4 +26,4 @@ returns-in_err-observations-clause-memory g c =
 pub returns-clause-found : goal.returns-clause-found
 returns-clause-found g c =
     let of = c.in_ok-entries.ensures in
-    spelled _ _ _ _ of.opened of.fits c.in_ok-observations.ensures.found
+    spells_frame _ _ _ _ of.opened of.fits c.in_ok-observations.ensures.found

@@ -2,8 +2,8 @@ use Rattle.std.proofs.Common.{arith}
 use Rattle.fleet_gossip.proofs.PackSteps.{frame_at_least, fits_more}
 use Rattle.fleet_gossip.proofs.frame.frame_size.Goals as goal
 
-pub returns-then-size-gt-MAX_FRAME : goal.returns-then-size-gt-MAX_FRAME
-returns-then-size-gt-MAX_FRAME g c =
+pub returns-then-size-gt-LONGEST_FRAME : goal.returns-then-size-gt-LONGEST_FRAME
+returns-then-size-gt-LONGEST_FRAME g c =
     let size = c.entry_size-size.ensures in
     omega (arith, frame_at_least _ _ _ c.loop-observation-test.true c.observation-item.is, c.loop-observation.invariant.counted, size.value)
 

@@ -1,5 +1,5 @@
 use Rattle.std.proofs.lemmas.Result.{err_from_is_err_and, MatchResult-weaker}
-use Rattle.fleet_gossip.proofs.FrameSteps.{bad_magic, version_cut, bad_version, count_cut, opened}
+use Rattle.fleet_gossip.proofs.FrameSteps.{bad_magic, version_cut, bad_version, count_cut, opening_read}
 use Rattle.fleet_gossip.proofs.frame.read_count.Goals as goal
 
 pub returns-then-magic-ne-MAGIC : goal.returns-then-magic-ne-MAGIC
@@ -16,5 +16,5 @@ returns-then-version-ne-VERSION c = bad_version _ _ _ c.in_ok-magic.ensures c.if
 pub returns : goal.returns
 returns c =
     MatchResult-weaker c.read_u16-2.result c.read_u16-2.ensures
-    (λ n h. opened _ _ _ c.in_ok-magic.ensures c.if-magic-ne-MAGIC.false _ _ c.in_ok-version.ensures c.if-version-ne-VERSION.false n _ h)
+    (λ n h. opening_read _ _ _ c.in_ok-magic.ensures c.if-magic-ne-MAGIC.false _ _ c.in_ok-version.ensures c.if-version-ne-VERSION.false n _ h)
     (λ f h. count_cut _ _ _ c.in_ok-magic.ensures c.if-magic-ne-MAGIC.false _ _ c.in_ok-version.ensures c.if-version-ne-VERSION.false f h)

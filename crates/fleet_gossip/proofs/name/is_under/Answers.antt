@@ -1,7 +1,8 @@
 use Rattle.std.proofs.Common.{◌≡◌, ◌∙◌, sym, ap, subst, arith, rules, length, IsTrue}
 use Rattle.std.proofs.Common.{ℕ, List}
 use Rattle.fleet_name.specs.Name.{wire, IsUnder}
-use Rattle.fleet_gossip.proofs.Under.{wire_long, cut_off, name_behind, under_behind, under_before, under_same, under_self, names_same}
+use Rattle.fleet_name.proofs.Lemmas.{wire_some, wire_exact}
+use Rattle.fleet_gossip.proofs.Under.{drop_first, name_behind, under_behind, under_before, under_same, under_self}
 use Rattle.fleet_gossip.proofs.name.is_under.Goals as goal
 
 pub loop-rest-init : goal.loop-rest-init
@@ -12,19 +13,19 @@ loop-rest-init c =
       whole = name.whole;
       named = name.named;
       same = λ n a named is is'.
-          let one = names_same n name.name named name.named (sym is ∙ name.whole) in
+          let one = wire_exact n name.name (sym is ∙ name.whole) in
           ((λ u. subst (λ (x : List (List ℕ)). IsUnder x a) one u), (λ u. subst (λ (x : List (List ℕ)). IsUnder x a) (sym one) u));
     }
 
 pub split_at-requires : goal.split_at-requires
 split_at-requires c =
     let i = c.loop-rest.invariant in let other = c.requires.ancestor in
-    (cut_off _ _ c.from.ensures i.left i.whole (omega (arith, c.loop-rest-test.true, ap length other.whole, wire_long other.name))).within
+    (drop_first _ _ c.from.ensures i.left i.whole (omega (arith, c.loop-rest-test.true, ap length other.whole, wire_some other.name))).within
 
 pub loop-rest-preserved : goal.loop-rest-preserved
 loop-rest-preserved c =
     let i = c.loop-rest.invariant in let other = c.requires.ancestor in
-    let cut = cut_off _ _ c.from.ensures i.left i.whole (omega (arith, c.loop-rest-test.true, ap length other.whole, wire_long other.name)) in
+    let cut = drop_first _ _ c.from.ensures i.left i.whole (omega (arith, c.loop-rest-test.true, ap length other.whole, wire_some other.name)) in
     record {
       left = cut.behind;
       whole = c.split_at.ensures.back ∙ cut.cut;
@@ -40,6 +41,6 @@ returns c n a named named' is is' =
     let yes : IsTrue c.eq.result → c.loop-rest.rest.now ≡ c.args.ancestor.now = search rules in
     let no : c.loop-rest.rest.now ≡ c.args.ancestor.now → IsTrue c.eq.result = search rules in
     let same = i.same n a named is is' in (
-      λ t. same.1 (under_self i.left a i.named named' (sym i.whole ∙ (yes t ∙ is'))),
+      λ t. same.1 (under_self i.left a (sym i.whole ∙ (yes t ∙ is'))),
       λ u. no (i.whole ∙ (ap wire (under_same i.left a (omega (arith, c.loop-rest-test.false, ap length i.whole, ap length is')) (same.0 u)) ∙ sym is')),
     )

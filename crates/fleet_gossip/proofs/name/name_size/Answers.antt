@@ -1,7 +1,7 @@
 use Rattle.std.proofs.Common.{◌++◌, ◌∷◌, [], arith, sym}
 use Rattle.std.proofs.lemmas.Result.{err_from_is_err_and}
 use Rattle.fleet_gossip.specs.Faults.{label_fails}
-use Rattle.fleet_gossip.proofs.Names.{length-wire-push}
+use Rattle.fleet_name.proofs.Lemmas.{length-wire-push}
 use Rattle.fleet_gossip.proofs.NameSteps.{empty_from, some_from, name_ends, name_more, whole_more}
 use Rattle.fleet_gossip.proofs.name.name_size.Goals as goal
 

@@ -13,4 +13,5 @@ pub loop-preserved : goal.loop-preserved
 loop-preserved c =
     let name = labels_of c.args.octets.now in let k = c.loop.counter in
     let within : k < length name = omega (arith, c.requires.within) in
-    rw (c.split_at.ensures.back, c.loop.invariant, first_octet name k within) (wire-drop name k within)
+    rw (c.split_at.ensures.back, c.loop.invariant, first_octet name k within)
+    (wire-drop name k within)

@@ -4,6 +4,8 @@ use Rattle.fleet_name.proofs.name.is_lower.Given as goal
 
 abbrev pub invariant-loop-octet : goal.invariant-loop-octet
 invariant-loop-octet l = record {
-  yes : lower (drop l.octet-index l.octets) ≡ drop l.octet-index l.octets → lower l.octets ≡ l.octets;
-  no : lower l.octets ≡ l.octets → lower (drop l.octet-index l.octets) ≡ drop l.octet-index l.octets;
+  yes : lower (drop l.octet-index l.octets) ≡ drop l.octet-index l.octets
+      → lower l.octets ≡ l.octets;
+  no : lower l.octets ≡ l.octets
+      → lower (drop l.octet-index l.octets) ≡ drop l.octet-index l.octets;
 }

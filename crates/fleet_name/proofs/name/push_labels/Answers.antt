@@ -15,8 +15,21 @@ loop-preserved g c =
     let name = labels_of c.args.octets.now in let k = c.loop.counter in
     let within : k < length name = omega (arith, c.requires.counted) in
     let label : c.split_at-in-loop.result.1.now ≡ get_or name k [] =
-    rw (c.split_at-in-loop.ensures.back, c.split_at.ensures.front, c.loop.invariant.rest, first_octet name k within) (label_octets name k within) in
+    rw (
+      c.split_at-in-loop.ensures.back,
+      c.split_at.ensures.front,
+      c.loop.invariant.rest,
+      first_octet name k within,
+    ) (label_octets name k within) in
     record {
-      rest = rw (c.split_at.ensures.back, c.loop.invariant.rest, first_octet name k within) (wire-drop name k within);
-      text = rw (c.in_ok-push_label.ensures, c.loop.invariant.text, text_more name k _ within label, append_assoc) refl;
+      rest =
+          rw (c.split_at.ensures.back, c.loop.invariant.rest, first_octet name k within)
+          (wire-drop name k within);
+      text =
+          rw (
+            c.in_ok-push_label.ensures,
+            c.loop.invariant.text,
+            text_more name k _ within label,
+            append_assoc,
+          ) refl;
     }

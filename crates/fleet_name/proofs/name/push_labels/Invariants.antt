@@ -8,5 +8,6 @@ use Rattle.fleet_name.proofs.name.push_labels.Given as goal
 abbrev pub invariant-loop : goal.invariant-loop
 invariant-loop g l = record {
   rest : l.rest ≡ wire (drop l.counter (labels_of l.octets));
-  text : string_bytes l.text ≡ string_bytes l.fn.text ++ flat_map label_text (take l.counter (labels_of l.octets));
+  text : string_bytes l.text
+      ≡ string_bytes l.fn.text ++ flat_map label_text (take l.counter (labels_of l.octets));
 }

@@ -1,7 +1,7 @@
 use Rattle.std.proofs.Common.{◌<◌, ◌≤◌, ◌∷◌, ◌∙◌, [], inl, inr, length, take, refl, sym, arith}
 use mathlib.Core.Bool.{false≢true}
-use Rattle.fleet_wire.specs.Record.{all_told, told}
-use Rattle.fleet_observe.specs.RrSet.{set_of, sets_of}
+use Rattle.fleet_wire.specs.Record.{all_record_data, record_data}
+use Rattle.fleet_observe.specs.RrSet.{rrset_data, all_rrset_data}
 use Rattle.fleet_observe.specs.Meaning.{HasNs, owners_of, IsRepeated}
 use Rattle.fleet_observe.proofs.Sections.{told_member, told-item, told-all, sets_of-append}
 use Rattle.fleet_observe.proofs.Results.{if_err}
@@ -16,7 +16,7 @@ pub gather-requires : goal.gather-requires
 gather-requires g c =
     let xs = c.args.authority.now in let i = c.loop-record.record-index in let item = c.record-item.result in
     let within : i < length xs = omega arith in
-    (_, ns_in (all_told xs) c.args.name.now (told item) (told_member xs i item within c.record-item.is) (c.is_ns.ensures.0 c.if-is_ns.true))
+    (_, ns_in (all_record_data xs) c.args.name.now (record_data item) (told_member xs i item within c.record-item.is) (c.is_ns.ensures.0 c.if-is_ns.true))
 
 pub loop-record-preserved : goal.loop-record-preserved
 loop-record-preserved g c =
@@ -24,26 +24,26 @@ loop-record-preserved g c =
     let q = c.args.name.now in let sets = c.loop-record.sets.items in let inv = c.loop-record.invariant in
     let within : i < length xs = omega arith in
     let e = told-item xs i item within c.record-item.is in
-    let seen = all_told (take i xs) in
+    let seen = all_record_data (take i xs) in
     elim c.if-is_ns.branch [
       | then-is_ns+then-not-owns+in_ok-set+in_ok-push w ↦
           let ns = c.is_ns.ensures.0 w.if-is_ns.true in
-          let new : ¬ IsRepeated q seen (told item) = λ r.
-          elim (owner_kept q [] seen (owners_of (sets_of sets)) r.earlier inv.owners r.member r.ns) [
+          let new : ¬ IsRepeated q seen (record_data item) = λ r.
+          elim (owner_kept q [] seen (owners_of (all_rrset_data sets)) r.earlier inv.owners r.member r.ns) [
             | inl listed ↦ false≢true (sym w.if-not-owns.true ∙ w.owns.ensures.1 (rw (w.deref.ensures.value, ← r.same) listed))
             | inr before ↦ before.member
           ] in
           let more = sets_of-append sets (w.in_ok-set.set ∷ []) in
           let named = w.in_ok-set.ensures.name in
-          rw (w.sets-is, w.in_ok-push.ensures.items, e, more, owners_of-append (sets_of sets) (set_of w.in_ok-set.set ∷ []))
-          (record { owners = rw named (owners_new q [] seen (owners_of (sets_of sets)) (told item) inv.owners ns new); each = each_more _ (sets_of sets) _ _ inv.each w.in_ok-set.ensures })
+          rw (w.sets-is, w.in_ok-push.ensures.items, e, more, owners_of-append (all_rrset_data sets) (rrset_data w.in_ok-set.set ∷ []))
+          (record { owners = rw named (owners_new q [] seen (owners_of (all_rrset_data sets)) (record_data item) inv.owners ns new); each = each_more _ (all_rrset_data sets) _ _ inv.each w.in_ok-set.ensures })
       | else-is_ns w ↦
           rw (w.sets-is, e)
           (record {
-            owners = owners_same q [] seen (owners_of (sets_of sets)) (told item) inv.owners
+            owners = owners_same q [] seen (owners_of (all_rrset_data sets)) (record_data item) inv.owners
                 (elim w.else-is_ns.branch [
                   | else-is_ns-via-then-is_ns+else-not-owns w' ↦
-                      let k = owner_known q [] seen (owners_of (sets_of sets)) item.name inv.owners (rw w'.deref.ensures.value at (w'.owns.ensures.0 w'.if-not-owns.false)) in
+                      let k = owner_known q [] seen (owners_of (all_rrset_data sets)) item.name inv.owners (rw w'.deref.ensures.value at (w'.owns.ensures.0 w'.if-not-owns.false)) in
                       inr (record { earlier = k.0; member = k.1; ns = k.2; same = k.3 })
                   | else-is_ns-via-else-is_ns w' ↦ inl (λ h. false≢true (sym w'.if-is_ns.false ∙ c.is_ns.ensures.1 h))
                 ]);
@@ -55,13 +55,13 @@ pub returns-in_err-set-clause-memory : goal.returns-in_err-set-clause-memory
 returns-in_err-set-clause-memory g c =
     let xs = c.args.authority.now in let i = c.loop-record.record-index in let item = c.record-item.result in
     let there : i < length xs = omega arith in
-    if_err (HasNs c.args.name.now (all_told xs)) _ (told item, told_member xs i item there c.record-item.is, c.is_ns.ensures.0 c.if-is_ns.true)
+    if_err (HasNs c.args.name.now (all_record_data xs)) _ (record_data item, told_member xs i item there c.record-item.is, c.is_ns.ensures.0 c.if-is_ns.true)
 
 pub returns-in_err-push-clause-memory : goal.returns-in_err-push-clause-memory
 returns-in_err-push-clause-memory g c =
     let xs = c.args.authority.now in let i = c.loop-record.record-index in let item = c.record-item.result in
     let there : i < length xs = omega arith in
-    if_err (HasNs c.args.name.now (all_told xs)) _ (told item, told_member xs i item there c.record-item.is, c.is_ns.ensures.0 c.if-is_ns.true)
+    if_err (HasNs c.args.name.now (all_record_data xs)) _ (record_data item, told_member xs i item there c.record-item.is, c.is_ns.ensures.0 c.if-is_ns.true)
 
 pub returns-clause-sets : goal.returns-clause-sets
 returns-clause-sets g c =

@@ -1,4 +1,4 @@
-use Rattle.fleet_observe.proofs.Preferences.{key_exact}
+use Rattle.fleet_observe.proofs.Lemmas.{key_exact}
 use Rattle.fleet_observe.proofs.laws.one_key.Goals as goal
 
 pub returns : goal.returns

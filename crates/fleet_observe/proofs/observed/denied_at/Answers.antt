@@ -1,6 +1,7 @@
 use Rattle.std.proofs.Common.{◌<◌, length, take, arith}
-use Rattle.fleet_observe.specs.RrSet.{set_of, sets_of}
-use Rattle.fleet_observe.proofs.Spelling.{spells, labels_of-spelled}
+use Rattle.fleet_observe.specs.RrSet.{rrset_data, all_rrset_data}
+use Rattle.fleet_name.proofs.Lemmas.{labels_of-spelled}
+use Rattle.fleet_observe.proofs.Spelling.{spells}
 use Rattle.fleet_observe.proofs.Sections.{sets_item, set_member}
 use Rattle.fleet_observe.proofs.Facts.{denied_by-push, labels_of-first_or, link_spelled}
 use Rattle.fleet_observe.proofs.observed.denied_at.Goals as goal
@@ -8,16 +9,16 @@ use Rattle.fleet_observe.proofs.observed.denied_at.Goals as goal
 pub loop-link-init : goal.loop-link-init
 loop-link-init g c =
     let o = c.octets-at.ensures in
-    record { name = labels_of-spelled c.octets-at.result.now c.args.name.now o.named o.octets; spelled = spells c.octets-at.result.now c.args.name.now o.named o.octets }
+    record { name = labels_of-spelled c.octets-at.result.now c.args.name.now o.named.labels o.octets; spelled = spells c.octets-at.result.now c.args.name.now o.named o.octets }
 
 pub loop-link-preserved : goal.loop-link-preserved
 loop-link-preserved g c =
     let xs = c.args.chain.now in let i = c.loop-link.link-index in let item = c.link-item.result in
     let within : i < length xs = omega arith in
     let inv = c.loop-link.invariant in
-    let link = c.requires (set_of item) (set_member xs i item within c.link-item.is) in
+    let link = c.requires (rrset_data item) (set_member xs i item within c.link-item.is) in
     rw (c.first_of-at.ensures, c.as_slice.ensures)
     (record {
-      name = rw (sets_item xs i item within c.link-item.is, denied_by-push c.args.name.now (sets_of (take i xs)) (set_of item), ← inv.name) (labels_of-first_or c.loop-link.at.now item.rdatas);
-      spelled = link_spelled c.loop-link.at.now (set_of item) inv.spelled link;
+      name = rw (sets_item xs i item within c.link-item.is, denied_by-push c.args.name.now (all_rrset_data (take i xs)) (rrset_data item), ← inv.name) (labels_of-first_or c.loop-link.at.now item.rdatas);
+      spelled = link_spelled c.loop-link.at.now (rrset_data item) inv.spelled link;
     })

@@ -1,11 +1,11 @@
 use Rattle.std.proofs.Common.{◌≡◌, take}
 use Rattle.fleet_name.specs.Name.{labels_of}
-use Rattle.fleet_observe.specs.RrSet.{sets_of, SpellsName}
+use Rattle.fleet_observe.specs.RrSet.{all_rrset_data, SpellsName}
 use Rattle.fleet_observe.specs.Digest.{denied_by}
 use Rattle.fleet_observe.proofs.observed.denied_at.Given as goal
 
 abbrev pub invariant-loop-link : goal.invariant-loop-link
 invariant-loop-link g l = record {
-  name : labels_of l.at ≡ denied_by l.name (sets_of (take l.link-index l.chain));
+  name : labels_of l.at ≡ denied_by l.name (all_rrset_data (take l.link-index l.chain));
   spelled : SpellsName l.at;
 }

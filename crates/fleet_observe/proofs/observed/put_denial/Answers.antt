@@ -1,7 +1,7 @@
 use Rattle.std.proofs.Common.{refl, arith}
 use Rattle.fleet_name.specs.Name.{labels_of}
 use Rattle.fleet_observe.specs.Checks.{denied_kind, denied_type}
-use Rattle.fleet_observe.specs.Digest.{soa_of}
+use Rattle.fleet_observe.specs.Digest.{soa_data}
 use Rattle.fleet_observe.proofs.Facts.{negative_kept, negative_made, negative_some}
 use Rattle.fleet_observe.proofs.Results.{if_err}
 use Rattle.fleet_observe.proofs.observed.put_denial.Goals as goal
@@ -9,12 +9,12 @@ use Rattle.fleet_observe.proofs.observed.put_denial.Goals as goal
 pub unreachable-requires : goal.unreachable-requires
 unreachable-requires g c =
     let why = rw (c.in_ok-name.ensures, c.in_ok-try_clone.ensures, c.in_ok-try_clone-2.ensures) at c.in_default.ensures.checks in
-    negative_made c.in_default.field-0 (labels_of c.args.denied.now) c.args.rtype c.args.rank (soa_of c.args.soa.now) (omega arith) c.requires.lawful c.requires.ranked c.requires.typed why
+    negative_made c.in_default.field-0 (labels_of c.args.denied.now) c.args.rtype c.args.rank (soa_data c.args.soa.now) (omega arith) c.requires.lawful c.requires.ranked c.requires.typed why
 
 pub returns-in_err-push-clause-memory : goal.returns-in_err-push-clause-memory
-returns-in_err-push-clause-memory g c = if_err _ _ (negative_some (denied_kind c.args.rtype) (labels_of c.args.denied.now) (denied_type c.args.rtype) c.args.rank c.args.stamp (soa_of c.args.soa.now) (omega arith))
+returns-in_err-push-clause-memory g c = if_err _ _ (negative_some (denied_kind c.args.rtype) (labels_of c.args.denied.now) (denied_type c.args.rtype) c.args.rank c.args.stamp (soa_data c.args.soa.now) (omega arith))
 
 pub returns-clause-added : goal.returns-clause-added
 returns-clause-added g c =
-    let kept = negative_kept (denied_kind c.args.rtype) (labels_of c.args.denied.now) (denied_type c.args.rtype) c.args.rank c.args.stamp (soa_of c.args.soa.now) (omega arith) in
+    let kept = negative_kept (denied_kind c.args.rtype) (labels_of c.args.denied.now) (denied_type c.args.rtype) c.args.rank c.args.stamp (soa_data c.args.soa.now) (omega arith) in
     rw (kept, c.in_ok-push.ensures.items, c.in-Ok.ensures.value, c.in_ok-name.ensures, c.in_ok-try_clone.ensures, c.in_ok-try_clone-2.ensures) refl

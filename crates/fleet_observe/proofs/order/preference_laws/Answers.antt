@@ -1,5 +1,5 @@
 use Rattle.fleet_observe.specs.Preference.{preference_total}
-use Rattle.fleet_observe.proofs.Preferences.{preference_exact}
+use Rattle.fleet_observe.proofs.Lemmas.{preference_exact}
 use Rattle.fleet_observe.proofs.order.preference_laws.Goals as goal
 
 pub returns : goal.returns

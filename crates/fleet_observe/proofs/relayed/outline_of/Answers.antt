@@ -1,7 +1,7 @@
 use Rattle.std.proofs.Common.{◌<◌, ◌≤◌, ◌∙◌, ◌≡◌, [], length, take, arith, sym, ap, refl, Some}
-use Rattle.fleet_wire.specs.Question.{asked}
-use Rattle.fleet_observe.specs.RrSet.{Set, set_of, sets_of}
-use Rattle.fleet_observe.specs.Relayed.{code_of, is_cut, set_lines, chain_lines, with_answers}
+use Rattle.fleet_wire.specs.Question.{question_data}
+use Rattle.fleet_observe.specs.RrSet.{RrSetData, rrset_data, all_rrset_data}
+use Rattle.fleet_observe.specs.Relayed.{code_of, is_cut, set_lines, chain_lines, with_answer_lines}
 use Rattle.fleet_observe.proofs.Sections.{sets_item, sets_all}
 use Rattle.fleet_observe.proofs.Lines.{no_answers, more_answers, chain_lines-push, sketch_with, sketch_is, code_short}
 use Rattle.fleet_observe.proofs.relayed.outline_of.Goals as goal
@@ -18,17 +18,17 @@ pub loop-link-preserved : goal.loop-link-preserved
 loop-link-preserved g c =
     let xs = c.chain-link-items.result.now in let i = c.loop-link.link-index in let item = c.link-item.result in
     let within : i < length xs = omega arith in
-    let added : c.add_rows.new.outline ≡ with_answers c.loop-link.outline (set_lines (set_of item)) =
-    c.in_ok-add_rows.ensures ∙ ap (λ (x : Set). with_answers c.loop-link.outline (set_lines x)) c.rows.ensures in
-    rw (added, c.loop-link.invariant, sets_item xs i item within c.link-item.is, chain_lines-push (sets_of (take i xs)) (set_of item))
-    (more_answers c.new-outline.result (chain_lines (sets_of (take i xs))) (set_lines (set_of item)))
+    let added : c.add_rows.new.outline ≡ with_answer_lines c.loop-link.outline (set_lines (rrset_data item)) =
+    c.in_ok-add_rows.ensures.ok ∙ ap (λ (x : RrSetData). with_answer_lines c.loop-link.outline (set_lines x)) c.rows.ensures in
+    rw (added, c.loop-link.invariant, sets_item xs i item within c.link-item.is, chain_lines-push (all_rrset_data (take i xs)) (rrset_data item))
+    (more_answers c.new-outline.result (chain_lines (all_rrset_data (take i xs))) (set_lines (rrset_data item)))
 
 pub returns : goal.returns
 returns g c =
     let xs = c.chain-link-items.result.now in let i = c.loop-link.link-index in
     let all : length xs ≤ i = omega arith in
     let d = c.args.digest.now in let end = c.end-end.ensures.end in let made = c.new-outline.ensures in
-    let start : c.new-outline.result ≡ sketch_with c.args.id 0 (code_of d.end) c.args.rd (is_cut d.end) (Some (asked c.args.question.now)) [] [] =
-    sketch_is c.new-outline.result c.args.id 0 (code_of d.end) c.args.rd (is_cut d.end) (asked c.args.question.now)
+    let start : c.new-outline.result ≡ sketch_with c.args.id 0 (code_of d.end) c.args.rd (is_cut d.end) (Some (question_data c.args.question.now)) [] [] =
+    sketch_is c.new-outline.result c.args.id 0 (code_of d.end) c.args.rd (is_cut d.end) (question_data c.args.question.now)
     made.header.0 made.header.1 made.header.2 (made.header.3 ∙ (c.code_of_end-rcode.ensures ∙ ap code_of end)) (made.header.4 ∙ (c.is_cut_off-tc.ensures ∙ ap is_cut end)) made.question made.empty.0 made.empty.1 in
     rw (c.in_ok-put_end.ensures, c.loop-link.invariant, sets_all xs i all, c.chain-link-items.ensures.chain, end, start) refl

@@ -1,9 +1,10 @@
 use Rattle.std.proofs.Common.{◌∙◌, ap, sym, refl}
 use mathlib.Core.Bool.{false≢true}
 use Rattle.std.proofs.lemmas.Result.{err_from_is_err_and}
-use Rattle.fleet_wire.specs.Question.{Asked}
+use Rattle.fleet_wire.specs.Question.{QuestionData}
 use Rattle.fleet_wire.specs.declared.header.Header.{Header}
-use Rattle.fleet_observe.proofs.Spelling.{spells, labels_of-spelled}
+use Rattle.fleet_name.proofs.Lemmas.{labels_of-spelled}
+use Rattle.fleet_observe.proofs.Spelling.{spells}
 use Rattle.fleet_observe.proofs.LawfulMeanings.{all_plain, no_walk_cut, no_walk_coded}
 use Rattle.fleet_observe.proofs.reply.digest.Goals as goal
 
@@ -11,7 +12,7 @@ pub short-requires : goal.short-requires
 short-requires g c =
     let served = rw c.if-not-is_served.false at c.is_served.ensures in
     let cut = sym (ap (λ (x : Header). x.tc) c.header-header.ensures.header) ∙ c.if-header.true in
-    record { served = served; named = c.in_ok-name.ensures ∙ ap (λ (x : Asked). x.name) c.question-question.ensures.question; tells = (cut, refl); idle = no_walk_cut _ cut }
+    record { served = served; named = c.in_ok-name.ensures ∙ ap (λ (x : QuestionData). x.name) c.question-question.ensures.question; tells = (cut, refl); idle = no_walk_cut _ cut }
 
 pub short-requires-then-not-is_answered : goal.short-requires-then-not-is_answered
 short-requires-then-not-is_answered g c =
@@ -19,7 +20,7 @@ short-requires-then-not-is_answered g c =
     let whole = sym (ap (λ (x : Header). x.tc) c.header-header.ensures.header) ∙ c.if-header.false in
     let is = ap (λ (x : Header). x.rcode) c.header-header.ensures.header in
     let code = rw (c.if-not-is_answered.true, is) at c.is_answered.ensures in
-    record { served = served; named = c.in_ok-name-2.ensures ∙ ap (λ (x : Asked). x.name) c.question-question.ensures.question; tells = (whole, code.0, code.1, is, refl); idle = no_walk_coded _ code.0 code.1 }
+    record { served = served; named = c.in_ok-name-2.ensures ∙ ap (λ (x : QuestionData). x.name) c.question-question.ensures.question; tells = (whole, code.0, code.1, is, refl); idle = no_walk_coded _ code.0 code.1 }
 
 pub has_walk-requires-clause-spelled : goal.has_walk-requires-clause-spelled
 has_walk-requires-clause-spelled g c = spells c.octets.result.now c.question-question.result.now.name c.octets.ensures.named c.octets.ensures.octets
@@ -31,8 +32,8 @@ pub returns-then-not-has_walk : goal.returns-then-not-has_walk
 returns-then-not-has_walk g c =
     let served = rw c.if-not-is_served.false at c.is_served.ensures in
     let q = c.question-question.ensures.question in let o = c.octets.ensures in
-    let is = labels_of-spelled c.octets.result.now c.question-question.result.now.name o.named o.octets ∙ ap (λ (x : Asked). x.name) q in
-    let rtype = ap (λ (x : Asked). x.rtype) q in
+    let is = labels_of-spelled c.octets.result.now c.question-question.result.now.name o.named.labels o.octets ∙ ap (λ (x : QuestionData). x.name) q in
+    let rtype = ap (λ (x : QuestionData). x.rtype) q in
     let walk = rw (c.answer.ensures.answer, rtype, is) at c.has_walk.ensures in
     let whole = sym (ap (λ (x : Header). x.tc) c.header-header.ensures.header) ∙ c.if-header.false in
     let code = rw (c.if-not-is_answered.false, ap (λ (x : Header). x.rcode) c.header-header.ensures.header) at c.is_answered.ensures in
@@ -42,8 +43,8 @@ pub walked-requires : goal.walked-requires
 walked-requires g c =
     let served = rw c.if-not-is_served.false at c.is_served.ensures in
     let q = c.question-question.ensures.question in let o = c.octets.ensures in
-    let is = labels_of-spelled c.octets.result.now c.question-question.result.now.name o.named o.octets ∙ ap (λ (x : Asked). x.name) q in
-    let rtype = ap (λ (x : Asked). x.rtype) q in
+    let is = labels_of-spelled c.octets.result.now c.question-question.result.now.name o.named.labels o.octets ∙ ap (λ (x : QuestionData). x.name) q in
+    let rtype = ap (λ (x : QuestionData). x.rtype) q in
     let walk = rw (c.answer.ensures.answer, rtype, is) at c.has_walk.ensures in
     let whole = sym (ap (λ (x : Header). x.tc) c.header-header.ensures.header) ∙ c.if-header.false in
     let code = rw (c.if-not-is_answered.false, ap (λ (x : Header). x.rcode) c.header-header.ensures.header) at c.is_answered.ensures in
@@ -69,8 +70,8 @@ returns-in_err-walked g c =
     let r = c.from_residual-in_err-walked in let p = err_from_is_err_and r.result r.ensures.1 in
     let served = rw c.if-not-is_served.false at c.is_served.ensures in
     let q = c.question-question.ensures.question in let o = c.octets.ensures in
-    let is = labels_of-spelled c.octets.result.now c.question-question.result.now.name o.named o.octets ∙ ap (λ (x : Asked). x.name) q in
-    let rtype = ap (λ (x : Asked). x.rtype) q in
+    let is = labels_of-spelled c.octets.result.now c.question-question.result.now.name o.named.labels o.octets ∙ ap (λ (x : QuestionData). x.name) q in
+    let rtype = ap (λ (x : QuestionData). x.rtype) q in
     let walk = rw (c.answer.ensures.answer, rtype, is) at c.has_walk.ensures in
     let found = walk.0 c.if-not-has_walk.false in
     rw (p.1, p.2) (served, λ _. found)

@@ -2,7 +2,7 @@ use Rattle.std.proofs.Common.{◌∙◌, sym, refl, ap}
 use Rattle.std.proofs.lemmas.Slice.Eq.{slice_eq-Decides}
 use Rattle.std.proofs.lemmas.Bool.Decides.{Decides-eqb}
 use Rattle.fleet_name.specs.Name.{wire}
-use Rattle.fleet_observe.proofs.Spelling.{labels_of-spelled}
+use Rattle.fleet_name.proofs.Lemmas.{labels_of-spelled}
 use Rattle.fleet_observe.proofs.rrset.belongs.Goals as goal
 
 pub returns : goal.returns
@@ -14,7 +14,7 @@ returns g c =
             class = c.if-candidate-ne1.false;
             rtype = c.if-candidate-rtype.false;
             typed = c.is_data_type.ensures.0 c.if-not-is_data_type.false;
-            owner = sym (labels_of-spelled name owner ok.named e);
+            owner = sym (labels_of-spelled name owner ok.named.labels e);
           },
       λ b. c.eq.ensures ∙ d.1 (ok.octets ∙ (ap wire b.owner ∙ sym c.requires.whole)),
     )

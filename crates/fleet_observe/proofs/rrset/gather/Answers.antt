@@ -1,8 +1,9 @@
 use Rattle.std.proofs.Common.{◌<◌, ◌≤◌, ◌∙◌, length, take, sym, refl, arith}
 use mathlib.Core.Bool.{false≢true}
-use Rattle.fleet_wire.specs.Record.{all_told, told}
+use Rattle.fleet_wire.specs.Record.{all_record_data, record_data}
 use Rattle.fleet_observe.proofs.Sections.{told-item, told-all}
-use Rattle.fleet_observe.proofs.Spelling.{spells, labels_of-spelled}
+use Rattle.fleet_name.proofs.Lemmas.{labels_of-spelled}
+use Rattle.fleet_observe.proofs.Spelling.{spells}
 use Rattle.fleet_observe.proofs.Sets.{those_none, those_kept, those_more}
 use Rattle.fleet_observe.proofs.rrset.gather.Goals as goal
 use Rattle.fleet_observe.proofs.rrset.gather.Goals.{then-belongs+in_ok-add, else-belongs}
@@ -18,11 +19,11 @@ loop-record-preserved g c =
     let xs = c.args.section.now in let i = c.loop-record.record-index in let item = c.record-item.result in
     let within : i < length xs = omega arith in
     let e = told-item xs i item within c.record-item.is in
-    let is = labels_of-spelled c.octets-name.result.now c.args.owner.now c.octets-name.ensures.named c.octets-name.ensures.octets in
+    let is = labels_of-spelled c.octets-name.result.now c.args.owner.now c.octets-name.ensures.named.labels c.octets-name.ensures.octets in
     let b = rw is at c.belongs.ensures in
     elim c.if-belongs.branch [
-      | then-belongs+in_ok-add w ↦ rw (w.rdatas-is, e) (those_more (all_told (take i xs)) _ _ (told item) c.loop-record.rdatas.items _ c.loop-record.invariant (b.0 w.if-belongs.true) w.in_ok-add.ensures.ascending (rw w.as_slice.ensures at w.in_ok-add.ensures.members))
-      | else-belongs w ↦ rw (w.rdatas-is, e) (those_kept (all_told (take i xs)) _ _ (told item) _ c.loop-record.invariant (λ h. false≢true (sym w.if-belongs.false ∙ b.1 h)))
+      | then-belongs+in_ok-add w ↦ rw (w.rdatas-is, e) (those_more (all_record_data (take i xs)) _ _ (record_data item) c.loop-record.rdatas.items _ c.loop-record.invariant (b.0 w.if-belongs.true) w.in_ok-add.ensures.ascending (rw w.as_slice.ensures at w.in_ok-add.ensures.members))
+      | else-belongs w ↦ rw (w.rdatas-is, e) (those_kept (all_record_data (take i xs)) _ _ (record_data item) _ c.loop-record.invariant (λ h. false≢true (sym w.if-belongs.false ∙ b.1 h)))
     ]
 
 pub least_ttl-requires-clause-spelled : goal.least_ttl-requires-clause-spelled
@@ -30,12 +31,12 @@ least_ttl-requires-clause-spelled g c = spells c.octets-name.result.now c.args.o
 
 pub least_ttl-requires-clause-some : goal.least_ttl-requires-clause-some
 least_ttl-requires-clause-some g c =
-    let is = labels_of-spelled c.octets-name.result.now c.args.owner.now c.octets-name.ensures.named c.octets-name.ensures.octets in
+    let is = labels_of-spelled c.octets-name.result.now c.args.owner.now c.octets-name.ensures.named.labels c.octets-name.ensures.octets in
     rw is c.requires
 
 pub returns : goal.returns
 returns g c =
-    let is = labels_of-spelled c.octets-name.result.now c.args.owner.now c.octets-name.ensures.named c.octets-name.ensures.octets in
+    let is = labels_of-spelled c.octets-name.result.now c.args.owner.now c.octets-name.ensures.named.labels c.octets-name.ensures.octets in
     let all : length c.args.section.now ≤ c.loop-record.record-index = omega arith in
     let those = rw (told-all c.args.section.now c.loop-record.record-index all) at c.loop-record.invariant in
     record {

@@ -1,5 +1,5 @@
 use Rattle.std.proofs.Common.{◌≡◌, inl, inr, ap}
-use Rattle.fleet_wire.specs.Question.{Asked}
+use Rattle.fleet_wire.specs.Question.{QuestionData}
 use Rattle.fleet_observe.proofs.LawfulMeanings.{all_plain}
 use Rattle.fleet_observe.proofs.Sections.{in_of_own}
 use Rattle.fleet_observe.proofs.summary.end_of.Goals as goal
@@ -15,6 +15,6 @@ soa_for-requires g c = all_plain _ (rw c.authority.ensures.authority c.requires.
 
 pub returns : goal.returns
 returns g c =
-    let rtype : c.question.result.now.rtype ≡ c.args.message.now.question.rtype = ap (λ (q : Asked). q.rtype) c.question.ensures.question in
+    let rtype : c.question.result.now.rtype ≡ c.args.message.now.question.rtype = ap (λ (q : QuestionData). q.rtype) c.question.ensures.question in
     let code : c.args.message.now.header.rcode ≡ 3 = elim c.requires.asks.code [ inl e ↦ absurd (c.if-header-eq0.false (rw c.header.ensures.header e)) | inr e ↦ e ] in
     (rw (c.answer-answer.ensures.answer, rtype) at c.in_default.ensures, code, rw (c.authority.ensures.authority, c.in_ok-denied.ensures) at c.in_ok-soa.ensures.soa)

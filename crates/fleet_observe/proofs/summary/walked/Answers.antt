@@ -1,10 +1,11 @@
 use Rattle.std.proofs.Common.{◌∙◌, ap}
-use Rattle.fleet_wire.specs.Question.{Asked}
+use Rattle.fleet_wire.specs.Question.{QuestionData}
 use Rattle.fleet_wire.specs.declared.header.Header.{Header}
-use Rattle.fleet_observe.specs.RrSet.{sets_of}
-use Rattle.fleet_observe.specs.Digest.{ending_of}
+use Rattle.fleet_observe.specs.RrSet.{all_rrset_data}
+use Rattle.fleet_observe.specs.Digest.{end_data}
 use Rattle.fleet_observe.specs.Meaning.{TellsWalk}
-use Rattle.fleet_observe.proofs.Spelling.{spells, labels_of-spelled}
+use Rattle.fleet_name.proofs.Lemmas.{labels_of-spelled}
+use Rattle.fleet_observe.proofs.Spelling.{spells}
 use Rattle.fleet_observe.proofs.LawfulMeanings.{all_plain, lawful_meaning, walked_meaning}
 use Rattle.fleet_observe.proofs.summary.walked.Goals as goal
 
@@ -17,30 +18,30 @@ follow-requires-clause-plain g c = all_plain _ (rw c.answer.ensures.answer c.ans
 pub follow-requires-clause-walk : goal.follow-requires-clause-walk
 follow-requires-clause-walk g c =
     let q = c.question-question.ensures.question in let o = c.octets-name.ensures in
-    let is = labels_of-spelled c.octets-name.result.now c.question-question.result.now.name o.named o.octets ∙ ap (λ (x : Asked). x.name) q in
-    rw (c.answer.ensures.answer, ap (λ (x : Asked). x.rtype) q, is) c.requires.walk
+    let is = labels_of-spelled c.octets-name.result.now c.question-question.result.now.name o.named.labels o.octets ∙ ap (λ (x : QuestionData). x.name) q in
+    rw (c.answer.ensures.answer, ap (λ (x : QuestionData). x.rtype) q, is) c.requires.walk
 
 pub invariant_of-result : goal.invariant_of-result
 invariant_of-result g c =
     let m = c.args.message.now in
     let q = c.question-question.ensures.question in let o = c.octets-name.ensures in
-    let is = labels_of-spelled c.octets-name.result.now c.question-question.result.now.name o.named o.octets ∙ ap (λ (x : Asked). x.name) q in
-    let rtype = ap (λ (x : Asked). x.rtype) q in
+    let is = labels_of-spelled c.octets-name.result.now c.question-question.result.now.name o.named.labels o.octets ∙ ap (λ (x : QuestionData). x.name) q in
+    let rtype = ap (λ (x : QuestionData). x.rtype) q in
     let f = rw (c.answer.ensures.answer, rtype, is) at c.in_ok-chain.ensures in
-    let tells : TellsWalk m (sets_of c.in_ok-chain.field-0.chain.items) (ending_of c.in_ok-end.end) =
+    let tells : TellsWalk m (all_rrset_data c.in_ok-chain.field-0.chain.items) (end_data c.in_ok-end.end) =
     record { asks = c.requires.asks; later = f.later; walk = f.walk; links = f.links; end_is = rw f.stands at c.in_ok-end.ensures } in
     lawful_meaning m _ c.header.ensures.read
-    (walked_meaning m c.in_ok-try_clone.field-0 c.question-question.result.now.rtype c.header.result.aa (sets_of c.in_ok-chain.field-0.chain.items) (ending_of c.in_ok-end.end) (sets_of c.in_ok-ns.ns.items)
-    c.requires.served (c.in_ok-try_clone.ensures ∙ ap (λ (x : Asked). x.name) q) rtype (ap (λ (x : Header). x.aa) c.header.ensures.header) tells c.in_ok-ns.ensures.sets)
+    (walked_meaning m c.in_ok-try_clone.field-0 c.question-question.result.now.rtype c.header.result.aa (all_rrset_data c.in_ok-chain.field-0.chain.items) (end_data c.in_ok-end.end) (all_rrset_data c.in_ok-ns.ns.items)
+    c.requires.served (c.in_ok-try_clone.ensures ∙ ap (λ (x : QuestionData). x.name) q) rtype (ap (λ (x : Header). x.aa) c.header.ensures.header) tells c.in_ok-ns.ensures.sets)
 
 pub returns : goal.returns
 returns g c =
     let m = c.args.message.now in
     let q = c.question-question.ensures.question in let o = c.octets-name.ensures in
-    let is = labels_of-spelled c.octets-name.result.now c.question-question.result.now.name o.named o.octets ∙ ap (λ (x : Asked). x.name) q in
-    let rtype = ap (λ (x : Asked). x.rtype) q in
+    let is = labels_of-spelled c.octets-name.result.now c.question-question.result.now.name o.named.labels o.octets ∙ ap (λ (x : QuestionData). x.name) q in
+    let rtype = ap (λ (x : QuestionData). x.rtype) q in
     let f = rw (c.answer.ensures.answer, rtype, is) at c.in_ok-chain.ensures in
-    let tells : TellsWalk m (sets_of c.in_ok-chain.field-0.chain.items) (ending_of c.in_ok-end.end) =
+    let tells : TellsWalk m (all_rrset_data c.in_ok-chain.field-0.chain.items) (end_data c.in_ok-end.end) =
     record { asks = c.requires.asks; later = f.later; walk = f.walk; links = f.links; end_is = rw f.stands at c.in_ok-end.ensures } in
-    walked_meaning m c.in_ok-try_clone.field-0 c.question-question.result.now.rtype c.header.result.aa (sets_of c.in_ok-chain.field-0.chain.items) (ending_of c.in_ok-end.end) (sets_of c.in_ok-ns.ns.items)
-    c.requires.served (c.in_ok-try_clone.ensures ∙ ap (λ (x : Asked). x.name) q) rtype (ap (λ (x : Header). x.aa) c.header.ensures.header) tells c.in_ok-ns.ensures.sets
+    walked_meaning m c.in_ok-try_clone.field-0 c.question-question.result.now.rtype c.header.result.aa (all_rrset_data c.in_ok-chain.field-0.chain.items) (end_data c.in_ok-end.end) (all_rrset_data c.in_ok-ns.ns.items)
+    c.requires.served (c.in_ok-try_clone.ensures ∙ ap (λ (x : QuestionData). x.name) q) rtype (ap (λ (x : Header). x.aa) c.header.ensures.header) tells c.in_ok-ns.ensures.sets

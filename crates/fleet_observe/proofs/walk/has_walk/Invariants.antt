@@ -1,11 +1,11 @@
 use Rattle.fleet_name.specs.Name.{labels_of}
-use Rattle.fleet_wire.specs.Record.{all_told}
+use Rattle.fleet_wire.specs.Record.{all_record_data}
 use Rattle.fleet_observe.specs.RrSet.{SpellsName}
 use Rattle.fleet_observe.proofs.Walks.{IsReached}
 use Rattle.fleet_observe.proofs.walk.has_walk.Given as goal
 
 abbrev pub invariant-loop : goal.invariant-loop
 invariant-loop g l = record {
-  reached : IsReached (all_told l.answer) l.rtype (labels_of l.name) l.counter (labels_of l.at);
+  reached : IsReached (all_record_data l.answer) l.rtype (labels_of l.name) l.counter (labels_of l.at);
   spelled : SpellsName l.at;
 }

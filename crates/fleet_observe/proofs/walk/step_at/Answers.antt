@@ -1,6 +1,6 @@
 use Rattle.std.proofs.Common.{◌∙◌, sym, inl, inr}
 use Rattle.fleet_name.specs.Name.{labels_of}
-use Rattle.fleet_wire.specs.Record.{told, all_told}
+use Rattle.fleet_wire.specs.Record.{record_data, all_record_data}
 use Rattle.fleet_observe.proofs.Sections.{in_of}
 use Rattle.fleet_observe.proofs.Walks.{alias_is}
 use Rattle.fleet_observe.proofs.walk.step_at.Goals as goal
@@ -29,7 +29,7 @@ returns-then-rtype-eq-CNAME g c =
 pub returns-in-One-look : goal.returns-in-One-look
 returns-in-One-look g c =
     let is = c.in-One-look.ensures in
-    alias_is (all_told c.args.answer.now) c.args.rtype (labels_of c.args.name.now) (told c.in-One-look.alias.now) c.requires.plain c.in-Nothing.ensures is.0 is.1
+    alias_is (all_record_data c.args.answer.now) c.args.rtype (labels_of c.args.name.now) (record_data c.in-One-look.alias.now) c.requires.plain c.in-Nothing.ensures is.0 is.1
 
 pub returns-in-Several-look : goal.returns-in-Several-look
 returns-in-Several-look g c =

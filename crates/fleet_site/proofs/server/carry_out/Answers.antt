@@ -1,10 +1,10 @@
 use Rattle.std.proofs.Common.{ap}
-use Rattle.fleet_site.specs.Effect.{effect}
+use Rattle.fleet_site.specs.OutcomeData.{outcome_data}
 use Rattle.fleet_site.specs.Sending.{to_peers}
 use Rattle.fleet_site.proofs.ServerLists.{carries}
 use Rattle.fleet_site.proofs.server.carry_out.Goals as goal
 
 pub returns-in-Ok-clause-carried : goal.returns-in-Ok-clause-carried
 returns-in-Ok-clause-carried g c =
-    rw c.in-Ok.is (carries _ _ _ c.args.peers.now (effect c.in-Ok.outcome) _ _ c.args.report.now c.count_refusal.new.report c.send_packets.new.report c.send_frames.new.report
+    rw c.in-Ok.is (carries _ _ _ c.args.peers.now (outcome_data c.in-Ok.outcome) _ _ c.args.report.now c.count_refusal.new.report c.send_packets.new.report c.send_frames.new.report
     c.as_slice.ensures.value (ap (to_peers c.args.peers.now) c.as_slice-in-Ok.ensures) c.count_refusal.ensures c.send_packets.ensures c.send_frames.ensures)

@@ -1,5 +1,5 @@
 use Rattle.std.proofs.Common.{refl, ◌≡◌, arith}
-use Rattle.fleet_site.proofs.ServerRuns.{serves_none, serves_more, served, serves_failures, serves_follows, ahead_none, ahead_more, is_moment, left_more}
+use Rattle.fleet_site.proofs.ServerRuns.{serves_none, serves_more, serves_run, serves_failures, serves_follows, ahead_none, ahead_more, is_moment, left_more}
 use Rattle.fleet_site.proofs.server.serve.Goals as goal
 
 pub loop-init : goal.loop-init
@@ -16,7 +16,7 @@ loop-preserved g c =
     }
 
 pub returns-clause-run : goal.returns-clause-run
-returns-clause-run g c = let n : c.loop.counter ≡ c.args.turns = omega arith in served _ _ _ _ _ _ _ _ _ _ (rw n at c.loop.invariant.run)
+returns-clause-run g c = let n : c.loop.counter ≡ c.args.turns = omega arith in serves_run _ _ _ _ _ _ _ _ _ _ (rw n at c.loop.invariant.run)
 
 pub returns-clause-failures : goal.returns-clause-failures
 returns-clause-failures g c = serves_failures _ _ _ _ _ _ _ _ _ _ c.loop.invariant.run

@@ -1,6 +1,6 @@
 use Rattle.std.proofs.Common.{◌≡◌}
 use Rattle.fleet_site.specs.Turn.{left_after}
-use Rattle.fleet_site.specs.Served.{Serves, Ahead}
+use Rattle.fleet_site.proofs.Loops.{Serves, Ahead}
 use Rattle.fleet_site.proofs.server.serve.Given as goal
 
 abbrev pub invariant-loop : goal.invariant-loop

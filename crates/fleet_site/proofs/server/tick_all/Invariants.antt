@@ -1,4 +1,4 @@
-use Rattle.fleet_site.specs.Served.{Ticking, ticks_left, due_by}
+use Rattle.fleet_site.proofs.Loops.{Ticking, ticks_left, due_by}
 use Rattle.fleet_site.proofs.server.tick_all.Given as goal
 
 abbrev pub invariant-loop-more : goal.invariant-loop-more

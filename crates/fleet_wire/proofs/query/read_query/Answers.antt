@@ -5,7 +5,8 @@ use Rattle.fleet_wire.proofs.query.read_query.Goals as goal
 
 pub returns-in_err-spelled-clause-only : goal.returns-in_err-spelled-clause-only
 returns-in_err-spelled-clause-only g c h q past is =
-    absurd (query_or_fault c.args.message.now h q past _ is (inr (is.counted, c.in_err-spelled.ensures.fault)))
+    absurd (query_or_fault c.args.message.now h q past _ is
+    (inr (is.counted, c.in_err-spelled.ensures.fault)))
 
 pub returns-in_err-spelled-clause-memory : goal.returns-in_err-spelled-clause-memory
 returns-in_err-spelled-clause-memory g c =

@@ -8,6 +8,8 @@ abbrev pub invariant-loop-part : goal.invariant-loop-part
 invariant-loop-part l = record {
   within : l.at ≤ length l.message;
   room : length l.octets.items + room_of (drop l.part-index l.parts) ≤ 530;
-  found : (o : List ℕ) (e : ℕ) → PartsAt l.message (drop l.part-index l.parts) l.at o e → PartsAt l.message l.parts l.offset (l.octets.items ++ o) e;
-  fails : (f : ReadFault) → PartsFail l.message (drop l.part-index l.parts) l.at f → PartsFail l.message l.parts l.offset f;
+  found : (o : List ℕ) (e : ℕ) → PartsAt l.message (drop l.part-index l.parts) l.at o e
+      → PartsAt l.message l.parts l.offset (l.octets.items ++ o) e;
+  fails : (f : ReadFault) → PartsFail l.message (drop l.part-index l.parts) l.at f
+      → PartsFail l.message l.parts l.offset f;
 }

@@ -1,11 +1,11 @@
 use Rattle.std.proofs.Common.{◌≡◌, ◌↔◌, Bool, true, false, not, IsTrue, List, Option, Some, None, is_some, Bor, [], ◌∷◌, sym, refl, ◌∙◌, subst}
 use mathlib.Core.Bool.{false≢true}
 use Rattle.std.specs.Iterator.{YieldsFirstRef}
-use Rattle.fleet_observe.specs.Fact.{Fact}
+use Rattle.fleet_observe.specs.Observation.{ObservationData}
 use Rattle.fleet_cache.proofs.cache.Cache.is_empty.Goals as goal
 
 -- nothing comes where nothing is left
-none_comes : (items new : List Fact) (o : Option (Bor Fact)) (b : Bool) → YieldsFirstRef (λ s. s) items o new → is_some o ≡ not b → IsTrue b ↔ (items ≡ [])
+none_comes : (items new : List ObservationData) (o : Option (Bor ObservationData)) (b : Bool) → YieldsFirstRef (λ s. s) items o new → is_some o ≡ not b → IsTrue b ↔ (items ≡ [])
 none_comes items new None true steps e = ((λ h. steps.0), λ h. refl)
 none_comes items new None false steps e = absurd (false≢true e)
 none_comes items new (Some x) true steps e = absurd (false≢true (sym e))

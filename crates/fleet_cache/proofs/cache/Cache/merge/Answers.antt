@@ -1,5 +1,5 @@
 use Rattle.std.proofs.Common.{◌≡◌, ◌++◌, ◌∷◌, [], max, sym, ap, refl, ◌∙◌, subst, arith, append_assoc, append-nil, length-append}
-use Rattle.fleet_cache.specs.Cached.{Held, IsCached, IsNeedless}
+use Rattle.fleet_cache.specs.Cached.{CacheData, IsCached, IsNeedless}
 use Rattle.fleet_cache.proofs.Caches.{taken_none, taken_more, taken_is, taken_within, seam_at, at_ok, at_err, cached_both}
 use Rattle.fleet_cache.proofs.cache.Cache.merge.Goals as goal
 
@@ -25,7 +25,7 @@ returns-then-is_err-clause-memory g c =
     let same : c.take_copy.new.self ≡ c.loop-item.self = at_err c.take_copy.result c.if-is_err.ensures.value c.take_copy.ensures.err in (
       o,
       seam_at i.0 _ c.args.other.now.items o c.loop-item.taken (i.1 ∙ ap (λ v. i.0 ++ v) c.in-Some.ensures.steps) i.2,
-      subst (λ (v : Held). ¬ IsNeedless v.floor v.items o) (sym same) (at_err c.take_copy.result c.if-is_err.ensures.value c.take_copy.ensures.memory),
+      subst (λ (v : CacheData). ¬ IsNeedless v.floor v.items o) (sym same) (at_err c.take_copy.result c.if-is_err.ensures.value c.take_copy.ensures.memory),
     )
 
 pub returns-then-is_err-clause-floor_stopped : goal.returns-then-is_err-clause-floor_stopped
@@ -53,10 +53,10 @@ returns-clause-both g c s u cached from =
     let other = c.args.other.now in
     let all : other.items ≡ i.0 = i.1 ∙ (ap (λ v. i.0 ++ v) c.in_default.ensures.steps.0 ∙ append-nil i.0) in
     let floor = c.purge.ensures.floor in
-    let same : c.other.inside.floor ≡ other.floor = ap (λ (v : Held). v.floor) c.other.view_is in
+    let same : c.other.inside.floor ≡ other.floor = ap (λ (v : CacheData). v.floor) c.other.view_is in
     cached_both s u other.items c.purge.new.self.items c.purge.new.self.floor other.floor (omega (arith, floor, same)) from (subst (λ v. IsCached (v ++ s) c.purge.new.self.floor c.purge.new.self.items) (sym all) (c.purge.ensures.purged (i.0 ++ s) (i.3.cached s cached)))
 
 pub returns-clause-floor : goal.returns-clause-floor
 returns-clause-floor g c =
-    let same : c.other.inside.floor ≡ c.args.other.now.floor = ap (λ (v : Held). v.floor) c.other.view_is in
+    let same : c.other.inside.floor ≡ c.args.other.now.floor = ap (λ (v : CacheData). v.floor) c.other.view_is in
     c.purge.ensures.floor ∙ (ap (λ v. max v c.other.inside.floor) c.loop-item.invariant.3.floor ∙ ap (max c.args.self.now.floor) same)

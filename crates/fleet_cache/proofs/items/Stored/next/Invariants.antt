@@ -1,9 +1,9 @@
 use Rattle.std.proofs.Common.{◌≡◌, ◌++◌, length}
-use Rattle.fleet_cache.specs.Slots.{joined}
+use Rattle.fleet_cache.specs.Slots.{concat}
 use Rattle.fleet_cache.proofs.items.Stored.next.Given as goal
 
 abbrev pub invariant-loop-self : goal.invariant-loop-self
-invariant-loop-self g l = l.self-inside.front.now ++ joined l.self-inside.fronts ≡ l.fn.self
+invariant-loop-self g l = l.self-inside.front.now ++ concat l.self-inside.fronts ≡ l.fn.self
 
 abbrev pub decreases-loop-self : goal.decreases-loop-self
 decreases-loop-self g l = length l.self-inside.fronts

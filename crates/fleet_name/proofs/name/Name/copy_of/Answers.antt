@@ -6,7 +6,11 @@ use Rattle.fleet_name.proofs.name.Name.copy_of.Goals as goal
 pub invariant_of-result : goal.invariant_of-result
 invariant_of-result g c =
     let e = c.in_ok-octets.ensures.items in
-    rw e (record { whole = whole_is _ _ c.in-Some.ensures; counted = whole_counted _ _ c.in-Some.ensures; lawful = whole_named _ _ c.in-Some.ensures })
+    rw e (record {
+      whole = whole_is _ _ c.in-Some.ensures;
+      counted = whole_counted _ _ c.in-Some.ensures;
+      lawful = whole_named _ _ c.in-Some.ensures;
+    })
 
 pub returns : goal.returns
 returns g c =

@@ -1,7 +1,0 @@
-use Rattle.fleet_gossip.proofs.Making.{records_made}
-use Rattle.fleet_gossip.proofs.entry.Entry.to_records.Goals as goal
-
-pub unreachable-requires : goal.unreachable-requires
-unreachable-requires g c =
-    let tells = c.requires.tells in
-    records_made _ tells.0 tells.1 c.requires.kind _ c.in_ok-rdatas.ensures _ c.in_default.ensures.checks

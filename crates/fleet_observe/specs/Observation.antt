@@ -1,0 +1,90 @@
+-- An observation as plain data.
+use Rattle.std.specs.Prelude.{◌≡◌, ◌≢◌, ℕ, ◌+◌, ◌<◌, ◌≤◌, ◌⊎◌, List, ◌∷◌, ◌++◌}
+use Rattle.fleet_name.specs.Name.{wire, IsName}
+use Rattle.fleet_wire.specs.Number.{u16_octets}
+use Rattle.fleet_observe.specs.Members.{Has}
+use Rattle.fleet_observe.specs.Body.{IsPositiveBody, IsNegativeBody}
+use Rattle.fleet_observe.specs.declared.bounds.TheConstants.{LATEST, LONGEST_DENIAL, LONGEST_LIFE}
+use Rattle.fleet_observe.specs.declared.kind.Kind.{Kind}
+use Rattle.fleet_observe.specs.declared.kind.Kind.TheVariants.{NameError, NoData, Positive}
+
+-- what was observed of a name: the kind, the name as its labels, the type, the body's octets, the
+-- rank, the moment and the life in seconds
+pub record ObservationData : Type 0 where
+  pub kind : Kind
+  pub name : List (List ℕ)
+  pub rtype : ℕ
+  pub body : List ℕ
+  pub rank : ℕ
+  pub stamp : ℕ
+  pub life : ℕ
+
+-- the kinds by number, as keys and frames have them
+abbrev pub kind_number : Kind → ℕ
+kind_number NameError = 1
+kind_number NoData = 2
+kind_number Positive = 3
+
+-- a kind that denies: a name error or no data
+abbrev pub IsNegativeKind : Kind → Type 0
+IsNegativeKind kind = (kind ≡ NameError) ⊎ (kind ≡ NoData)
+
+-- the moment at which it ends
+abbrev pub expires : ObservationData → ℕ
+expires o = o.stamp + o.life
+
+-- the octets of a key: the name in full, the kind's number, the type in two octets
+abbrev pub key_at : List (List ℕ) → Kind → ℕ → List ℕ
+key_at name kind rtype = wire name ++ kind_number kind ∷ u16_octets rtype
+
+abbrev pub key_of : ObservationData → List ℕ
+key_of o = key_at o.name o.kind o.rtype
+
+-- a key is of one name, one kind and one type
+abbrev pub OneKey : Type 0
+OneKey = (n m : List (List ℕ)) (k j : Kind) (r q : ℕ) → key_at n k r ≡ key_at m j q
+    → (n ≡ m) × (k ≡ j) × (r ≡ q)
+
+-- a rank
+abbrev pub IsRank : ℕ → Type 0
+IsRank rank = (1 ≤ rank) × (rank ≤ 3)
+
+-- a rank of a denial
+abbrev pub IsDenialRank : ℕ → Type 0
+IsDenialRank rank = (rank ≡ 1) ⊎ (rank ≡ 3)
+
+-- a life, in seconds
+abbrev pub IsLife : ℕ → ℕ → Type 0
+IsLife most life = (1 ≤ life) × (life ≤ most)
+
+-- a type that data can have: not 0, not OPT (41) and not one of 128 to 255 (RFC 6895 3.1)
+pub record IsDataType (rtype : ℕ) : Type 0 where
+  pub short : rtype < 65536
+  pub some : rtype ≢ 0
+  pub no_option : rtype ≢ 41
+  pub no_meta : 128 ≤ rtype → rtype ≤ 255 → ⊥
+
+-- what a positive observation is besides
+pub record IsPositive (o : ObservationData) : Type 0 where
+  pub typed : IsDataType o.rtype
+  pub body : IsPositiveBody o.rtype o.body
+
+-- what a negative observation is besides
+pub record IsNegative (o : ObservationData) : Type 0 where
+  pub rank : IsDenialRank o.rank
+  pub life : IsLife LONGEST_DENIAL o.life
+  pub body : IsNegativeBody o.name o.body
+
+-- what every observation of a program is
+pub record IsObservation (o : ObservationData) : Type 0 where
+  pub named : IsName o.name
+  pub rank : IsRank o.rank
+  pub stamped : o.stamp ≤ LATEST
+  pub life : IsLife LONGEST_LIFE o.life
+  pub positive : o.kind ≡ Positive → IsPositive o
+  pub no_data : o.kind ≡ NoData → IsNegative o × IsDataType o.rtype
+  pub name_error : o.kind ≡ NameError → IsNegative o × (o.rtype ≡ 0)
+
+-- every member is what an observation is
+abbrev pub AreObservations : List ObservationData → Type 0
+AreObservations s = (o : ObservationData) → Has s o → IsObservation o

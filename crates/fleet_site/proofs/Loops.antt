@@ -1,0 +1,66 @@
+-- What the loops of a server keep.
+use Rattle.std.specs.Prelude.{◌≡◌, ℕ, ◌+◌, ◌<◌, ◌≤◌, max, Bool, true, false, List, length, Option, Some, None, Result}
+use Rattle.rand_core.specs.Stream.{Stream}
+use Rattle.fleet_pending.specs.Due.{due_at}
+use Rattle.fleet_site.specs.OutcomeData.{OutcomeData}
+use Rattle.fleet_site.specs.SiteData.{SiteData}
+use Rattle.fleet_site.specs.SiteModel.{SiteModel}
+use Rattle.fleet_site.specs.StandsFor.{StandsFor}
+use Rattle.fleet_site.specs.PortRecord.{PortState, Made}
+use Rattle.fleet_site.specs.Served.{Took}
+use Rattle.fleet_site.specs.Turn.{Act, Between, Deal, Deals, Ticks, Turns, start_of}
+use Rattle.fleet_site.specs.declared.outcome.SiteFault.{SiteFault}
+use Rattle.fleet_site.specs.declared.report.Report.{Report}
+
+-- for each model that the site stood for this is a step, and the site stands for the model
+-- afterwards
+pub record Stepped (x : Deal) (a : Result OutcomeData SiteFault) (old new : SiteData) : Type 0 where
+  pub step : (m : SiteModel) → StandsFor old m → (n : SiteModel) × Deals m x a n × StandsFor new n
+  pub setting : new.setting ≡ old.setting
+
+-- how many entries of a site are due at a moment, which raises its clock
+abbrev pub due_by : SiteData → ℕ → ℕ
+due_by s t = due_at s.outstanding (max s.clock t)
+
+-- how many ticks there can be yet
+abbrev pub room : Bool → ℕ → ℕ
+room true due = max 1 due
+room false due = 0
+
+-- it falls with each tick
+abbrev pub ticks_left : Bool → ℕ → ℕ
+ticks_left true due = due + 1
+ticks_left false due = 0
+
+-- some ticks of a turn
+pub record Ticking (old new : PortState) (t : ℕ) (more : Bool) (site after : SiteData) (r q : Report)
+    : Type 0 where
+  pub acts : List Act
+  pub ticks : Ticks t acts more
+  pub few : length acts + room more (due_by after t) ≤ 256
+  pub took : Took old new site after r q acts
+
+-- the moments that a clock has left are those from n on
+abbrev pub Ahead : Option (ℕ → ℕ) → ℕ → Option (ℕ → ℕ) → Type 0
+Ahead None n now = Unit {0}
+Ahead (Some moments) n now =
+    (rest : ℕ → ℕ) × (now ≡ Some rest) × ((k : ℕ) → rest k ≡ moments (n + k))
+
+-- some turns of a run
+pub record Serves (old new : PortState) (moments : Option (ℕ → ℕ)) (s : Stream) (n every : ℕ)
+    (site after : SiteData) (swept : Option ℕ) (report : Report) : Type 0 where
+  pub end : Between
+  pub run : Turns moments s every n (start_of site) end
+  pub made : Made old new end.calls
+  pub is_site : after ≡ end.site
+  pub is_swept : swept ≡ end.swept
+  pub is_report : report ≡ end.report
+
+-- what a port counts as failures is what a report counts as lost and faults, where no count is at
+-- its end
+pub record CountsFailures (old new : ℕ) (r q : Report) : Type 0 where
+  pub lost : q.lost < 18446744073709551615 → r.lost ≤ q.lost
+  pub faults : q.faults < 18446744073709551615 → r.faults ≤ q.faults
+  pub failed : new < 18446744073709551615 → old ≤ new
+  pub sum : q.lost < 18446744073709551615 → q.faults < 18446744073709551615
+      → new < 18446744073709551615 → new + (r.lost + r.faults) ≡ old + (q.lost + q.faults)

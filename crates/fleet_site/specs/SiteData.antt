@@ -1,0 +1,23 @@
+-- What a site holds.
+use Rattle.std.specs.Prelude.{ℕ, ◌≤◌}
+use Rattle.fleet_cache.specs.Cached.{CacheData}
+use Rattle.fleet_pending.specs.PendingData.{PendingData}
+use Rattle.fleet_site.specs.ConfigData.{ConfigData, IsConfigData}
+use Rattle.fleet_site.specs.Table.{IsTableOf}
+
+-- what a site holds: what it took in only as the items of its cache
+pub record SiteData : Type 0 where
+  pub setting : ConfigData
+  pub cache : CacheData
+  pub clock : ℕ
+  pub outstanding : PendingData
+
+abbrev pub site_data : ConfigData → CacheData → ℕ → PendingData → SiteData
+site_data setting cache clock outstanding =
+    record { setting = setting; cache = cache; clock = clock; outstanding = outstanding }
+
+-- what each site of a program meets
+pub record IsSiteData (s : SiteData) : Type 0 where
+  pub setting : IsConfigData s.setting
+  pub reached : s.cache.floor ≤ s.clock
+  pub questions : IsTableOf s.setting.upstreams s.outstanding

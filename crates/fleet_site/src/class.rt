@@ -1,0 +1,4 @@
+//! The classes of records (RFC 1035 3.2.4).
+
+/// The Internet.
+pub const IN: u16 = 1;

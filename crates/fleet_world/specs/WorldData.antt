@@ -1,0 +1,8 @@
+-- What a world has.
+use Rattle.std.specs.Prelude.{ℕ, List}
+use Rattle.fleet_site.specs.SiteData.{SiteData}
+
+-- the states of its sites, and the octets of each frame that was sent
+pub record WorldData : Type 0 where
+  pub sites : List SiteData
+  pub frames : List (List ℕ)
