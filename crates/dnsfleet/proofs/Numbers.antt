@@ -8,6 +8,7 @@ use Rattle.std.specs.Str.Parse.{digits_value, ParsesUnsigned}
 use Rattle.std.proofs.lemmas.List.Sums.{list_all-from_AllPass}
 use Rattle.std.proofs.lemmas.Str.Parse.{IsNumeralModel, IsDigitsTest, numerals_by_value, parse_digits, digits_value_short}
 use Rattle.dnsfleet.specs.Words.{IsNumber, number_of}
+use Rattle.dnsfleet.specs.declared.words.TheConstants.{MOST_DIGITS}
 
 digits_test : IsDigitsTest (λ ds. list_all is_ascii_digit ds ≡ true)
 digits_test = search rules
@@ -16,7 +17,9 @@ pub model : IsNumeralModel (λ ds. list_all is_ascii_digit ds ≡ true) (digits_
 model = numerals_by_value _ digits_test
 
 -- at most 13 digits are parsed as a number, if there are any
-pub number_parsed : {E : Type 0} (word : List ℕ) (r : Result ℕ E) → ParsesUnsigned 64 10 word r → length word ≤ 13 → AllPass is_ascii_digit word → SomeIff (result_ok r) (IsNumber word) (number_of word)
+pub number_parsed : {E : Type 0} (word : List ℕ) (r : Result ℕ E) → ParsesUnsigned 64 10 word r
+    → length word ≤ MOST_DIGITS → AllPass is_ascii_digit word
+    → SomeIff (result_ok r) (IsNumber word) (number_of word)
 number_parsed {E = E} word (Ok x) h short ds =
     let all : list_all is_ascii_digit word ≡ true = list_all-from_AllPass is_ascii_digit word ds in
     let told = parse_digits model {E = E} 64 word (Ok x) h all in
@@ -24,5 +27,6 @@ number_parsed {E = E} word (Ok x) h short ds =
 number_parsed {E = E} word (Err e) h short ds =
     let all : list_all is_ascii_digit word ≡ true = list_all-from_AllPass is_ascii_digit word ds in
     let told = parse_digits model {E = E} 64 word (Err e) h all in
-    let fits : digits_value 10 word < 10 ^ 13 = digits_value_short model word 13 all short in
+    let fits : digits_value 10 word < 10 ^ MOST_DIGITS =
+    digits_value_short model word MOST_DIGITS all short in
     λ n. told (omega (arith, n.some), omega (arith, fits))

@@ -12,16 +12,19 @@ unfolding decode_pairs
 none_decoded = refl
 
 -- a word for octets that is not `-` has an even number of digits
-pub digits_of : (word octets : List ℕ) → word ≢ codes "-" → SpellsOctets word octets → (length word % 2 ≡ 0) × AllPass is_hex_digit word
+pub digits_of : (word octets : List ℕ) → word ≢ codes "-" → SpellsOctets word octets
+    → (length word % 2 ≡ 0) × AllPass is_hex_digit word
 digits_of word octets other (inl h) = absurd (other h.0)
 digits_of word octets other (inr h) = let d = decode_of-ok word octets h.1 in (d.0, d.1)
 
 -- an even number of digits decodes
-pub is_decoded : (word : List ℕ) → length word % 2 ≡ 0 → AllPass is_hex_digit word → is_ok (decode_of word) ≡ true
+pub is_decoded : (word : List ℕ) → length word % 2 ≡ 0 → AllPass is_hex_digit word
+    → is_ok (decode_of word) ≡ true
 is_decoded word even digits = let d = decode_of-digits word even digits in ap is_ok d.1
 
 -- and to what it spells
-pub octets_decoded : (word : List ℕ) → word ≢ [] → length word % 2 ≡ 0 → AllPass is_hex_digit word → SpellsOctets word (result_unwrap_or (decode_of word) [])
+pub octets_decoded : (word : List ℕ) → word ≢ [] → length word % 2 ≡ 0 → AllPass is_hex_digit word
+    → SpellsOctets word (result_unwrap_or (decode_of word) [])
 octets_decoded word some even digits =
     let d = decode_of-digits word even digits in
     let e : result_unwrap_or (decode_of word) [] ≡ d.0 = ap (λ r. result_unwrap_or r []) d.1 in

@@ -16,7 +16,9 @@ unfolding ipv4_bits IsIpv4OfBits
 bits_back a n fits e = ap (from_be_bytes w32) e ∙ from_be_bytes-to_be_bytes_4 n fits
 
 -- so an address is the one that it was made of
-pub address_back : (addr : Addr) (a : Ipv4Addr) (s : SocketAddrV4) → addr.host < 2 ^ 32 → IsIpv4OfBits a addr.host → v4_ip s ≡ a → v4_port s ≡ addr.port → address_in (V4 s) ≡ Some addr
+pub address_back : (addr : Addr) (a : Ipv4Addr) (s : SocketAddrV4) → addr.host < 2 ^ 32
+    → IsIpv4OfBits a addr.host → v4_ip s ≡ a → v4_port s ≡ addr.port → address_in (V4 s) ≡ Some addr
 address_back addr a s fits made ip port =
-    let host : ipv4_bits (v4_ip s) ≡ addr.host = ap ipv4_bits ip ∙ bits_back a addr.host fits made in
+    let host : ipv4_bits (v4_ip s) ≡ addr.host = ap ipv4_bits ip ∙ bits_back a addr.host fits
+    made in
     rw (host, port)

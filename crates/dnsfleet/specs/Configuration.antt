@@ -1,10 +1,10 @@
 -- What a configuration says, key by key, or its first fault.
-use Rattle.std.specs.Prelude.{◌≡◌, ◌≢◌, ℕ, ◌<◌, ◌≤◌, ◌⊎◌, ⊤, List, [], ◌∷◌, length, codes, Bool, true, ◌&&◌, is_some, IsTrue, IsFalse, IsUtf8, Option, Some, None, Result, Ok, Err, ℤ, pos, Vec}
+use Rattle.std.specs.Prelude.{◌≡◌, ◌≢◌, ℕ, ◌<◌, ◌≤◌, ◌⊎◌, ⊤, List, [], ◌∷◌, length, codes, IsSome, IsUtf8, Option, Some, None, Result, Ok, Err, ℤ, pos, Vec}
 use Rattle.std.specs.declared.alloc.Global.{Global}
 use Rattle.toml.specs.Data.{Data, Items, no_items, item, Members, no_members, member, get_member, as_str, as_array, as_integer}
 use Rattle.toml.specs.Parse.{parse_document}
 use Rattle.fleet_pending.specs.declared.waiter.Addr.{Addr}
-use Rattle.fleet_site.specs.Config.{SettingFails}
+use Rattle.fleet_site.specs.Config.{ConfigFails}
 use Rattle.fleet_site.specs.declared.config.ConfigFault.{ConfigFault}
 use Rattle.fleet_site.specs.declared.config.ConfigFault.TheVariants as pair
 use Rattle.dnsfleet.specs.Words.{SpellsAddress}
@@ -53,9 +53,9 @@ ReadsListen (Some value) (Err fault) = ReadsAddress value (Err fault)
     × (fault ≡ NotLoopback))
 
 -- a list whose entries are all texts
-abbrev pub are_texts : Items → Bool
-are_texts no_items = true
-are_texts (item value rest) = is_some (as_str value) && are_texts rest
+abbrev pub AreTexts : Items → Type 0
+AreTexts no_items = ⊤
+AreTexts (item value rest) = IsSome (as_str value) × AreTexts rest
 
 -- the addresses that they spell, in their order
 abbrev pub SpellAddresses : Items → List Addr → Type 0
@@ -75,8 +75,8 @@ ReadsTexts items (Err fault) = (fault ≡ OutOfMemory)
 abbrev pub ReadsItems : Option Items → Reading (List Addr) → Type 0
 ReadsItems None reading = reading ≡ Err WrongKind
 ReadsItems (Some items) (Ok addrs) = SpellAddresses items addrs
-ReadsItems (Some items) (Err fault) = (IsFalse (are_texts items) × (fault ≡ WrongKind))
-    ⊎ (IsTrue (are_texts items) × ReadsTexts items (Err fault))
+ReadsItems (Some items) (Err fault) = ((AreTexts items → ⊥) × (fault ≡ WrongKind))
+    ⊎ (AreTexts items × ReadsTexts items (Err fault))
 
 -- `upstreams` have to be there
 abbrev pub ReadsUpstreams : Option Data → Reading (List Addr) → Type 0
@@ -153,7 +153,7 @@ pub data FirstFault (table : Members) (fault : SettingsFault) : Type 0 where
   of_sweep : PeersAreRead table → ReadsSweep (sweep_in table) (Err fault) → FirstFault table fault
   together : (listen : Addr) → (upstreams peers : List Addr)
       → (sweep : ℕ) → Says table listen upstreams peers sweep
-      → (why : ConfigFault) → SettingFails upstreams peers why → fault ≡ fault_of why
+      → (why : ConfigFault) → ConfigFails upstreams peers why → fault ≡ fault_of why
       → FirstFault table fault
 
 -- what a table is read as

@@ -1,7 +1,8 @@
 -- The key that a server is given.
 use Rattle.std.specs.Prelude.{◌≡◌, ℕ, List, Ok}
 use Rattle.hex.specs.Hex.{decode_sized}
+use Rattle.dnsfleet.specs.declared.serve.TheConstants.{KEY_LENGTH}
 
--- 32 octets as 64 hexadecimal digits of either case, two for each
+-- KEY_LENGTH octets as hexadecimal digits of either case, two for each
 abbrev pub SpellsKey : List ℕ → List ℕ → Type 0
-SpellsKey text key = decode_sized text 32 ≡ Ok key
+SpellsKey text key = decode_sized text KEY_LENGTH ≡ Ok key

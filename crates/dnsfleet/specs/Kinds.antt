@@ -1,7 +1,7 @@
 -- The word for a kind of observation.
 use Rattle.std.specs.Prelude.{ℕ, List, codes}
-use Rattle.fleet_observe.specs.declared.kind.Kind.{Kind}
-use Rattle.fleet_observe.specs.declared.kind.Kind.TheVariants.{Positive, NoData, NameError}
+use Rattle.fleet_observe.specs.declared.observation.kind.Kind.{Kind}
+use Rattle.fleet_observe.specs.declared.observation.kind.Kind.TheVariants.{Positive, NoData, NameError}
 
 abbrev pub kind_word : Kind → List ℕ
 kind_word Positive = codes "positive"

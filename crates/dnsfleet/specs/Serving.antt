@@ -8,11 +8,12 @@ use Rattle.fleet_site.specs.Served.{Served, FollowsSteps}
 use Rattle.fleet_site.specs.StandsFor.{StandsFor, opening}
 use Rattle.fleet_site.specs.SiteData.{SiteData}
 use Rattle.fleet_site.specs.declared.report.Report.{Report}
+use Rattle.dnsfleet.specs.declared.serve.TheConstants.{DOUBLE_ROUNDS}
 use Rattle.dnsfleet.specs.declared.settings.Settings.{Settings}
 
 -- the key stream of ChaCha20
 abbrev pub words_of : List ℕ → Stream
-words_of key = stream_of (steps_u32 (next_word 10)) (of_seed key)
+words_of key = stream_of (steps_u32 (next_word DOUBLE_ROUNDS)) (of_seed key)
 
 -- so many turns were served, with the upstreams, the peers and the seconds between sweeps that the
 -- settings say, by a site that took nothing in before; over them it follows the model's steps

@@ -5,16 +5,16 @@ use Rattle.fleet_site.specs.ConfigData.{ConfigData}
 use Rattle.dnsfleet.specs.declared.fleet.TheConstants.{LOOPBACK, FIRST_UPSTREAM_PORT, SECOND_UPSTREAM_PORT, FIRST_SITE_PORT}
 
 -- a port of 127.0.0.1
-abbrev pub local : ℕ → Addr
-local port = record { host = LOOPBACK; port = port }
+abbrev pub local_addr : ℕ → Addr
+local_addr port = record { host = LOOPBACK; port = port }
 
 -- the upstreams of every site, in order
 abbrev pub upstreams : List Addr
-upstreams = local FIRST_UPSTREAM_PORT ∷ local SECOND_UPSTREAM_PORT ∷ []
+upstreams = local_addr FIRST_UPSTREAM_PORT ∷ local_addr SECOND_UPSTREAM_PORT ∷ []
 
 -- where a site stands
 abbrev pub site_address : ℕ → Addr
-site_address site = local (FIRST_SITE_PORT + site)
+site_address site = local_addr (FIRST_SITE_PORT + site)
 
 -- the peers of a site: every other one of so many
 abbrev pub peers_of : ℕ → ℕ → List Addr

@@ -1,5 +1,5 @@
 -- What the words of a line say.
-use Rattle.std.specs.Prelude.{◌≡◌, ◌≢◌, ℕ, ◌≤◌, ◌⊎◌, ◌<◌, ◌^◌, ◌++◌, List, [], length, codes, nat_eq, IsFalse, Ok}
+use Rattle.std.specs.Prelude.{◌≡◌, ◌≢◌, ℕ, ◌≤◌, ◌⊎◌, ◌++◌, List, [], length, codes, nat_eq, IsFalse, Ok}
 use Rattle.std.specs.Char.{is_ascii_digit}
 use Rattle.std.specs.List.{AllPass, starts_with}
 use Rattle.std.specs.Int.{w32, to_be_bytes}
@@ -7,7 +7,7 @@ use Rattle.std.specs.Net.Grammar.{IsDotted}
 use Rattle.std.specs.Str.Parse.{digits_value}
 use Rattle.fleet_pending.specs.declared.waiter.Addr.{Addr}
 use Rattle.hex.specs.Hex.{decode_of}
-use Rattle.dnsfleet.specs.declared.words.TheConstants.{MOST_DIGITS}
+use Rattle.dnsfleet.specs.declared.words.TheConstants.{MOST_DIGITS, LARGEST_16_BITS}
 
 -- a whole number: 1 to 13 decimal digits
 pub record IsNumber (word : List ℕ) : Type 0 where
@@ -23,7 +23,7 @@ number_of word = digits_value 10 word
 pub record IsPort (word : List ℕ) : Type 0 where
   pub number : IsNumber word
   pub plain : IsFalse (starts_with nat_eq word (codes "0"))
-  pub fits : number_of word < 2 ^ 16
+  pub fits : number_of word ≤ LARGEST_16_BITS
 
 -- an address: four numbers below 256 without leading zeros and dots between them, a colon, and a
 -- port

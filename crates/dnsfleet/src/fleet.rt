@@ -3,7 +3,7 @@
 ghost use Rattle.std.specs.Prelude.{◌≡◌, ◌⊎◌, ◌↔◌, ◌<◌, ◌≤◌, IsSome, IsNone, IsOk, IfOk, IfErr, OnOk, IsErrOf};
 ghost use Rattle.fleet_world.specs.FleetModel.{opening};
 ghost use Rattle.fleet_world.specs.StandsFor.{StandsFor};
-ghost use Rattle.dnsfleet.specs.Settings.{local, peers_of, config_of, configs_of, upstreams};
+ghost use Rattle.dnsfleet.specs.Settings.{local_addr, peers_of, config_of, configs_of, upstreams};
 ghost use Rattle.dnsfleet.specs.declared.words.TheConstants.{MOST_SITES};
 
 use crate::fault::What;
@@ -95,7 +95,7 @@ impl<A: Allocator + Copy> Fleet<A> {
 
 /// An address of this machine.
 fn local_address(port: u16) -> Addr
-    ensures { result ≡ local port }
+    ensures { result ≡ local_addr port }
 {
     Addr {
         host: LOOPBACK,

@@ -1,6 +1,6 @@
 //! The lines of a script, one after the other.
 
-ghost use Rattle.std.specs.Prelude.{◌≡◌, ◌<◌, IfErr};
+ghost use Rattle.std.specs.Prelude.{◌<◌, IfErr};
 
 use crate::command::{Command, Step, read_command};
 use crate::fault::{ScriptFault, What};

@@ -4,6 +4,7 @@ ghost use Rattle.std.specs.Prelude.{◌≡◌, ◌⊎◌, List, ℕ, IfOk, IsErr
 ghost use Rattle.std.specs.Process.{exit_status};
 ghost use Rattle.dnsfleet.specs.Key.{SpellsKey};
 ghost use Rattle.dnsfleet.specs.Serving.{ServesNew};
+ghost use Rattle.dnsfleet.specs.declared.serve.TheConstants.{BAD_KEY};
 
 use crate::settings::{LONGEST_CONFIGURATION, Settings, SettingsFault, read_settings};
 use crate::system_clock::SystemClock;
@@ -20,6 +21,15 @@ use std::process::ExitCode;
 use std::rt::Files;
 use std::{fs, io, time};
 use thiserror::Error;
+
+/// How many octets a key has.
+const KEY_LENGTH: usize = 32;
+
+/// How many double rounds ChaCha20 has, as contracts cite it.
+const DOUBLE_ROUNDS: u32 = 10;
+
+/// The status with which a bad key ends.
+const BAD_KEY: u8 = 2;
 
 /// The words of `serve`, as they were given.
 #[derive(Clone, Copy)]
@@ -79,11 +89,11 @@ pub enum ConfigurationFault {
 }
 
 /// The key that 64 hexadecimal digits spell.
-fn key_of(text: &str) -> Option<[u8; 32]>
+fn key_of(text: &str) -> Option<[u8; KEY_LENGTH]>
     ensures { MatchOption result ((key : List ℕ) → SpellsKey text.now key → ⊥)
         (λ key. SpellsKey text.now key) }
 {
-    let mut key = [0u8; 32];
+    let mut key = [0u8; KEY_LENGTH];
     match hex::decode_to_slice(text, &mut key) {
         Ok(()) => Some(key),
         Err(_) => None,
@@ -136,7 +146,7 @@ fn serve_new<P: Port, C: Clock>(
     port: &mut P,
     clock: &mut C,
     settings: Settings,
-    key: [u8; 32],
+    key: [u8; KEY_LENGTH],
     turns: u32,
 ) -> Report
     ensures { ServesNew (P.tells port.old) (P.tells port.new)
@@ -153,7 +163,7 @@ fn serve_port<R: time::Clock + AllocGlobal, O: Print>(
     out: &O,
     port: &mut UdpPort,
     settings: Settings,
-    key: [u8; 32],
+    key: [u8; KEY_LENGTH],
     turns: u32,
 ) -> io::Result<()> {
     let Addr { host, port: number } = port.address();
@@ -170,12 +180,12 @@ pub fn serve_settings<R: time::Clock + Net + AllocGlobal, O: Print + Eprint>(
     rt: &R,
     out: &O,
     settings: Result<Settings, ConfigurationFault>,
-    key: [u8; 32],
+    key: [u8; KEY_LENGTH],
     turns: u32,
 ) -> io::Result<ExitCode>
     ensures served { IsOk settings
-        → IfOk result (λ code. (exit_status code ≡ 0) ⊎ (exit_status code ≡ 1)) }
-    ensures fault { IsErr settings → IfOk result (λ code. exit_status code ≡ 1) }
+        → IfOk result (λ code. (code ≡ ExitCode.SUCCESS) ⊎ (code ≡ ExitCode.FAILURE)) }
+    ensures fault { IsErr settings → IfOk result (λ code. code ≡ ExitCode.FAILURE) }
 {
     let settings = match settings {
         Ok(settings) => settings,
@@ -200,9 +210,9 @@ pub fn run_server<R: Files + time::Clock + Net + AllocGlobal, O: Print + Eprint>
     words: Words<'_>,
 ) -> io::Result<ExitCode>
     ensures bad_key { ((key : List ℕ) → SpellsKey words.entry.key.now key → ⊥)
-        → IfOk result (λ code. exit_status code ≡ 2) }
+        → IfOk result (λ code. exit_status code ≡ BAD_KEY) }
     ensures with_key { (key : List ℕ) → SpellsKey words.entry.key.now key
-        → IfOk result (λ code. (exit_status code ≡ 0) ⊎ (exit_status code ≡ 1)) }
+        → IfOk result (λ code. (code ≡ ExitCode.SUCCESS) ⊎ (code ≡ ExitCode.FAILURE)) }
 {
     match key_of(words.key) {
         Some(key) => {
@@ -211,7 +221,7 @@ pub fn run_server<R: Files + time::Clock + Net + AllocGlobal, O: Print + Eprint>
         }
         None => {
             eprintln!(out; "dnsfleet: key: 64 hexadecimal digits wanted")?;
-            Ok(ExitCode::from(2))
+            Ok(ExitCode::from(BAD_KEY))
         }
     }
 }

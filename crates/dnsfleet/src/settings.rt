@@ -1,9 +1,9 @@
 //! What the configuration of a server says.
 
-ghost use Rattle.std.specs.Prelude.{◌≡◌, ◌↔◌, IsTrue, IsFalse, IfOk, Ok, map, option_map};
+ghost use Rattle.std.specs.Prelude.{◌≡◌, ◌↔◌, IsTrue, Ok, option_map};
 ghost use Rattle.toml.specs.Data.{as_array};
-ghost use Rattle.toml.specs.View.{view, table_view, array_view, items_view};
-ghost use Rattle.dnsfleet.specs.Configuration.{ReadsSettings, ReadsTable, HasKeys, IsKey, fault_of, ReadsListen, ReadsUpstreams, ReadsPeers, ReadsSweep, ReadsAddress, ReadsItems, ReadsTexts, are_texts, vec_read};
+ghost use Rattle.toml.specs.View.{view, table_view, items_view};
+ghost use Rattle.dnsfleet.specs.Configuration.{ReadsSettings, ReadsTable, HasKeys, IsKey, fault_of, ReadsListen, ReadsUpstreams, ReadsPeers, ReadsSweep, ReadsAddress, ReadsItems, ReadsTexts, AreTexts, vec_read};
 
 use crate::fleet::LOOPBACK;
 use crate::words::address;
@@ -97,7 +97,7 @@ pub fn read_settings(alloc: Global, octets: &[u8]) -> Result<Settings, SettingsF
 fn settings_of(alloc: Global, table: &Table) -> Result<Settings, SettingsFault>
     ensures { ReadsTable (table_view table.now) result }
 {
-    if has_unknown_key(table) {
+    if !has_only_known_keys(table) {
         return Err(SettingsFault::UnknownKey);
     }
     let listen = match listen_of(table.get("listen")) {
@@ -126,16 +126,16 @@ fn settings_of(alloc: Global, table: &Table) -> Result<Settings, SettingsFault>
     }
 }
 
-/// Whether a table has a key that no configuration has.
-fn has_unknown_key(table: &Table) -> bool
-    ensures { IsFalse result ↔ HasKeys (table_view table.now) }
+/// Whether a table has no key but those of a configuration.
+fn has_only_known_keys(table: &Table) -> bool
+    ensures { IsTrue result ↔ HasKeys (table_view table.now) }
 {
     for (key, _) in table {
         if !is_known(key.as_str()) {
-            return true;
+            return false;
         }
     }
-    false
+    true
 }
 
 /// Whether a key is one of a configuration.
@@ -237,7 +237,7 @@ fn addresses_of(alloc: Global, value: &Value) -> Result<Vec<Addr>, SettingsFault
 
 /// Whether each value is a text.
 fn are_texts(items: &[Value]) -> bool
-    ensures { result ≡ are_texts (items_view items.now) }
+    ensures { IsTrue result ↔ AreTexts (items_view items.now) }
 {
     for item in items {
         if !item.is_str() {
@@ -249,7 +249,7 @@ fn are_texts(items: &[Value]) -> bool
 
 /// The addresses that texts spell.
 fn read_addresses(alloc: Global, items: &[Value]) -> Result<Vec<Addr>, SettingsFault>
-    requires { IsTrue (are_texts (items_view items.now)) }
+    requires { AreTexts (items_view items.now) }
     ensures { ReadsTexts (items_view items.now) (vec_read result) }
 {
     let mut addrs = Vec::new(alloc);

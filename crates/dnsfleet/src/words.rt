@@ -1,12 +1,12 @@
 //! The words of a line.
 
-ghost use Rattle.std.specs.Prelude.{◌≡◌, ◌↔◌, ℕ, ◌<◌, ◌≤◌, ◌^◌, List, IsTrue, IsSome, IfSome, IfOk, MatchOption};
+ghost use Rattle.std.specs.Prelude.{◌≡◌, ◌↔◌, ℕ, ◌≤◌, List, IsTrue, IsSome, IfSome, IfOk, MatchOption};
 ghost use Rattle.std.specs.Char.{is_ascii_digit};
 ghost use Rattle.std.specs.List.{AllPass};
 ghost use Rattle.std.specs.Option.{SomeIff};
 ghost use Rattle.hex.specs.Hex.{is_hex_digit};
 ghost use Rattle.dnsfleet.specs.Words.{IsNumber, number_of, IsPort, SpellsAddress, SpellsOctets};
-ghost use Rattle.dnsfleet.specs.declared.words.TheConstants.{MOST_SITES};
+ghost use Rattle.dnsfleet.specs.declared.words.TheConstants.{MOST_SITES, LARGEST_16_BITS};
 ghost use Rattle.fleet_observe.specs.declared.bounds.TheConstants.{LATEST};
 ghost use Rattle.fleet_pending.specs.declared.waiter.Addr.{Addr};
 
@@ -19,6 +19,9 @@ use std::net::Ipv4Addr;
 
 /// How many digits a number has at most.
 const MOST_DIGITS: usize = 13;
+
+/// The largest number of 16 bits, as a port is one; contracts cite it.
+const LARGEST_16_BITS: u16 = u16::MAX;
 
 /// How many sites there may be.
 pub const MOST_SITES: usize = 9;
@@ -79,7 +82,7 @@ pub fn site_count(word: &str) -> Option<SiteCount>
 
 /// A number of 16 bits: 0 to 65535.
 pub fn word_of_16_bits(word: &str) -> Option<u16>
-    ensures { SomeIff result (IsNumber word.now × (number_of word.now < 2 ^ 16))
+    ensures { SomeIff result (IsNumber word.now × (number_of word.now ≤ LARGEST_16_BITS))
         (number_of word.now) }
 {
     u16::try_from(number(word)?).ok()

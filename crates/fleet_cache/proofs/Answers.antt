@@ -1,6 +1,5 @@
 -- What the lookups find is what the definition takes.
-use Rattle.std.proofs.Common.{ℕ, zero, suc, ◌≡◌, ◌≤◌, Bool, true, false, ◌&&◌, ◌||◌, not, nat_eq, List, [], ◌∷◌, ◌++◌, ◌⊎◌, inl, inr, Option, Some, None, sym, ap, refl, ◌∙◌, arith}
-use mathlib.Core.Bool.{false≢true}
+use Rattle.std.proofs.Common.{ℕ, zero, suc, ◌≡◌, ◌≤◌, true, false, ◌&&◌, ◌||◌, not, nat_eq, List, [], ◌∷◌, ◌++◌, inl, inr, Option, Some, None, sym, ap, refl, ◌∙◌, arith}
 use Rattle.std.specs.Ordering.{is_eq}
 use Rattle.std.proofs.lemmas.Cmp.{tied_itself, nat_list_cmp_total}
 use Rattle.std.proofs.lemmas.Map.Lookups.{exact_bytes}
@@ -8,8 +7,8 @@ use Rattle.std.proofs.lemmas.Bool.{and_parts, and_from, or_cases, or_left, or_ri
 use Rattle.std.proofs.lemmas.Bool.Decides.{nat_tests}
 use Rattle.fleet_name.specs.Name.{wire, IsUnder}
 use Rattle.fleet_wire.specs.declared.rtype.TheConstants.{CNAME}
-use Rattle.fleet_observe.specs.declared.kind.Kind.{Kind}
-use Rattle.fleet_observe.specs.declared.kind.Kind.TheVariants.{NameError, NoData as WithoutData, Positive}
+use Rattle.fleet_observe.specs.declared.observation.kind.Kind.{Kind}
+use Rattle.fleet_observe.specs.declared.observation.kind.Kind.TheVariants.{NameError, NoData as WithoutData, Positive}
 use Rattle.fleet_observe.specs.Observation.{ObservationData, IsObservation, key_of}
 use Rattle.fleet_cache.specs.Live.{has_ended, is_live}
 use Rattle.fleet_cache.specs.Relevant.{is_name, is_under, is_relevant, speaks_of}
@@ -27,7 +26,8 @@ pub name_from : (n a : List (List ℕ)) → is_name n a ≡ true → a ≡ n
 name_from n a e = wire_exact a n (exact_bytes _ _ ((Equal-is _).0 e))
 
 pub name_to : (n a : List (List ℕ)) → a ≡ n → is_name n a ≡ true
-name_to n a e = ap is_eq (ap (λ v. octets_cmp (wire v) (wire n)) e ∙ tied_itself nat_list_cmp_total (wire n))
+name_to n a e = ap is_eq (ap (λ v. octets_cmp (wire v) (wire n)) e
+    ∙ tied_itself nat_list_cmp_total (wire n))
 
 pub under_from : (n a : List (List ℕ)) → is_under n a ≡ true → IsUnder n a
 under_from [] a e = ([], sym (name_from [] a e))
@@ -40,18 +40,30 @@ pub under_to : (n a front : List (List ℕ)) → n ≡ front ++ a → is_under n
 under_to [] a [] e = name_to [] a (sym e)
 under_to [] a (l ∷ front) e = absurd (cc)
 under_to (m ∷ n) a [] e = or_left (is_name (m ∷ n) a) (is_under n a) (name_to (m ∷ n) a (sym e))
-under_to (m ∷ n) a (l ∷ front) e = let t : n ≡ front ++ a = cc in or_right (is_name (m ∷ n) a) (is_under n a) (under_to n a front t)
+under_to (m ∷ n) a (l ∷ front) e = let t : n ≡ front ++ a = cc
+    in or_right (is_name (m ∷ n) a) (is_under n a) (under_to n a front t)
 
 abbrev pub Matters : ℕ → List (List ℕ) → ℕ → ObservationData → Type 0
 Matters t n q o = (has_ended t o ≡ false) × (is_relevant n q o ≡ true)
 
-pub matters_from : (t : ℕ) (n : List (List ℕ)) (q : ℕ) (o : ObservationData) → Speaks t n q o → Matters t n q o
-matters_from t n q o (inl (inl on)) = (on.live, rw on.of_kind (and_from _ _ (name_to n o.name on.named) (or_left _ _ (eq-eqb _ _ on.of_type))))
-matters_from t n q o (inl (inr on)) = (on.live, rw on.of_kind (and_from _ _ (name_to n o.name on.named) (or_right _ _ (eq-eqb _ _ on.of_type))))
-matters_from t n q o (inr (inl on)) = (on.live, rw on.of_kind (and_from _ _ (name_to n o.name on.named) (eq-eqb _ _ on.of_type)))
+pub matters_from : (t : ℕ) (n : List (List ℕ)) (q : ℕ) (o : ObservationData) → Speaks t n q o
+    → Matters t n q o
+matters_from t n q o (inl (inl on)) = (
+  on.live,
+  rw on.of_kind (and_from _ _ (name_to n o.name on.named) (or_left _ _ (eq-eqb _ _ on.of_type))),
+)
+matters_from t n q o (inl (inr on)) = (
+  on.live,
+  rw on.of_kind (and_from _ _ (name_to n o.name on.named) (or_right _ _ (eq-eqb _ _ on.of_type))),
+)
+matters_from t n q o (inr (inl on)) = (
+  on.live,
+  rw on.of_kind (and_from _ _ (name_to n o.name on.named) (eq-eqb _ _ on.of_type)),
+)
 matters_from t n q o (inr (inr d)) = (d.live, rw d.of_kind (under_to n o.name d.under.0 d.under.1))
 
-pub speaks_from : (t : ℕ) (n : List (List ℕ)) (q : ℕ) (o : ObservationData) → IsObservation o → Matters t n q o → Speaks t n q o
+pub speaks_from : (t : ℕ) (n : List (List ℕ)) (q : ℕ) (o : ObservationData) → IsObservation o
+    → Matters t n q o → Speaks t n q o
 speaks_from t n q o lawful m = by_cases o.kind refl
   where
     by_cases : (k : Kind) → o.kind ≡ k → Speaks t n q o
@@ -59,16 +71,36 @@ speaks_from t n q o lawful m = by_cases o.kind refl
         let both : speaks_of n q Positive o.name o.rtype ≡ true = rw k at m.1 in
         let b = and_parts (is_name n o.name) (nat_eq o.rtype q || nat_eq o.rtype CNAME) both in
         inl (elim (or_cases (nat_eq o.rtype q) (nat_eq o.rtype CNAME) b.1) [
-          | inl same ↦ inl (record { live = m.0; named = name_from n o.name b.0; of_kind = k; of_type = eqb-true _ _ same })
-          | inr alias ↦ inr (record { live = m.0; named = name_from n o.name b.0; of_kind = k; of_type = eqb-true _ _ alias })
+          | inl same ↦ inl (record {
+            live = m.0;
+            named = name_from n o.name b.0;
+            of_kind = k;
+            of_type = eqb-true _ _ same;
+          })
+          | inr alias ↦ inr (record {
+            live = m.0;
+            named = name_from n o.name b.0;
+            of_kind = k;
+            of_type = eqb-true _ _ alias;
+          })
         ])
     by_cases WithoutData k =
         let both : speaks_of n q WithoutData o.name o.rtype ≡ true = rw k at m.1 in
         let b = and_parts (is_name n o.name) (nat_eq o.rtype q) both in
-        inr (inl (record { live = m.0; named = name_from n o.name b.0; of_kind = k; of_type = eqb-true _ _ b.1 }))
+        inr (inl (record {
+          live = m.0;
+          named = name_from n o.name b.0;
+          of_kind = k;
+          of_type = eqb-true _ _ b.1;
+        }))
     by_cases NameError k =
         let under : speaks_of n q NameError o.name o.rtype ≡ true = rw k at m.1 in
-        inr (inr (record { live = m.0; under = under_from n o.name under; of_kind = k; of_type = name_error_type o lawful k }))
+        inr (inr (record {
+          live = m.0;
+          under = under_from n o.name under;
+          of_kind = k;
+          of_type = name_error_type o lawful k;
+        }))
 
 pub live_to : (t : ℕ) (o : ObservationData) → has_ended t o ≡ false → is_live t o ≡ true
 live_to t o e = grind (arith, nat_tests, e)
@@ -77,7 +109,8 @@ pub live_from : (t : ℕ) (o : ObservationData) → is_live t o ≡ true → has
 live_from t o e = grind (arith, nat_tests, e)
 
 -- what is relevant follows from the key
-pub relevant_by_key : (n : List (List ℕ)) (q : ℕ) (x y : ObservationData) → key_of x ≡ key_of y → is_relevant n q x ≡ true → is_relevant n q y ≡ true
+pub relevant_by_key : (n : List (List ℕ)) (q : ℕ) (x y : ObservationData) → key_of x ≡ key_of y
+    → is_relevant n q x ≡ true → is_relevant n q y ≡ true
 relevant_by_key n q x y k e =
     let p = key_exact x.name y.name x.kind y.kind x.rtype y.rtype k in
     let name : x.name ≡ y.name = p.0 in
@@ -86,16 +119,22 @@ relevant_by_key n q x y k e =
     let same : is_relevant n q x ≡ is_relevant n q y = cc in
     sym same ∙ e
 
-pub decider_of_cache : (s items : List ObservationData) (f t : ℕ) (n : List (List ℕ)) (q : ℕ) (a : Option ObservationData) → f ≤ t → IsCached s f items → IsBest (Speaks t n q) items a → a ≡ decider s t n q
+pub decider_of_cache : (s items : List ObservationData) (f t : ℕ) (n : List (List ℕ)) (q : ℕ)
+    (a : Option ObservationData) → f ≤ t → IsCached s f items → IsBest (Speaks t n q) items a
+    → a ≡ decider s t n q
 decider_of_cache s items f t n q a le cached best =
     let one = best_same (Speaks t n q) (Matters t n q) items a
     (λ o h k. matters_from t n q o k)
-    (λ o h k. speaks_from t n q o (cached.lawful o (Has-filter (λ x. not (has_ended f x)) s o (cached.front.of_set o h)).0) k) best in
-    let two = best_kept (λ o. is_relevant n q o ≡ true) (relevant_by_key n q) s items f t le cached a one in
+    (λ o h k. speaks_from t n q o (cached.lawful o
+    (Has-filter (λ x. not (has_ended f x)) s o (cached.front.of_set o h)).0) k) best in
+    let two = best_kept (λ o. is_relevant n q o ≡ true) (relevant_by_key n q) s items f t le cached
+    a one in
     let three = best_same (Matters t n q) (λ o. (is_live t o && is_relevant n q o) ≡ true) s a
     (λ o h k. and_from _ _ (live_to t o k.0) k.1)
-    (λ o h k. let p = and_parts (is_live t o) (is_relevant n q o) k in (live_from t o p.0, p.1)) two in
-    best_unique (λ o. (is_live t o && is_relevant n q o) ≡ true) s a _ three (best_filtered (λ o. is_live t o && is_relevant n q o) s)
+    (λ o h k. let p = and_parts (is_live t o) (is_relevant n q o) k in (live_from t o p.0, p.1)) two
+    in
+    best_unique (λ o. (is_live t o && is_relevant n q o) ≡ true) s a _ three
+    (best_filtered (λ o. is_live t o && is_relevant n q o) s)
 
 -- the steps of an answer, by what decides
 module _ (s : List ObservationData) (t q : ℕ) (n : List (List ℕ)) where
@@ -103,22 +142,31 @@ module _ (s : List ObservationData) (t q : ℕ) (n : List (List ℕ)) where
   within_none zero e = ap (answer_by (λ m. Missed) t q) (sym e)
   within_none (suc k) e = ap (answer_by (answer_within k s t q) t q) (sym e)
 
-  decided_last : (next : List (List ℕ) → AnswerData) (o : ObservationData) → is_link q o ≡ false → answer_by next t q (Some o) ≡ by_kind (part_at t o)
+  decided_last : (next : List (List ℕ) → AnswerData) (o : ObservationData) → is_link q o ≡ false
+      → answer_by next t q (Some o) ≡ by_kind (part_at t o)
   decided_last next o e = rw e refl
 
-  decided_link : (next : List (List ℕ) → AnswerData) (o : ObservationData) → is_link q o ≡ true → answer_by next t q (Some o) ≡ add_link (part_at t o) (next (target o))
+  decided_link : (next : List (List ℕ) → AnswerData) (o : ObservationData) → is_link q o ≡ true
+      → answer_by next t q (Some o) ≡ add_link (part_at t o) (next (target o))
   decided_link next o e = rw e refl
 
-  pub within_last : (k : ℕ) (o : ObservationData) → Some o ≡ decider s t n q → is_link q o ≡ false → answer_within k s t q n ≡ by_kind (part_at t o)
+  pub within_last : (k : ℕ) (o : ObservationData) → Some o ≡ decider s t n q → is_link q o ≡ false
+      → answer_within k s t q n ≡ by_kind (part_at t o)
   within_last zero o e l = ap (answer_by (λ m. Missed) t q) (sym e) ∙ decided_last (λ m. Missed) o l
-  within_last (suc k) o e l = ap (answer_by (answer_within k s t q) t q) (sym e) ∙ decided_last (answer_within k s t q) o l
+  within_last (suc k) o e l = ap (answer_by (answer_within k s t q) t q) (sym e)
+      ∙ decided_last (answer_within k s t q) o l
 
-  pub within_full : (k : ℕ) (o : ObservationData) → k ≡ 0 → Some o ≡ decider s t n q → is_link q o ≡ true → answer_within k s t q n ≡ Missed
-  within_full zero o z e l = ap (answer_by (λ m. Missed) t q) (sym e) ∙ decided_link (λ m. Missed) o l
+  pub within_full : (k : ℕ) (o : ObservationData) → k ≡ 0 → Some o ≡ decider s t n q
+      → is_link q o ≡ true → answer_within k s t q n ≡ Missed
+  within_full zero o z e l = ap (answer_by (λ m. Missed) t q) (sym e)
+      ∙ decided_link (λ m. Missed) o l
   within_full (suc k) o z e l = absurd (omega (arith, z))
 
-  pub within_link : (k j : ℕ) (o : ObservationData) → k ≡ suc j → Some o ≡ decider s t n q → is_link q o ≡ true → answer_within k s t q n ≡ add_link (part_at t o) (answer_within j s t q (target o))
-  within_link k j o z e l = rw z (ap (answer_by (answer_within j s t q) t q) (sym e) ∙ decided_link (answer_within j s t q) o l)
+  pub within_link : (k j : ℕ) (o : ObservationData) → k ≡ suc j → Some o ≡ decider s t n q
+      → is_link q o ≡ true → answer_within k s t q n
+      ≡ add_link (part_at t o) (answer_within j s t q (target o))
+  within_link k j o z e l = rw z (ap (answer_by (answer_within j s t q) t q) (sym e)
+      ∙ decided_link (answer_within j s t q) o l)
 
 pub onto_missed : (ps : List ShownData) → add_links ps Missed ≡ Missed
 onto_missed [] = refl
@@ -132,10 +180,12 @@ pub onto_no_data : (ps : List ShownData) (x : ShownData) → add_links ps (NoDat
 onto_no_data [] x = refl
 onto_no_data (p ∷ ps) x = ap (add_link p) (onto_no_data ps x)
 
-pub onto_denied : (ps : List ShownData) (x : ShownData) → add_links ps (NxDomain [] x) ≡ NxDomain ps x
+pub onto_denied : (ps : List ShownData) (x : ShownData) → add_links ps (NxDomain [] x)
+    ≡ NxDomain ps x
 onto_denied [] x = refl
 onto_denied (p ∷ ps) x = ap (add_link p) (onto_denied ps x)
 
-pub onto_more : (ps : List ShownData) (x : ShownData) (a : AnswerData) → add_links (ps ++ x ∷ []) a ≡ add_links ps (add_link x a)
+pub onto_more : (ps : List ShownData) (x : ShownData) (a : AnswerData) → add_links (ps ++ x ∷ []) a
+    ≡ add_links ps (add_link x a)
 onto_more [] x a = refl
 onto_more (p ∷ ps) x a = ap (add_link p) (onto_more ps x a)

@@ -17,7 +17,8 @@ use Rattle.fleet_front.proofs.Lemmas.{climb, front_itself, front_shown, front_sa
 use Rattle.fleet_name.proofs.Lemmas.{Has-filter, Has-in_filter, has_left, has_right, has_either}
 
 -- what is shown later was shown before
-pub shown_twice : (f m : ℕ) (s : List ObservationData) → f ≤ m → without_hidden has_ended m (without_hidden has_ended f s) ≡ without_hidden has_ended m s
+pub shown_twice : (f m : ℕ) (s : List ObservationData) → f ≤ m
+    → without_hidden has_ended m (without_hidden has_ended f s) ≡ without_hidden has_ended m s
 shown_twice f m [] le = refl
 shown_twice f m (x ∷ s) le = elim (cases_Bool (has_ended f x)) [
   | inl e ↦
@@ -30,17 +31,26 @@ shown_twice f m (x ∷ s) le = elim (cases_Bool (has_ended f x)) [
 ]
 
 -- nothing of it has ended
-pub all_shown : (m : ℕ) (s : List ObservationData) → ((x : ObservationData) → Has s x → has_ended m x ≡ false) → without_hidden has_ended m s ≡ s
+pub all_shown : (m : ℕ) (s : List ObservationData)
+    → ((x : ObservationData) → Has s x → has_ended m x ≡ false) → without_hidden has_ended m s ≡ s
 all_shown m [] h = refl
 all_shown m (x ∷ s) h = rw (h x (inl refl)) (ap (λ t. x ∷ t) (all_shown m s (λ y k. h y (inr k))))
 
 -- one that is there, or is dominated
-front_covered : (s items : List ObservationData) (x : ObservationData) → IsCovered items x → IsFront place dominates s items → IsFront place dominates (x ∷ s) items
+front_covered : (s items : List ObservationData) (x : ObservationData) → IsCovered items x
+    → IsFront place dominates s items → IsFront place dominates (x ∷ s) items
 front_covered s items x c front = record {
   descending = front.descending;
   of_set = λ y h. inr (front.of_set y h);
-  undominated = λ y h w m. elim m [ inl same ↦ ap (λ v. dominates v y) (sym same) ∙ not_over y h | inr old ↦ front.undominated y h w old ];
-  whole = λ y m free. elim m [ inl same ↦ by_cover y same free | inr old ↦ front.whole y old (λ w k. free w (inr k)) ];
+  undominated = λ y h w m. elim m [
+    | inl same ↦ ap (λ v. dominates v y) (sym same) ∙ not_over y h
+    | inr old ↦ front.undominated y h w old
+  ];
+  whole = λ y m free. elim m [
+    | inl same ↦ by_cover y same free
+    | inr old ↦
+        front.whole y old (λ w k. free w (inr k))
+  ];
 }
   where
     above : (y : ObservationData) → Has items y → dominates c.0 y ≡ false
@@ -58,16 +68,26 @@ front_covered s items x c front = record {
     by_cover : (y : ObservationData) → x ≡ y → IsUndominated dominates (x ∷ s) y → Has items y
     by_cover y same free = elim c.2 [
       | inl here ↦ subst (Has items) (here ∙ same) c.1
-      | inr far ↦ absurd (false≢true (sym (free c.0 (inr (front.of_set c.0 c.1))) ∙ (ap (dominates c.0) (sym same) ∙ far)))
+      | inr far ↦ absurd (false≢true (sym (free c.0 (inr (front.of_set c.0 c.1)))
+          ∙ (ap (dominates c.0) (sym same) ∙ far)))
     ]
 
-more_lawful : (s : List ObservationData) (x : ObservationData) → IsObservation x → AreObservations s → AreObservations (x ∷ s)
-more_lawful s x one all o h = elim h [ inl same ↦ subst IsObservation same one | inr old ↦ all o old ]
+more_lawful : (s : List ObservationData) (x : ObservationData) → IsObservation x → AreObservations s
+    → AreObservations (x ∷ s)
+more_lawful s x one all o h = elim h [
+  | inl same ↦ subst IsObservation same one
+  | inr old ↦
+      all o old
+]
 
-module _ (s items : List ObservationData) (f : ℕ) (x : ObservationData) (lawful : IsObservation x) (cached : IsCached s f items) where
+module _ (s items : List ObservationData) (f : ℕ) (x : ObservationData) (lawful : IsObservation x)
+    (cached : IsCached s f items) where
   -- an observation that has ended at the floor
   pub cached_ended : has_ended f x ≡ true → IsCached (x ∷ s) f items
-  cached_ended e = record { lawful = more_lawful s x lawful cached.lawful; front = rw e cached.front }
+  cached_ended e = record {
+    lawful = more_lawful s x lawful cached.lawful;
+    front = rw e cached.front;
+  }
 
   -- one that is there, or is dominated
   pub cached_covered : IsCovered items x → IsCached (x ∷ s) f items
@@ -85,137 +105,231 @@ module _ (s items : List ObservationData) (f : ℕ) (x : ObservationData) (lawfu
   cached_needless (inr c) = cached_covered c
 
   -- one that has not
-  pub cached_put : (new : List ObservationData) → has_ended f x ≡ false → IsFront place dominates (x ∷ without_hidden has_ended f s) new → IsCached (x ∷ s) f new
-  cached_put new e front = record { lawful = more_lawful s x lawful cached.lawful; front = rw e front }
+  pub cached_put : (new : List ObservationData) → has_ended f x ≡ false
+      → IsFront place dominates (x ∷ without_hidden has_ended f s) new → IsCached (x ∷ s) f new
+  cached_put new e front = record {
+    lawful = more_lawful s x lawful cached.lawful;
+    front = rw e front;
+  }
 
 -- each item is of the set, and has not ended
-pub item_of_set : (s items : List ObservationData) (f : ℕ) → IsCached s f items → (x : ObservationData) → Has items x → Has s x × (has_ended f x ≡ false)
-item_of_set s items f cached x h = let k = Has-filter (λ o. not (has_ended f o)) s x (cached.front.of_set x h) in (k.0, not-true (has_ended f x) k.1)
+pub item_of_set : (s items : List ObservationData) (f : ℕ) → IsCached s f items
+    → (x : ObservationData) → Has items x → Has s x × (has_ended f x ≡ false)
+item_of_set s items f cached x h = let k = Has-filter (λ o. not (has_ended f o)) s x
+    (cached.front.of_set x h) in (k.0, not-true (has_ended f x) k.1)
 
 -- no item has ended
-pub all_live : (s items : List ObservationData) (f : ℕ) → IsCached s f items → without_hidden has_ended f items ≡ items
+pub all_live : (s items : List ObservationData) (f : ℕ) → IsCached s f items
+    → without_hidden has_ended f items ≡ items
 all_live s items f cached = all_shown f items (λ x h. (item_of_set s items f cached x h).1)
 
 -- the items are those of their own set
-pub cached_itself : (s items : List ObservationData) (f : ℕ) → IsCached s f items → IsCached items f items
+pub cached_itself : (s items : List ObservationData) (f : ℕ) → IsCached s f items
+    → IsCached items f items
 cached_itself s items f cached = record {
   lawful = λ o h. cached.lawful o (item_of_set s items f cached o h).0;
-  front = subst (λ v. IsFront place dominates v items) (sym (all_shown f items (λ o h. (item_of_set s items f cached o h).1))) (front_itself place_laws (without_hidden has_ended f s) items cached.front);
+  front = subst (λ v. IsFront place dominates v items)
+      (sym (all_shown f items (λ o h. (item_of_set s items f cached o h).1)))
+      (front_itself place_laws (without_hidden has_ended f s) items cached.front);
 }
 
-pub cached_purged : (s items : List ObservationData) (f m : ℕ) → f ≤ m → IsCached s f items → IsCached s m (without_hidden has_ended m items)
+pub cached_purged : (s items : List ObservationData) (f m : ℕ) → f ≤ m → IsCached s f items
+    → IsCached s m (without_hidden has_ended m items)
 cached_purged s items f m le cached = record {
   lawful = cached.lawful;
-  front = subst (λ v. IsFront place dominates v (without_hidden has_ended m items)) (shown_twice f m s le) (front_shown place_laws m (without_hidden has_ended f s) items cached.front);
+  front = subst (λ v. IsFront place dominates v (without_hidden has_ended m items))
+      (shown_twice f m s le) (front_shown place_laws m (without_hidden has_ended f s) items
+      cached.front);
 }
 
--- the items of a cache stand for its set: taken into another at no lower floor, they give the cache of both
-pub cached_both : (s u theirs items : List ObservationData) (f g : ℕ) → g ≤ f → IsCached u g theirs → IsCached (theirs ++ s) f items → IsCached (u ++ s) f items
+-- the items of a cache stand for its set: taken into another at no lower floor, they give the cache
+-- of both
+pub cached_both : (s u theirs items : List ObservationData) (f g : ℕ) → g ≤ f → IsCached u g theirs
+    → IsCached (theirs ++ s) f items → IsCached (u ++ s) f items
 cached_both s u theirs items f g le from cached = record {
-  lawful = λ o h. elim (has_either u s o h) [ inl l ↦ from.lawful o l | inr r ↦ cached.lawful o (has_right theirs s o r) ];
+  lawful = λ o h. elim (has_either u s o h) [
+    | inl l ↦ from.lawful o l
+    | inr r ↦
+        cached.lawful o (has_right theirs s o r)
+  ];
   front = record {
     descending = cached.front.descending;
     of_set = λ x h. widen x (cached.front.of_set x h);
     undominated = λ x h w m. elim (cases_Bool (dominates w x)) [
       | inr nay ↦ nay
-      | inl over ↦ absurd (false≢true (sym (cached.front.undominated x h (peak w m).0 (peak w m).1) ∙ elim (peak w m).2 [
-        | inl same ↦ ap (λ v. dominates v x) same ∙ over
-        | inr far ↦ place_laws.chained (peak w m).0 w x far over
-      ]))
+      | inl over ↦ absurd (false≢true (sym (cached.front.undominated x h (peak w m).0 (peak w m).1)
+          ∙ elim (peak w m).2 [
+            | inl same ↦ ap (λ v. dominates v x) same ∙ over
+            | inr far ↦ place_laws.chained (peak w m).0 w x far over
+          ]))
     ];
     whole = λ x m free. cached.front.whole x (narrow x m free) (λ w h. free w (widen w h));
   };
 }
   where
     later : (x : ObservationData) → has_ended f x ≡ false → has_ended g x ≡ false
-    later x e = elim (cases_Bool (has_ended g x)) [ inr no_end ↦ no_end | inl end ↦ absurd (false≢true (sym e ∙ grind (arith, nat_tests, end))) ]
-
-    widen : (x : ObservationData) → Has (without_hidden has_ended f (theirs ++ s)) x → Has (without_hidden has_ended f (u ++ s)) x
-    widen x h = let k = Has-filter (λ o. not (has_ended f o)) (theirs ++ s) x h in elim (has_either theirs s x k.0) [
-      | inl l ↦ Has-in_filter (λ o. not (has_ended f o)) (u ++ s) x (has_left u s x (Has-filter (λ o. not (has_ended g o)) u x (from.front.of_set x l)).0) k.1
-      | inr r ↦ Has-in_filter (λ o. not (has_ended f o)) (u ++ s) x (has_right u s x r) k.1
+    later x e = elim (cases_Bool (has_ended g x)) [
+      | inr no_end ↦ no_end
+      | inl end ↦
+          absurd (false≢true (sym e ∙ grind (arith, nat_tests, end)))
     ]
+
+    widen : (x : ObservationData) → Has (without_hidden has_ended f (theirs ++ s)) x
+        → Has (without_hidden has_ended f (u ++ s)) x
+    widen x h = let k = Has-filter (λ o. not (has_ended f o)) (theirs ++ s) x h
+        in elim (has_either theirs s x k.0) [
+          | inl l ↦ Has-in_filter (λ o. not (has_ended f o)) (u ++ s) x
+              (has_left u s x (Has-filter (λ o. not (has_ended g o)) u x (from.front.of_set x l)).0)
+              k.1
+          | inr r ↦ Has-in_filter (λ o. not (has_ended f o)) (u ++ s) x (has_right u s x r) k.1
+        ]
 
     -- what dominates w, or w itself, among what is shown of theirs and s
-    peak : (w : ObservationData) → Has (without_hidden has_ended f (u ++ s)) w → (p : ObservationData) × Has (without_hidden has_ended f (theirs ++ s)) p × ((p ≡ w) ⊎ (dominates p w ≡ true))
-    peak w m = let k = Has-filter (λ o. not (has_ended f o)) (u ++ s) w m in elim (has_either u s w k.0) [
-      | inr r ↦ (w, Has-in_filter (λ o. not (has_ended f o)) (theirs ++ s) w (has_right theirs s w r) k.1, inl refl)
-      | inl l ↦
-          let there : Has (without_hidden has_ended g u) w = Has-in_filter (λ o. not (has_ended g o)) u w l (ap not (later w (not-true _ k.1))) in
-          let c = climb place_laws (without_hidden has_ended g u) w in
-          let member : Has (without_hidden has_ended g u) c.0 = elim c.1 [ inl same ↦ subst (Has (without_hidden has_ended g u)) (sym same) there | inr far ↦ far.0 ] in
-          let seen : has_ended f c.0 ≡ false = elim c.1 [
-            | inl same ↦ ap (has_ended f) same ∙ not-true _ k.1
-            | inr far ↦ elim (cases_Bool (has_ended f c.0)) [ inr nay ↦ nay | inl end ↦ absurd (false≢true (sym (not-true _ k.1) ∙ place_laws.hides_below f c.0 w end far.1)) ]
-          ] in
-          (c.0, Has-in_filter (λ o. not (has_ended f o)) (theirs ++ s) c.0 (has_left theirs s c.0 (from.front.whole c.0 member c.2)) (ap not seen), elim c.1 [ inl same ↦ inl same | inr far ↦ inr far.1 ])
-    ]
-
-    narrow : (x : ObservationData) → Has (without_hidden has_ended f (u ++ s)) x → IsUndominated dominates (without_hidden has_ended f (u ++ s)) x → Has (without_hidden has_ended f (theirs ++ s)) x
-    narrow x m free = let k = Has-filter (λ o. not (has_ended f o)) (u ++ s) x m in elim (has_either u s x k.0) [
-      | inr r ↦ Has-in_filter (λ o. not (has_ended f o)) (theirs ++ s) x (has_right theirs s x r) k.1
-      | inl l ↦ Has-in_filter (λ o. not (has_ended f o)) (theirs ++ s) x (has_left theirs s x (from.front.whole x (Has-in_filter (λ o. not (has_ended g o)) u x l (ap not (later x (not-true _ k.1)))) (λ w h. elim (cases_Bool (dominates w x)) [
-        | inr nay ↦ nay
-        | inl over ↦ elim (cases_Bool (has_ended f w)) [
-          | inl end ↦ absurd (false≢true (sym (not-true _ k.1) ∙ place_laws.hides_below f w x end over))
-          | inr seen ↦ free w (Has-in_filter (λ o. not (has_ended f o)) (u ++ s) w (has_left u s w (Has-filter (λ o. not (has_ended g o)) u w h).0) (ap not seen))
+    peak : (w : ObservationData) → Has (without_hidden has_ended f (u ++ s)) w
+        → (p : ObservationData) × Has (without_hidden has_ended f (theirs ++ s)) p
+        × ((p ≡ w) ⊎ (dominates p w ≡ true))
+    peak w m = let k = Has-filter (λ o. not (has_ended f o)) (u ++ s) w m
+        in elim (has_either u s w k.0) [
+          | inr r ↦ (
+            w,
+            Has-in_filter (λ o. not (has_ended f o)) (theirs ++ s) w (has_right theirs s w r) k.1,
+            inl refl,
+          )
+          | inl l ↦
+              let there : Has (without_hidden has_ended g u) w =
+              Has-in_filter (λ o. not (has_ended g o)) u w l (ap not (later w (not-true _ k.1))) in
+              let c = climb place_laws (without_hidden has_ended g u) w in
+              let member : Has (without_hidden has_ended g u) c.0 =
+              elim c.1 [
+                | inl same ↦ subst (Has (without_hidden has_ended g u)) (sym same) there
+                | inr far ↦ far.0
+              ] in
+              let seen : has_ended f c.0 ≡ false = elim c.1 [
+                | inl same ↦ ap (has_ended f) same ∙ not-true _ k.1
+                | inr far ↦ elim (cases_Bool (has_ended f c.0)) [
+                  | inr nay ↦ nay
+                  | inl end ↦
+                      absurd (false≢true (sym (not-true _ k.1)
+                      ∙ place_laws.hides_below f c.0 w end far.1))
+                ]
+              ] in (
+                c.0,
+                Has-in_filter (λ o. not (has_ended f o)) (theirs ++ s) c.0
+                    (has_left theirs s c.0 (from.front.whole c.0 member c.2)) (ap not seen),
+                elim c.1 [ inl same ↦ inl same | inr far ↦ inr far.1 ],
+              )
         ]
-      ]))) k.1
-    ]
+
+    narrow : (x : ObservationData) → Has (without_hidden has_ended f (u ++ s)) x
+        → IsUndominated dominates (without_hidden has_ended f (u ++ s)) x
+        → Has (without_hidden has_ended f (theirs ++ s)) x
+    narrow x m free = let k = Has-filter (λ o. not (has_ended f o)) (u ++ s) x m
+        in elim (has_either u s x k.0) [
+          | inr r ↦ Has-in_filter (λ o. not (has_ended f o)) (theirs ++ s) x
+              (has_right theirs s x r) k.1
+          | inl l ↦ Has-in_filter (λ o. not (has_ended f o)) (theirs ++ s) x
+              (has_left theirs s x (from.front.whole x
+              (Has-in_filter (λ o. not (has_ended g o)) u x l (ap not (later x (not-true _ k.1))))
+              (λ w h. elim (cases_Bool (dominates w x)) [
+                | inr nay ↦ nay
+                | inl over ↦ elim (cases_Bool (has_ended f w)) [
+                  | inl end ↦ absurd (false≢true (sym (not-true _ k.1)
+                      ∙ place_laws.hides_below f w x end over))
+                  | inr seen ↦ free w (Has-in_filter (λ o. not (has_ended f o)) (u ++ s) w
+                      (has_left u s w (Has-filter (λ o. not (has_ended g o)) u w h).0)
+                      (ap not seen))
+                ]
+              ]))) k.1
+        ]
 
 -- equal sets at equal floors are held alike
-pub cached_same : (s t xs ys : List ObservationData) (f : ℕ) → IsCached s f xs → IsCached t f ys → IsSameSet s t → xs ≡ ys
-cached_same s t xs ys f a b same = front_same place_laws (without_hidden has_ended f s) (without_hidden has_ended f t) xs ys a.front b.front
-    (λ z h. let k = Has-filter (λ o. not (has_ended f o)) s z h in Has-in_filter (λ o. not (has_ended f o)) t z (same.into z k.0) k.1)
-    (λ z h. let k = Has-filter (λ o. not (has_ended f o)) t z h in Has-in_filter (λ o. not (has_ended f o)) s z (same.back z k.0) k.1)
+pub cached_same : (s t xs ys : List ObservationData) (f : ℕ) → IsCached s f xs → IsCached t f ys
+    → IsSameSet s t → xs ≡ ys
+cached_same s t xs ys f a b same = front_same place_laws (without_hidden has_ended f s)
+    (without_hidden has_ended f t) xs ys a.front b.front
+    (λ z h. let k = Has-filter (λ o. not (has_ended f o)) s z h
+    in Has-in_filter (λ o. not (has_ended f o)) t z (same.into z k.0) k.1)
+    (λ z h. let k = Has-filter (λ o. not (has_ended f o)) t z h
+    in Has-in_filter (λ o. not (has_ended f o)) s z (same.back z k.0) k.1)
 
 -- the order in which a set is listed does not count
-pub cached_listed : (s t items : List ObservationData) (f : ℕ) → IsCached s f items → IsSameSet s t → IsCached t f items
+pub cached_listed : (s t items : List ObservationData) (f : ℕ) → IsCached s f items → IsSameSet s t
+    → IsCached t f items
 cached_listed s t items f a same = record {
   lawful = λ o h. a.lawful o (same.back o h);
   front = record {
     descending = a.front.descending;
-    of_set = λ z h. let k = Has-filter (λ o. not (has_ended f o)) s z (a.front.of_set z h) in Has-in_filter (λ o. not (has_ended f o)) t z (same.into z k.0) k.1;
-    undominated = λ z h w m. let k = Has-filter (λ o. not (has_ended f o)) t w m in a.front.undominated z h w (Has-in_filter (λ o. not (has_ended f o)) s w (same.back w k.0) k.1);
-    whole = λ z m free. let k = Has-filter (λ o. not (has_ended f o)) t z m in a.front.whole z (Has-in_filter (λ o. not (has_ended f o)) s z (same.back z k.0) k.1) (λ w h. let j = Has-filter (λ o. not (has_ended f o)) s w h in free w (Has-in_filter (λ o. not (has_ended f o)) t w (same.into w j.0) j.1));
+    of_set = λ z h. let k = Has-filter (λ o. not (has_ended f o)) s z (a.front.of_set z h)
+        in Has-in_filter (λ o. not (has_ended f o)) t z (same.into z k.0) k.1;
+    undominated = λ z h w m. let k = Has-filter (λ o. not (has_ended f o)) t w m
+        in a.front.undominated z h w (Has-in_filter (λ o. not (has_ended f o)) s w (same.back w k.0)
+        k.1);
+    whole = λ z m free. let k = Has-filter (λ o. not (has_ended f o)) t z m
+        in a.front.whole z (Has-in_filter (λ o. not (has_ended f o)) s z (same.back z k.0) k.1)
+        (λ w h. let j = Has-filter (λ o. not (has_ended f o)) s w h
+        in free w (Has-in_filter (λ o. not (has_ended f o)) t w (same.into w j.0) j.1));
   };
 }
 
 -- one more of a list was taken
-more_same : (ys s : List ObservationData) (x : ObservationData) → IsSameSet (x ∷ (ys ++ s)) ((ys ++ x ∷ []) ++ s)
+more_same : (ys s : List ObservationData) (x : ObservationData)
+    → IsSameSet (x ∷ (ys ++ s)) ((ys ++ x ∷ []) ++ s)
 more_same ys s x = record {
   into = λ z h. elim h [
     | inl e ↦ has_left (ys ++ x ∷ []) s z (has_right ys (x ∷ []) z (inl e))
-    | inr m ↦ elim (has_either ys s z m) [ inl l ↦ has_left (ys ++ x ∷ []) s z (has_left ys (x ∷ []) z l) | inr r ↦ has_right (ys ++ x ∷ []) s z r ]
+    | inr m ↦ elim (has_either ys s z m) [
+      | inl l ↦
+          has_left (ys ++ x ∷ []) s z (has_left ys (x ∷ []) z l)
+      | inr r ↦
+          has_right (ys ++ x ∷ []) s z r
+    ]
   ];
   back = λ z h. elim (has_either (ys ++ x ∷ []) s z h) [
-    | inl l ↦ elim (has_either ys (x ∷ []) z l) [ inl a ↦ inr (has_left ys s z a) | inr b ↦ elim b [ inl e ↦ inl e | inr none ↦ absurd none ] ]
+    | inl l ↦ elim (has_either ys (x ∷ []) z l) [
+      | inl a ↦ inr (has_left ys s z a)
+      | inr b ↦
+          elim b [ inl e ↦ inl e | inr none ↦ absurd none ]
+    ]
     | inr r ↦ inr (has_right ys s z r)
   ];
 }
 
-pub cached_more : (ys s items : List ObservationData) (f : ℕ) (x : ObservationData) → IsCached (x ∷ (ys ++ s)) f items → IsCached ((ys ++ x ∷ []) ++ s) f items
-cached_more ys s items f x cached = cached_listed (x ∷ (ys ++ s)) ((ys ++ x ∷ []) ++ s) items f cached (more_same ys s x)
+pub cached_more : (ys s items : List ObservationData) (f : ℕ) (x : ObservationData)
+    → IsCached (x ∷ (ys ++ s)) f items → IsCached ((ys ++ x ∷ []) ++ s) f items
+cached_more ys s items f x cached = cached_listed (x ∷ (ys ++ s)) ((ys ++ x ∷ []) ++ s) items f
+    cached (more_same ys s x)
 
 -- what is shown of all that is kept is its cache
-pub kept_cached : (items : List ObservationData) (f : ℕ) → IsKept items → IsCached items f (without_hidden has_ended f items)
-kept_cached items f kept = record { lawful = kept.lawful; front = front_shown place_laws f items items kept.front }
+pub kept_cached : (items : List ObservationData) (f : ℕ) → IsKept items
+    → IsCached items f (without_hidden has_ended f items)
+kept_cached items f kept = record {
+  lawful = kept.lawful;
+  front = front_shown place_laws f items items kept.front;
+}
 
 -- it is the cache of its own set
-pub kept_itself : (items : List ObservationData) (f : ℕ) → IsKept items → IsCached (without_hidden has_ended f items) f (without_hidden has_ended f items)
-kept_itself items f kept = cached_itself items (without_hidden has_ended f items) f (kept_cached items f kept)
+pub kept_itself : (items : List ObservationData) (f : ℕ) → IsKept items
+    → IsCached (without_hidden has_ended f items) f (without_hidden has_ended f items)
+kept_itself items f kept = cached_itself items (without_hidden has_ended f items) f
+    (kept_cached items f kept)
 
 -- nothing had ended at the start of time
 pub kept_whole : (items : List ObservationData) → IsKept items → IsCached items 0 items
 kept_whole items kept = record {
   lawful = kept.lawful;
-  front = subst (λ v. IsFront place dominates v items) (sym (all_shown 0 items (λ x h. let l = (kept.lawful x h).life.0 in grind (arith, nat_tests, l)))) kept.front;
+  front = subst (λ v. IsFront place dominates v items)
+      (sym (all_shown 0 items (λ x h. let l = (kept.lawful x h).life.0
+      in grind (arith, nat_tests, l)))) kept.front;
 }
 
 -- the last of a list, or the first
 last_first : (s : List ObservationData) (x : ObservationData) → IsSameSet (s ++ x ∷ []) (x ∷ s)
 last_first s x = record {
-  into = λ z h. elim (has_either s (x ∷ []) z h) [ inl l ↦ inr l | inr r ↦ elim r [ inl e ↦ inl e | inr none ↦ absurd none ] ];
+  into = λ z h. elim (has_either s (x ∷ []) z h) [
+    | inl l ↦ inr l
+    | inr r ↦
+        elim r [ inl e ↦ inl e | inr none ↦ absurd none ]
+  ];
   back = λ z h. elim h [ inl e ↦ has_right s (x ∷ []) z (inl e) | inr m ↦ has_left s (x ∷ []) z m ];
 }
 
@@ -223,28 +337,41 @@ first_last : (s : List ObservationData) (x : ObservationData) → IsSameSet (x �
 first_last s x = record { into = (last_first s x).back; back = (last_first s x).into }
 
 -- one more was taken up into what is kept: what is shown of it is the cache of the set with it
-pub cached_taken : (s items new : List ObservationData) (f : ℕ) (x : ObservationData) → IsObservation x → has_ended f x ≡ false → IsCached s f (without_hidden has_ended f items) → IsFront place dominates (x ∷ items) new → IsCached (x ∷ s) f (without_hidden has_ended f new)
+pub cached_taken : (s items new : List ObservationData) (f : ℕ) (x : ObservationData)
+    → IsObservation x → has_ended f x ≡ false → IsCached s f (without_hidden has_ended f items)
+    → IsFront place dominates (x ∷ items) new → IsCached (x ∷ s) f (without_hidden has_ended f new)
 cached_taken s items new f x one live cached front =
     let held = without_hidden has_ended f items in
-    let whole : IsFront place dominates (x ∷ held) (without_hidden has_ended f new) = rw live at (front_shown place_laws f (x ∷ items) new front) in
+    let whole : IsFront place dominates (x ∷ held) (without_hidden has_ended f new) =
+    rw live at (front_shown place_laws f (x ∷ items) new front) in
     let small : IsCached (x ∷ held) f (without_hidden has_ended f new) = record {
       lawful = more_lawful held x one (cached_itself s held f cached).lawful;
-      front = rw live (subst (λ v. IsFront place dominates (x ∷ v) (without_hidden has_ended f new)) (sym (all_live s held f cached)) whole);
+      front = rw live (subst (λ v. IsFront place dominates (x ∷ v) (without_hidden has_ended f new))
+          (sym (all_live s held f cached)) whole);
     } in
-    let both = cached_both (x ∷ []) s held (without_hidden has_ended f new) f f (omega arith) cached (cached_listed (x ∷ held) (held ++ x ∷ []) (without_hidden has_ended f new) f small (first_last held x)) in
+    let both = cached_both (x ∷ []) s held (without_hidden has_ended f new) f f (omega arith) cached
+    (cached_listed (x ∷ held) (held ++ x ∷ []) (without_hidden has_ended f new) f small
+    (first_last held x)) in
     cached_listed (s ++ x ∷ []) (x ∷ s) (without_hidden has_ended f new) f both (last_first s x)
 
 -- what has ended covers nothing that has not
-pub covered_shown : (items : List ObservationData) (f : ℕ) (x : ObservationData) → has_ended f x ≡ false → IsCovered items x → IsCovered (without_hidden has_ended f items) x
+pub covered_shown : (items : List ObservationData) (f : ℕ) (x : ObservationData)
+    → has_ended f x ≡ false → IsCovered items x → IsCovered (without_hidden has_ended f items) x
 covered_shown items f x live c =
     let seen : has_ended f c.0 ≡ false = elim (cases_Bool (has_ended f c.0)) [
       | inr nay ↦ nay
-      | inl end ↦ absurd (false≢true (sym live ∙ elim c.2 [ inl same ↦ ap (has_ended f) (sym same) ∙ end | inr over ↦ place_laws.hides_below f c.0 x end over ]))
+      | inl end ↦ absurd (false≢true (sym live
+          ∙ elim c.2 [
+            | inl same ↦ ap (has_ended f) (sym same) ∙ end
+            | inr over ↦
+                place_laws.hides_below f c.0 x end over
+          ]))
     ] in
     (c.0, Has-in_filter (λ o. not (has_ended f o)) items c.0 c.1 (ap not seen), c.2)
 
 -- what need not be held: it is covered by what is kept, or has ended
-pub needless_shown : (items : List ObservationData) (f : ℕ) (x : ObservationData) → has_ended f x ≡ false → IsCovered items x ↔ IsNeedless f (without_hidden has_ended f items) x
+pub needless_shown : (items : List ObservationData) (f : ℕ) (x : ObservationData)
+    → has_ended f x ≡ false → IsCovered items x ↔ IsNeedless f (without_hidden has_ended f items) x
 needless_shown items f x live = (
   (λ c. inr (covered_shown items f x live c)),
   λ n. elim n [
@@ -254,14 +381,16 @@ needless_shown items f x live = (
 )
 
 -- with one more, it is kept
-pub kept_put : (items new : List ObservationData) (x : ObservationData) → IsKept items → IsObservation x → IsFront place dominates (x ∷ items) new → IsKept new
+pub kept_put : (items new : List ObservationData) (x : ObservationData) → IsKept items
+    → IsObservation x → IsFront place dominates (x ∷ items) new → IsKept new
 kept_put items new x kept one front = record {
   lawful = λ y h. more_lawful items x one kept.lawful y (front.of_set y h);
   front = front_itself place_laws (x ∷ items) new front;
 }
 
 -- what is left of what is kept, in order, is kept
-pub kept_swept : (items rest : List ObservationData) (m : ℕ) → IsKept items → IsDescending place rest → IsSwept m items rest → IsKept rest
+pub kept_swept : (items rest : List ObservationData) (m : ℕ) → IsKept items
+    → IsDescending place rest → IsSwept m items rest → IsKept rest
 kept_swept items rest m kept order swept = record {
   lawful = λ x h. kept.lawful x (swept.of_items x h);
   front = record {
@@ -273,11 +402,16 @@ kept_swept items rest m kept order swept = record {
 }
 
 -- the same set at a later floor, and some of what has ended by then dropped
-pub cached_swept : (s items rest : List ObservationData) (f m : ℕ) → f ≤ m → IsSwept m items rest → IsCached s f (without_hidden has_ended f items) → IsCached s m (without_hidden has_ended m rest)
-cached_swept s items rest f m le swept cached = subst (IsCached s m) (shown_twice f m items le ∙ sym swept.shown_still) (cached_purged s (without_hidden has_ended f items) f m le cached)
+pub cached_swept : (s items rest : List ObservationData) (f m : ℕ) → f ≤ m → IsSwept m items rest
+    → IsCached s f (without_hidden has_ended f items)
+    → IsCached s m (without_hidden has_ended m rest)
+cached_swept s items rest f m le swept cached =
+    subst (IsCached s m) (shown_twice f m items le ∙ sym swept.shown_still)
+    (cached_purged s (without_hidden has_ended f items) f m le cached)
 
 -- what is shown is no more than what is there
-pub shown_shorter : (m : ℕ) (s : List ObservationData) → length (without_hidden has_ended m s) ≤ length s
+pub shown_shorter : (m : ℕ) (s : List ObservationData) → length (without_hidden has_ended m s)
+    ≤ length s
 shown_shorter m [] = omega arith
 shown_shorter m (x ∷ s) = elim (cases_Bool (has_ended m x)) [
   | inl e ↦ rw e (let n = shown_shorter m s in omega (arith, n))
@@ -286,28 +420,37 @@ shown_shorter m (x ∷ s) = elim (cases_Bool (has_ended m x)) [
 
 -- a cache took a list in, and its floor stayed
 pub record HasTaken (before after : CacheData) (list : List ObservationData) : Type 0 where
-  pub cached : (s : List ObservationData) → IsCached s before.floor before.items → IsCached (list ++ s) after.floor after.items
+  pub cached : (s : List ObservationData) → IsCached s before.floor before.items
+      → IsCached (list ++ s) after.floor after.items
   pub floor : after.floor ≡ before.floor
 
 pub taken_none : (held : CacheData) → HasTaken held held []
 taken_none held = record { cached = λ s cached. cached; floor = refl }
 
 -- and one more
-pub taken_more : (before mid after : CacheData) (list : List ObservationData) (x : ObservationData) → HasTaken before mid list → ((s : List ObservationData) → IsCached s mid.floor mid.items → IsCached (x ∷ s) after.floor after.items) → after.floor ≡ mid.floor → HasTaken before after (list ++ x ∷ [])
+pub taken_more : (before mid after : CacheData) (list : List ObservationData) (x : ObservationData)
+    → HasTaken before mid list → ((s : List ObservationData) → IsCached s mid.floor mid.items
+    → IsCached (x ∷ s) after.floor after.items) → after.floor ≡ mid.floor
+    → HasTaken before after (list ++ x ∷ [])
 taken_more before mid after list x taken one same = record {
-  cached = λ s cached. cached_more list s after.items after.floor x (one (list ++ s) (taken.cached s cached));
+  cached = λ s cached. cached_more list s after.items after.floor x
+      (one (list ++ s) (taken.cached s cached));
   floor = same ∙ taken.floor;
 }
 
 -- where a list begins with what was taken, its front part of that length is what was taken
-pub taken_is : (ys rest all : List ObservationData) (n : ℕ) → all ≡ ys ++ rest → n ≡ length ys → take n all ≡ ys
+pub taken_is : (ys rest all : List ObservationData) (n : ℕ) → all ≡ ys ++ rest → n ≡ length ys
+    → take n all ≡ ys
 taken_is ys rest all n e l = rw (e, l) (take-append_seam ys rest)
 
-pub taken_within : (ys rest all : List ObservationData) (x : ObservationData) (n : ℕ) → all ≡ ys ++ x ∷ rest → n ≡ length ys → n < length all
-taken_within ys rest all x n e l = let whole = ap length e in let parts = length-append ys (x ∷ rest) in omega (arith, l, whole, parts)
+pub taken_within : (ys rest all : List ObservationData) (x : ObservationData) (n : ℕ)
+    → all ≡ ys ++ x ∷ rest → n ≡ length ys → n < length all
+taken_within ys rest all x n e l = let whole = ap length e in let parts =
+    length-append ys (x ∷ rest) in omega (arith, l, whole, parts)
 
 -- and the first one that was not taken is of the list
-pub seam_at : (ys rest all : List ObservationData) (x : ObservationData) (n : ℕ) → all ≡ ys ++ x ∷ rest → n ≡ length ys → slice_get all n ≡ Some x
+pub seam_at : (ys rest all : List ObservationData) (x : ObservationData) (n : ℕ)
+    → all ≡ ys ++ x ∷ rest → n ≡ length ys → slice_get all n ≡ Some x
 seam_at ys rest all x n e l = rw (e, l) (at_seam ys)
   where
     at_seam : (ys : List ObservationData) → slice_get (ys ++ x ∷ rest) (length ys) ≡ Some x

@@ -1,4 +1,5 @@
--- Each set of observations has a cache at each floor: of what it shows, in order, what no member dominates.
+-- Each set of observations has a cache at each floor: of what it shows, in order, what no member
+-- dominates.
 use Rattle.std.proofs.Common.{ℕ, ◌≡◌, Bool, false, refl, not, List, [], ◌∷◌, inl, inr, sym, ap, ◌∙◌, subst}
 use mathlib.Core.Bool.{false≢true}
 use Rattle.std.specs.List.{filter, list_any}
@@ -23,10 +24,17 @@ record Ranked (s : List ObservationData) : Type 0 where
   pub to : (z : ObservationData) → Has s z → Has items z
 
 -- behind the first
-ranked_behind : (x y : ObservationData) (items : List ObservationData) → place y x ≡ Greater → IsDescending place (y ∷ items) → Ranked (x ∷ items) → Ranked (x ∷ y ∷ items)
+ranked_behind : (x y : ObservationData) (items : List ObservationData) → place y x ≡ Greater
+    → IsDescending place (y ∷ items) → Ranked (x ∷ items) → Ranked (x ∷ y ∷ items)
 ranked_behind x y items over down rest = record {
   items = y ∷ rest.items;
-  descending = ((λ z h. elim (rest.from z h) [ inl same ↦ subst (λ v. place y v ≡ Greater) same over | inr old ↦ down.0 z old ]), rest.descending);
+  descending = (
+    (λ z h. elim (rest.from z h) [
+      | inl same ↦ subst (λ v. place y v ≡ Greater) same over
+      | inr old ↦ down.0 z old
+    ]),
+    rest.descending,
+  );
   from = λ z h. elim h [
     | inl same ↦ inr (inl same)
     | inr far ↦ elim (rest.from z far) [ inl same ↦ inl same | inr old ↦ inr (inr old) ]
@@ -38,10 +46,17 @@ ranked_behind x y items over down rest = record {
 }
 
 -- one more
-ranked_more : (x : ObservationData) (items : List ObservationData) → IsDescending place items → Ranked (x ∷ items)
-ranked_more x [] down = record { items = x ∷ []; descending = ((λ z h. absurd h), tt); from = λ z h. h; to = λ z h. h }
+ranked_more : (x : ObservationData) (items : List ObservationData) → IsDescending place items
+    → Ranked (x ∷ items)
+ranked_more x [] down = record {
+  items = x ∷ [];
+  descending = ((λ z h. absurd h), tt);
+  from = λ z h. h;
+  to = λ z h. h;
+}
 ranked_more x (y ∷ items) down = elim (ordering_cases (place x y)) [
-  | inl less ↦ ranked_behind x y items (place_total.antisymm y x ∙ ap ordering_reverse less) down (ranked_more x items down.1)
+  | inl less ↦ ranked_behind x y items (place_total.antisymm y x ∙ ap ordering_reverse less) down
+      (ranked_more x items down.1)
   | inr more ↦ elim more [
     | inl equal ↦ record {
       items = y ∷ items;
@@ -51,7 +66,13 @@ ranked_more x (y ∷ items) down = elim (ordering_cases (place x y)) [
     }
     | inr greater ↦ record {
       items = x ∷ y ∷ items;
-      descending = ((λ z h. elim h [ inl same ↦ subst (λ v. place x v ≡ Greater) same greater | inr far ↦ above place_laws x y z greater (down.0 z far) ]), down);
+      descending = (
+        (λ z h. elim h [
+          | inl same ↦ subst (λ v. place x v ≡ Greater) same greater
+          | inr far ↦ above place_laws x y z greater (down.0 z far)
+        ]),
+        down,
+      );
       from = λ z h. h;
       to = λ z h. h;
     }
@@ -74,18 +95,25 @@ rank_all (x ∷ s) =
 abbrev is_dominated : List ObservationData → ObservationData → Bool
 is_dominated s x = list_any (λ y. dominates y x) s
 
-none_over : (s : List ObservationData) (x : ObservationData) → is_dominated s x ≡ false → IsUndominated dominates s x
+none_over : (s : List ObservationData) (x : ObservationData) → is_dominated s x ≡ false
+    → IsUndominated dominates s x
 none_over [] x e y h = absurd h
 none_over (w ∷ s) x e y h = elim (cases_Bool (dominates w x)) [
   | inl yea ↦ absurd (false≢true (sym (rw yea at e)))
-  | inr nay ↦ elim h [ inl same ↦ ap (λ v. dominates v x) (sym same) ∙ nay | inr far ↦ none_over s x (rw nay at e) y far ]
+  | inr nay ↦ elim h [
+    | inl same ↦ ap (λ v. dominates v x) (sym same) ∙ nay
+    | inr far ↦
+        none_over s x (rw nay at e) y far
+  ]
 ]
 
-over_none : (s : List ObservationData) (x : ObservationData) → IsUndominated dominates s x → is_dominated s x ≡ false
+over_none : (s : List ObservationData) (x : ObservationData) → IsUndominated dominates s x
+    → is_dominated s x ≡ false
 over_none [] x free = refl
 over_none (w ∷ s) x free = rw (free w (inl refl)) (over_none s x (λ y h. free y (inr h)))
 
-pub cache_of : (s : List ObservationData) (f : ℕ) → AreObservations s → (items : List ObservationData) × IsCached s f items
+pub cache_of : (s : List ObservationData) (f : ℕ) → AreObservations s
+    → (items : List ObservationData) × IsCached s f items
 cache_of s f lawful =
     let seen = without_hidden has_ended f s in
     let all = rank_all seen in
@@ -97,7 +125,8 @@ cache_of s f lawful =
           descending = IsDescending-filter place test all.items all.descending;
           of_set = λ x h. all.from x (Has-filter test all.items x h).0;
           undominated = λ x h. none_over seen x (not-true _ (Has-filter test all.items x h).1);
-          whole = λ x m free. Has-in_filter test all.items x (all.to x m) (ap not (over_none seen x free));
+          whole = λ x m free. Has-in_filter test all.items x (all.to x m)
+              (ap not (over_none seen x free));
         };
       },
     )

@@ -1,16 +1,17 @@
 -- The parts of an answer are of the kinds that their places say.
-use Rattle.std.proofs.Common.{◌≡◌, ◌≤◌, ℕ, zero, suc, List, [], Option, Some, None, Bool, true, false, ◌&&◌, nat_eq, if◌then◌else◌, refl, sym, subst, arith}
+use Rattle.std.proofs.Common.{◌≡◌, ℕ, zero, suc, List, Option, Some, None, Bool, true, false, if◌then◌else◌, refl, sym, subst}
 use mathlib.Core.Bool.{false≢true}
 use Rattle.fleet_observe.specs.declared.bounds.TheConstants.{MOST_LINKS}
-use Rattle.fleet_observe.specs.declared.kind.Kind.{Kind}
-use Rattle.fleet_observe.specs.declared.kind.Kind.TheVariants.{NameError, NoData as WithoutData, Positive}
+use Rattle.fleet_observe.specs.declared.observation.kind.Kind.{Kind}
+use Rattle.fleet_observe.specs.declared.observation.kind.Kind.TheVariants.{NameError, NoData as WithoutData, Positive}
 use Rattle.fleet_observe.specs.Observation.{ObservationData}
 use Rattle.fleet_cache.specs.declared.answer.Answer.{Answer}
 use Rattle.fleet_cache.specs.Answer.{ShownData, answer_of_kind, AnswerData, Missed, Found, NoData, NxDomain, add_link, by_kind, is_link, target, answer_by, decider, answer_within, answer_of, part_at}
 use Rattle.fleet_cache.specs.AnswerData.{answer_data}
 use Rattle.fleet_cache.specs.Kinds.{IsPositivePart, HasKinds}
 
-has_kinds-add_link : (p : ShownData) (a : AnswerData) → IsPositivePart p → HasKinds a → HasKinds (add_link p a)
+has_kinds-add_link : (p : ShownData) (a : AnswerData) → IsPositivePart p → HasKinds a
+    → HasKinds (add_link p a)
 has_kinds-add_link p Missed k h = tt
 has_kinds-add_link p (Found chain set) k h = ((k, h.0), h.1)
 has_kinds-add_link p (NoData chain soa) k h = ((k, h.0), h.1)
@@ -24,7 +25,8 @@ has_kinds-by_kind p = by_cases p.observation.kind refl
     by_cases WithoutData e = (tt, e)
     by_cases NameError e = (tt, e)
 
-by_link : (p : ShownData) (a : AnswerData) (link : Bool) → (link ≡ true → IsPositivePart p) → HasKinds a → HasKinds (if link then add_link p a else by_kind p)
+by_link : (p : ShownData) (a : AnswerData) (link : Bool) → (link ≡ true → IsPositivePart p)
+    → HasKinds a → HasKinds (if link then add_link p a else by_kind p)
 by_link p a true k h = has_kinds-add_link p a (k refl) h
 by_link p a false k h = has_kinds-by_kind p
 
@@ -36,19 +38,25 @@ link_positive rtype o e = by_cases o.kind refl
     by_cases WithoutData is = absurd (false≢true (rw is at e))
     by_cases NameError is = absurd (false≢true (rw is at e))
 
-has_kinds-answer_by : (next : List (List ℕ) → AnswerData) (t rtype : ℕ) (d : Option ObservationData) → ((n : List (List ℕ)) → HasKinds (next n)) → HasKinds (answer_by next t rtype d)
+has_kinds-answer_by : (next : List (List ℕ) → AnswerData) (t rtype : ℕ) (d : Option ObservationData)
+    → ((n : List (List ℕ)) → HasKinds (next n)) → HasKinds (answer_by next t rtype d)
 has_kinds-answer_by next t rtype None h = tt
-has_kinds-answer_by next t rtype (Some o) h = by_link (part_at t o) (next (target o)) (is_link rtype o) (link_positive rtype o) (h (target o))
+has_kinds-answer_by next t rtype (Some o) h =
+    by_link (part_at t o) (next (target o)) (is_link rtype o) (link_positive rtype o) (h (target o))
 
 module _ (s : List ObservationData) (t rtype : ℕ) where
   has_kinds-within : (k : ℕ) (n : List (List ℕ)) → HasKinds (answer_within k s t rtype n)
-  has_kinds-within zero n = has_kinds-answer_by (λ m. Missed) t rtype (decider s t n rtype) (λ m. tt)
-  has_kinds-within (suc k) n = has_kinds-answer_by (answer_within k s t rtype) t rtype (decider s t n rtype) (has_kinds-within k)
+  has_kinds-within zero n = has_kinds-answer_by (λ m. Missed) t rtype (decider s t n rtype)
+      (λ m. tt)
+  has_kinds-within (suc k) n = has_kinds-answer_by (answer_within k s t rtype) t rtype
+      (decider s t n rtype) (has_kinds-within k)
 
   pub has_kinds-answer_of : (n : List (List ℕ)) → HasKinds (answer_of s t n rtype)
   unfolding answer_of
   has_kinds-answer_of n = has_kinds-within MOST_LINKS n
 
 -- an answer has the kinds
-pub kinds_told : {A : Type 0} (a : Answer A) (s : List ObservationData) (t rtype : ℕ) (n : List (List ℕ)) → answer_data a ≡ answer_of s t n rtype → HasKinds (answer_data a)
-kinds_told a s t rtype n e = let P : AnswerData → Type 0 = HasKinds in subst P (sym e) (has_kinds-answer_of s t rtype n)
+pub kinds_told : {A : Type 0} (a : Answer A) (s : List ObservationData) (t rtype : ℕ)
+    (n : List (List ℕ)) → answer_data a ≡ answer_of s t n rtype → HasKinds (answer_data a)
+kinds_told a s t rtype n e = let P : AnswerData → Type 0 = HasKinds
+    in subst P (sym e) (has_kinds-answer_of s t rtype n)

@@ -15,7 +15,8 @@ use Rattle.fleet_cache.specs.Orders.{over_from, over_chain, ended_below}
 
 pub place_total : IsTotalOrder place
 place_total =
-    then_total (on_total (λ (x : ObservationData). key_of x) (back_total nat_list_cmp_total)) preference_total
+    then_total (on_total (λ (x : ObservationData). key_of x) (back_total nat_list_cmp_total))
+    preference_total
 
 pub place_exact : (x y : ObservationData) → place x y ≡ Equal → x ≡ y
 place_exact x y e =

@@ -1,8 +1,7 @@
 -- When the keys of two observations are one.
-use Rattle.std.proofs.Common.{◌≡◌, true, false, inl, inr, sym, ap, ◌∙◌, refl}
+use Rattle.std.proofs.Common.{◌≡◌, true, false, inl, inr, sym, ap, ◌∙◌}
 use mathlib.Core.Bool.{false≢true}
 use Rattle.std.specs.Ordering.{is_eq}
-use Rattle.std.specs.declared.cmp.Ordering.TheVariants.{Equal}
 use Rattle.std.proofs.lemmas.Bool.{cases_Bool}
 use Rattle.std.proofs.lemmas.Cmp.{nat_list_cmp_total, tied_itself}
 use Rattle.std.proofs.lemmas.Map.Lookups.{exact_bytes}
@@ -28,7 +27,8 @@ key_parts x y e =
 test_parts : (x y : ObservationData) → is_same_key x y ≡ true → HasKeyOf x y
 test_parts x y e = key_parts x y (exact_bytes (key_of x) (key_of y) ((Equal-is _).0 e))
 
-pub other_kind : (x y : ObservationData) → (kind_number x.kind ≡ kind_number y.kind → ⊥) → false ≡ is_same_key x y
+pub other_kind : (x y : ObservationData) → (kind_number x.kind ≡ kind_number y.kind → ⊥)
+    → false ≡ is_same_key x y
 other_kind x y apart = elim (cases_Bool (is_same_key x y)) [
   | inl e ↦ absurd (apart (ap kind_number (test_parts x y e).kind))
   | inr e ↦ sym e
@@ -41,14 +41,19 @@ other_type x y apart = elim (cases_Bool (is_same_key x y)) [
 ]
 
 -- where kind and type are the same, the names decide
-pub same_name : (x y : ObservationData) → kind_number x.kind ≡ kind_number y.kind → x.rtype ≡ y.rtype → is_eq (name_cmp x.name y.name) ≡ is_same_key x y
+pub same_name : (x y : ObservationData) → kind_number x.kind ≡ kind_number y.kind
+    → x.rtype ≡ y.rtype → is_eq (name_cmp x.name y.name) ≡ is_same_key x y
 same_name x y kind rtype = elim (cases_Bool (is_eq (name_cmp x.name y.name))) [
   | inl e ↦
-      let name : x.name ≡ y.name = wire_exact x.name y.name (exact_bytes (wire x.name) (wire y.name) ((Equal-is _).0 e)) in
+      let name : x.name ≡ y.name = wire_exact x.name y.name
+      (exact_bytes (wire x.name) (wire y.name) ((Equal-is _).0 e)) in
       let key : key_of x ≡ key_of y = cc in
-      e ∙ sym (ap is_eq (ap (λ k. octets_cmp k (key_of y)) key ∙ tied_itself nat_list_cmp_total (key_of y)))
+      e ∙ sym (ap is_eq (ap (λ k. octets_cmp k (key_of y)) key
+      ∙ tied_itself nat_list_cmp_total (key_of y)))
   | inr e ↦ elim (cases_Bool (is_same_key x y)) [
     | inr no_key ↦ e ∙ sym no_key
-    | inl key ↦ absurd (false≢true (sym e ∙ ap is_eq (ap (λ n. octets_cmp (wire n) (wire y.name)) (test_parts x y key).name ∙ tied_itself nat_list_cmp_total (wire y.name))))
+    | inl key ↦ absurd (false≢true (sym e ∙ ap is_eq
+        (ap (λ n. octets_cmp (wire n) (wire y.name)) (test_parts x y key).name
+        ∙ tied_itself nat_list_cmp_total (wire y.name))))
   ]
 ]

@@ -4,17 +4,17 @@ use Rattle.fleet_name.specs.Name.{wire, IsWire}
 use Rattle.fleet_observe.specs.declared.bounds.TheConstants.{MOST_LINKS}
 use Rattle.fleet_observe.specs.Observation.{ObservationData}
 use Rattle.fleet_cache.specs.Cached.{IsCached}
-use Rattle.fleet_cache.specs.Answer.{answer_of, answer_within, add_links}
-use Rattle.fleet_cache.specs.Shown.{all_shown_data, AllSome}
-use Rattle.fleet_cache.specs.declared.shown.Shown.{Shown}
+use Rattle.fleet_cache.specs.Answer.{ShownData, answer_of, answer_within, add_links}
+use Rattle.fleet_cache.specs.Shown.{shown_parts, AllSome}
 
 -- the answer at the name is the links so far before the answer at the place
-pub record IsUnderway {A : Type 0} (items : List ObservationData) (name : List ℕ) (rtype moment : ℕ)
-    (at : List ℕ) (chain : List (Option (Shown A))) : Type 0 where
+pub record IsUnderway (items : List ObservationData) (name : List ℕ) (rtype moment : ℕ)
+    (at : List ℕ) (chain : List (Option ShownData)) : Type 0 where
   pub wired : IsWire at
   pub filled : AllSome chain
   pub room : length chain ≤ MOST_LINKS
-  pub goes_on : (n : List (List ℕ)) → name ≡ wire n → (s : List ObservationData) → (floor : ℕ) → floor ≤ moment
+  pub goes_on : (n : List (List ℕ)) → name ≡ wire n → (s : List ObservationData) → (floor : ℕ)
+      → floor ≤ moment
       → IsCached s floor items → (m : List (List ℕ)) → at ≡ wire m
       → answer_of s moment n rtype
-      ≡ add_links (all_shown_data chain) (answer_within (MOST_LINKS - length chain) s moment rtype m)
+      ≡ add_links (shown_parts chain) (answer_within (MOST_LINKS - length chain) s moment rtype m)

@@ -1,9 +1,9 @@
 -- What a cache holds of a set of observations.
-use Rattle.std.specs.Prelude.{◌≡◌, ℕ, Bool, ◌≤◌, ◌⊎◌, List, [], ◌∷◌, ◌++◌, slice_get, Some}
+use Rattle.std.specs.Prelude.{◌≡◌, ℕ, Bool, ◌≤◌, ◌⊎◌, List, ◌∷◌, ◌++◌, slice_get, Some}
 use Rattle.std.specs.declared.cmp.Ordering.{Ordering}
 use Rattle.std.specs.Ordering.{ordering_then}
 use Rattle.fleet_wire.specs.Number.{u16_octets}
-use Rattle.fleet_observe.specs.declared.kind.Kind.{Kind}
+use Rattle.fleet_observe.specs.declared.observation.kind.Kind.{Kind}
 use Rattle.fleet_observe.specs.Members.{Has}
 use Rattle.fleet_observe.specs.Observation.{ObservationData, AreObservations, kind_number, expires, key_of}
 use Rattle.fleet_observe.specs.Preference.{octets_cmp, preference}

@@ -1,18 +1,15 @@
--- The parts of an answer as plain data.
+-- The links of an answer, which lie in place with room for more.
 use Rattle.std.specs.Prelude.{List, [], ◌∷◌, Option, Some, None}
 use Rattle.fleet_cache.specs.Answer.{ShownData}
-use Rattle.fleet_cache.specs.declared.shown.Shown.{Shown}
 
-abbrev pub shown_data : {A : Type 0} → Shown A → ShownData
-shown_data p = record { observation = p.observation.now; ttl = p.ttl }
-
-abbrev pub all_shown_data : {A : Type 0} → List (Option (Shown A)) → List ShownData
-all_shown_data [] = []
-all_shown_data (None ∷ ps) = all_shown_data ps
-all_shown_data (Some p ∷ ps) = shown_data p ∷ all_shown_data ps
+-- the parts that are there
+abbrev pub shown_parts : List (Option ShownData) → List ShownData
+shown_parts [] = []
+shown_parts (None ∷ ps) = shown_parts ps
+shown_parts (Some p ∷ ps) = p ∷ shown_parts ps
 
 -- each entry is there
-abbrev pub AllSome : {A : Type 0} → List (Option (Shown A)) → Type 0
+abbrev pub AllSome : List (Option ShownData) → Type 0
 AllSome [] = Unit {0}
 AllSome (None ∷ ps) = ⊥
 AllSome (Some p ∷ ps) = AllSome ps

@@ -3,14 +3,14 @@
 ghost use Rattle.std.specs.Prelude.{◌≡◌, ℕ, ◌≤◌, List};
 ghost use Rattle.fleet_name.specs.Name.{wire, IsName, IsWire};
 ghost use Rattle.fleet_wire.specs.declared.rtype.TheConstants.{CNAME};
-ghost use Rattle.fleet_observe.specs.declared.kind.Kind.TheVariants.{Positive};
+ghost use Rattle.fleet_observe.specs.declared.observation.kind.Kind.TheVariants.{Positive};
 ghost use Rattle.fleet_observe.specs.Observation.{ObservationData};
 ghost use Rattle.fleet_cache.specs.Slots.{items_of, IsLaid};
 ghost use Rattle.fleet_cache.specs.Noted.{AreNoted};
 ghost use Rattle.fleet_cache.specs.Cached.{IsCached};
 ghost use Rattle.fleet_cache.specs.Live.{shown_ttl as ttl_at};
 ghost use Rattle.fleet_cache.specs.Answer.{answer_of, part_at, add_links, by_kind, is_link as leads_on, target as alias_target};
-ghost use Rattle.fleet_cache.specs.Shown.{shown_data, all_shown_data, AllSome};
+ghost use Rattle.fleet_cache.specs.Shown.{shown_parts, AllSome};
 ghost use Rattle.fleet_cache.specs.AnswerData.{answer_data, chain_of};
 
 use crate::denied::Denied;
@@ -68,7 +68,7 @@ fn shown_ttl<A: Allocator>(observation: &Observation<A>, moment: Moment) -> u32
 
 /// An observation with its TTL.
 fn show<'a, A: Allocator>(observation: &'a Observation<A>, moment: Moment) -> Shown<'a, A>
-    ensures { shown_data result ≡ part_at moment observation.now }
+    ensures { result ≡ part_at moment observation.now }
 {
     Shown {
         observation,
@@ -97,7 +97,7 @@ fn target<A: Allocator>(observation: &Observation<A>) -> &[u8]
 fn finish<'a, A: Allocator>(chain: Chain<'a, A>, last: Shown<'a, A>) -> Answer<'a, A>
     requires { AllSome chain.items }
     ensures told { answer_data result
-        ≡ add_links (all_shown_data chain.entry.items) (by_kind (shown_data last.entry)) }
+        ≡ add_links (shown_parts chain.entry.items) (by_kind last.entry) }
     ensures filled { AllSome (chain_of result) }
 {
     match last.observation.kind() {

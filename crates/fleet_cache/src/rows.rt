@@ -428,7 +428,7 @@ fn eight_links_are_followed(rt: HostRuntime) -> Result<(), Fail> {
     };
     assert_eq!(rt; chain.len(), 8);
     for (digit, link) in (b'0'..).zip(chain.as_slice()) {
-        let link = link.ok_or("no link")?;
+        let link = link.as_ref().ok_or("no link")?;
         assert_eq!(rt;
             link.observation.name().octets(),
             numbered_name(digit).as_slice()

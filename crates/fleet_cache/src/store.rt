@@ -1,16 +1,17 @@
 //! A map from keys to fronts.
 
 ghost use Rattle.std.specs.Prelude.{◌≡◌, ℕ, Bool, ◌≤◌, ◌↔◌, [], ◌∷◌, length, IsTrue, OnErr, IfOk};
+ghost use Rattle.fleet_name.specs.declared.bounds.TheConstants.{LONGEST_NAME};
 ghost use Rattle.fleet_observe.specs.Observation.{key_of};
 ghost use Rattle.fleet_observe.specs.Preference.{preference};
 ghost use Rattle.fleet_cache.specs.Front.{IsFront};
 ghost use Rattle.fleet_cache.specs.Dominates.{dominates};
 ghost use Rattle.fleet_cache.specs.Cached.{key_with, is_covered, IsCovered};
 ghost use Rattle.fleet_cache.specs.Packed.{octet_words, words_of, IsPackable};
-ghost use Rattle.fleet_cache.specs.Slots.{items_of, IsLaid, Put};
+ghost use Rattle.fleet_cache.specs.Slots.{items_of, IsLaid, IsPut};
 
 use crate::item::Item;
-use crate::words::{key_octets, pack};
+use crate::words::{MOST_WORDS, key_octets, pack};
 use arrayvec::ArrayVec;
 use fleet_front::Front;
 use fleet_observe::{Kind, Observation};
@@ -24,8 +25,8 @@ pub(crate) type Key<A> = Vec<u64, A>;
 pub(crate) type Fronts<A> = BTreeMap<Key<A>, Front<Item<A>, A>, A>;
 
 /// The words of a key on the stack.
-pub(crate) fn key_words(name: &[u8], kind: Kind, rtype: u16) -> ArrayVec<u64, 37>
-    requires { length name.now ≤ 255 }
+pub(crate) fn key_words(name: &[u8], kind: Kind, rtype: u16) -> ArrayVec<u64, MOST_WORDS>
+    requires { length name.now ≤ LONGEST_NAME }
     ensures words { result.items ≡ octet_words (key_with name.now kind rtype) }
     ensures packable { IsPackable (key_with name.now kind rtype) }
 {
@@ -34,7 +35,7 @@ pub(crate) fn key_words(name: &[u8], kind: Kind, rtype: u16) -> ArrayVec<u64, 37
 }
 
 /// The words of an observation's key.
-fn words_of_observation<A: Allocator>(observation: &Observation<A>) -> ArrayVec<u64, 37>
+fn words_of_observation<A: Allocator>(observation: &Observation<A>) -> ArrayVec<u64, MOST_WORDS>
     ensures words { result.items ≡ words_of observation.now }
     ensures packable { IsPackable (key_of observation.now) }
 {
@@ -71,7 +72,7 @@ pub(crate) fn store<A: Allocator + Copy>(
     observation: Observation<A>,
 ) -> Result<bool, AllocError>
     requires { IsLaid (λ k. k.items) fronts.old.entries }
-    ensures put { IfOk result (Put (λ k. k.items) fronts.old.entries fronts.new.entries
+    ensures put { IfOk result (IsPut (λ k. k.items) fronts.old.entries fronts.new.entries
         observation) }
     ensures memory { OnErr result (¬ IsCovered (items_of fronts.old.entries) observation) }
     ensures err { OnErr result (fronts.new.entries ≡ fronts.old.entries) }

@@ -6,12 +6,10 @@ ghost use Rattle.fleet_cache.specs.Slots.{items_of, IsLaid};
 ghost use Rattle.fleet_cache.specs.Swept.{IsSwept};
 
 use crate::store::{Fronts, Key, covers};
+use crate::words::MOST_WORDS;
 use fleet_observe::{Moment, Observation};
 use std::alloc::{AllocError, Allocator};
 use std::ops::Bound;
-
-/// How many words a key has at most.
-const KEY: usize = 37;
 
 /// A sweep looks at one front of so many, ..
 const SHARE: usize = 256;
@@ -43,11 +41,11 @@ impl<A: Allocator> Cursor<A> {
         requires { IsLaid (λ k. k.items) fronts.now.entries }
         ensures memory { OnErr result (¬ IsCovered (items_of fronts.now.entries) observation.now) }
     {
-        if self.key.capacity() >= KEY || covers(fronts, observation) {
+        if self.key.capacity() >= MOST_WORDS || covers(fronts, observation) {
             return Ok(());
         }
         self.key.clear();
-        self.key.reserve_exact(KEY)
+        self.key.reserve_exact(MOST_WORDS)
     }
 
     /// Goes back to the start.

@@ -133,7 +133,8 @@ module _ {T C : Type 0} {order : T → T → Ordering} {dominates : T → T → 
         | inl t ↦ elim cases [
           | inl same ↦
               absurd (false≢true
-              (sym (front.undominated i h by.0 (front.of_set by.0 by.1)) ∙ ap (λ v. dominates v i) same
+              (sym (front.undominated i h by.0 (front.of_set by.0 by.1)) ∙ ap (λ v. dominates v i)
+              same
               ∙ t))
           | inr over ↦
               absurd (false≢true
@@ -147,7 +148,8 @@ module _ {T C : Type 0} {order : T → T → Ordering} {dominates : T → T → 
         | inl here ↦ subst (Has items) (here ∙ same) by.1
         | inr over ↦
             absurd (false≢true
-            (sym (free by.0 (inr (front.of_set by.0 by.1))) ∙ ap (dominates by.0) (sym same) ∙ over))
+            (sym (free by.0 (inr (front.of_set by.0 by.1))) ∙ ap (dominates by.0) (sym same)
+            ∙ over))
       ]
 
   -- x goes among smaller and greater values
@@ -235,7 +237,8 @@ module _ {T C : Type 0} {order : T → T → Ordering} {dominates : T → T → 
           (subst (Has (x ∷ rest)) same
           (front.whole (climb laws s y).0 (subst (Has s) (sym same) h) (climb laws s y).2))
       | inr far ↦
-          inl (elim (among (climb laws s y).0 (front.whole (climb laws s y).0 far.0 (climb laws s y).2)) [
+          inl (elim (among (climb laws s y).0 (front.whole (climb laws s y).0 far.0
+          (climb laws s y).2)) [
             | inl over ↦ above laws x (climb laws s y).0 y over
                 (laws.greater (climb laws s y).0 y far.1)
             | inr here ↦ ap (λ v. order v y) here ∙ laws.greater (climb laws s y).0 y far.1

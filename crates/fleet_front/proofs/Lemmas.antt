@@ -144,7 +144,8 @@ module _ {T C : Type 0} {order : T → T → Ordering} {dominates : T → T → 
         Has-in_filter _ items w (front.whole w k.0 (λ y h. all_free w k.1 free y h)) k.1;
   }
     where
-      all_free : (w : T) → not (hidden c w) ≡ true → IsUndominated dominates (without_hidden hidden c s) w
+      all_free : (w : T) → not (hidden c w) ≡ true
+          → IsUndominated dominates (without_hidden hidden c s) w
           → IsUndominated dominates s w
       all_free w seen free y h = elim (cases_Bool (dominates y w)) [
         | inr f ↦ f

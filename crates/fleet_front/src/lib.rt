@@ -20,8 +20,9 @@ use std::marker::Model;
 
 /// Values with a preference, of which some make others needless.
 ///
-/// Its laws: the order is total, and equal only on equal values; what dominates is greater, and
-/// dominates what its own values dominate; and what hides a value hides all that it dominates.
+/// Its laws: the order is total, and equal only on equal values; what dominates is greater than
+/// what it dominates, and dominates what that dominates; and what hides a value hides all that it
+/// dominates.
 pub trait Ranked: Drop {
     /// What can hide values, as a moment hides what has ended.
     type Cut;

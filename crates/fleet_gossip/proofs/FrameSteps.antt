@@ -6,76 +6,107 @@ use Rattle.fleet_wire.specs.Number.{u16_octets}
 use Rattle.fleet_observe.specs.Members.{Has}
 use Rattle.fleet_observe.specs.Observation.{ObservationData, IsObservation, AreObservations}
 use Rattle.fleet_gossip.specs.Entry.{octet, entry_octets}
-use Rattle.fleet_gossip.specs.Frame.{magic, version, entries, SpellsFrame, HasEntries}
+use Rattle.fleet_gossip.specs.Frame.{entries, SpellsFrame, HasEntries}
+use Rattle.fleet_gossip.specs.declared.frame.TheConstants.{MAGIC, VERSION}
 use Rattle.fleet_gossip.specs.Faults.{cut, refused, behind, EntryFails, EntriesFail, entry_fails, more_octets, MagicFails, FrameFails}
 use Rattle.fleet_gossip.specs.Steps.{IsCut, IsOpened, AreEntries, StandEntries}
 use Rattle.fleet_gossip.specs.declared.fault.FrameFault.{FrameFault}
 use Rattle.fleet_gossip.specs.declared.fault.FrameFault.TheVariants.{BadMagic, BadVersion, Trailing}
 use Rattle.fleet_gossip.specs.declared.bounds.TheConstants.{LONGEST_FRAME}
 use Rattle.fleet_gossip.proofs.Entries.{entry_of, entry_or_fault, entry_exact}
-use Rattle.fleet_gossip.proofs.Frames.{facts_push}
+use Rattle.fleet_gossip.proofs.Frames.{lawful_push}
 use Rattle.fleet_gossip.proofs.Packing.{entries_push}
 
 -- Behind a first number of two octets.
 module _ (octets left : List ℕ) (n : ℕ) (is : octets ≡ u16_octets n ++ left) where
-  pub bad_magic : (n ≡ magic → ⊥) → MagicFails octets BadMagic
+  pub bad_magic : (n ≡ MAGIC → ⊥) → MagicFails octets BadMagic
   bad_magic unlike = refused n left is unlike refl
 
-  module _ (same : n ≡ magic) where
+  module _ (same : n ≡ MAGIC) where
     pub version_cut : (f : FrameFault) → IsCut 1 left f → MagicFails octets f
     version_cut f h = behind n left is same (cut h.0 h.1)
 
     module _ (v : ℕ) (rest : List ℕ) (stands : left ≡ octet v ++ rest) where
-      pub bad_version : (v ≡ version → ⊥) → MagicFails octets BadVersion
+      pub bad_version : (v ≡ VERSION → ⊥) → MagicFails octets BadVersion
       bad_version unlike = behind n left is same (refused v rest stands unlike refl)
 
-      module _ (one : v ≡ version) where
+      module _ (one : v ≡ VERSION) where
         pub count_cut : (f : FrameFault) → IsCut 2 rest f → MagicFails octets f
         count_cut f h = behind n left is same (behind v rest stands one (cut h.0 h.1))
 
-        pub opening_read : (count : ℕ) (more : List ℕ) → rest ≡ u16_octets count ++ more → IsOpened octets count more
+        pub opening_read : (count : ℕ) (more : List ℕ) → rest ≡ u16_octets count ++ more
+            → IsOpened octets count more
         opening_read count more e =
-            is ∙ (ap (λ (k : ℕ). u16_octets k ++ left) same ∙ ap (λ (x : List ℕ). u16_octets magic ++ x) (stands ∙ (ap (λ (k : ℕ). octet k ++ rest) one ∙ ap (λ (x : List ℕ). octet version ++ x) e)))
+            is ∙ (ap (λ (k : ℕ). u16_octets k ++ left) same
+            ∙ ap (λ (x : List ℕ). u16_octets MAGIC ++ x)
+            (stands ∙ (ap (λ (k : ℕ). octet k ++ rest) one
+            ∙ ap (λ (x : List ℕ). octet VERSION ++ x) e)))
 
-pub entries_fail : (octets rest : List ℕ) (count : ℕ) (f : FrameFault) → octets ≡ u16_octets magic ++ (octet version ++ (u16_octets count ++ rest)) → length octets ≤ LONGEST_FRAME → EntriesFail count rest f → FrameFails octets f
-entries_fail octets rest count f is fits h = inr (fits, behind magic _ is refl (behind version _ refl refl (behind count rest refl tt h)))
+pub entries_fail : (octets rest : List ℕ) (count : ℕ) (f : FrameFault) → octets ≡ u16_octets MAGIC
+    ++ (octet VERSION ++ (u16_octets count ++ rest)) → length octets ≤ LONGEST_FRAME
+    → EntriesFail count rest f → FrameFails octets f
+entries_fail octets rest count f is fits h = inr
+    (fits, behind MAGIC _ is refl (behind VERSION _ refl refl (behind count rest refl tt h)))
 
 -- one more entry
-pub entry_more : (octets left rest : List ℕ) (count : ℕ) (facts new : List ObservationData) (o : ObservationData) → AreEntries octets count facts left → IsObservation o → left ≡ entry_octets o ++ rest → new ≡ facts ++ o ∷ [] → AreEntries octets (count + 1) new rest
-entry_more octets left rest count facts new o are is stands e =
+pub entry_more : (octets left rest : List ℕ) (count : ℕ) (list new : List ObservationData)
+    (o : ObservationData) → AreEntries octets count list left → IsObservation o
+    → left ≡ entry_octets o ++ rest → new ≡ list ++ o ∷ [] → AreEntries octets (count + 1) new rest
+entry_more octets left rest count list new o are is stands e =
     subst (λ (x : List ObservationData). AreEntries octets (count + 1) x rest) (sym e) (record {
-      whole = are.whole ∙ (ap (λ (x : List ℕ). entries facts ++ x) stands ∙ (sym (append_assoc (entries facts) (entry_octets o) rest) ∙ ap (λ (x : List ℕ). x ++ rest) (sym (entries_push facts o))));
-      lawful = facts_push facts o are.lawful is;
-      counted = omega (arith, are.counted, length-append facts (o ∷ []));
+      whole = are.whole ∙ (ap (λ (x : List ℕ). entries list ++ x) stands
+          ∙ (sym (append_assoc (entries list) (entry_octets o) rest)
+          ∙ ap (λ (x : List ℕ). x ++ rest) (sym (entries_push list o))));
+      lawful = lawful_push list o are.lawful is;
+      counted = omega (arith, are.counted, length-append list (o ∷ []));
     })
 
-pub entry_told : (octets left : List ℕ) (at count : ℕ) (facts : List ObservationData) (f : FrameFault) → AreEntries octets at facts left → at < count → EntryFails left f → EntriesFail count octets f
-entry_told octets left at count facts f are few h = entry_fails facts left are.whole are.lawful (omega (arith, are.counted, few)) h
+pub entry_told : (octets left : List ℕ) (at count : ℕ) (list : List ObservationData)
+    (f : FrameFault) → AreEntries octets at list left → at < count → EntryFails left f
+    → EntriesFail count octets f
+entry_told octets left at count list f are few h = entry_fails list left are.whole are.lawful
+    (omega (arith, are.counted, few)) h
 
 -- behind the last entry
-module _ (octets left : List ℕ) (at : ℕ) (facts : List ObservationData) (are : AreEntries octets at facts left) (count : ℕ) (all : at ≡ count) where
+module _ (octets left : List ℕ) (at : ℕ) (list : List ObservationData)
+    (are : AreEntries octets at list left) (count : ℕ) (all : at ≡ count) where
   some_of : (xs : List ℕ) → (xs ≡ [] → ⊥) → 0 < length xs
   some_of [] unlike = absurd (unlike refl)
   some_of (x ∷ xs) unlike = omega arith
 
   pub trails : (left ≡ [] → ⊥) → EntriesFail count octets Trailing
-  trails unlike = more_octets facts left are.whole are.lawful (are.counted ∙ all) (some_of left unlike) refl
+  trails unlike = more_octets list left are.whole are.lawful (are.counted ∙ all)
+      (some_of left unlike) refl
 
   pub all_stand : left ≡ [] → StandEntries octets count
-  all_stand none = record { facts = facts; are = subst (λ (x : List ℕ). AreEntries octets count facts x) none (subst (λ (n : ℕ). AreEntries octets n facts left) all are) }
+  all_stand none = record {
+    list = list;
+    are = subst
+        (λ (x : List ℕ). AreEntries octets count list x) none
+        (subst (λ (n : ℕ). AreEntries octets n list left) all are);
+  }
 
 -- the observations of all entries
-module _ (octets rest : List ℕ) (count : ℕ) (facts : List ObservationData) (is : IsOpened octets count rest) (fits : length octets ≤ LONGEST_FRAME) (are : AreEntries rest count facts []) where
-  pub spells_frame : SpellsFrame octets facts
+module _ (octets rest : List ℕ) (count : ℕ) (list : List ObservationData)
+    (is : IsOpened octets count rest) (fits : length octets ≤ LONGEST_FRAME)
+    (are : AreEntries rest count list []) where
+  pub spells_frame : SpellsFrame octets list
   spells_frame = record {
     lawful = are.lawful;
-    spelled = is ∙ (ap (λ (k : ℕ). u16_octets magic ++ (octet version ++ (u16_octets k ++ rest))) (sym are.counted)
-        ∙ ap (λ (x : List ℕ). u16_octets magic ++ (octet version ++ (u16_octets (length facts) ++ x))) (are.whole ∙ append-nil (entries facts)));
+    spelled = is ∙ (ap (λ (k : ℕ). u16_octets MAGIC ++ (octet VERSION ++ (u16_octets k ++ rest)))
+        (sym are.counted)
+        ∙ ap (λ (x : List ℕ). u16_octets MAGIC
+        ++ (octet VERSION ++ (u16_octets (length list) ++ x)))
+        (are.whole ∙ append-nil (entries list)));
     fits = fits;
   }
 
   pub has_entries : 0 < count → HasEntries octets
-  has_entries some = record { facts = facts; spelled = spells_frame; some = λ e. omega (arith, some, are.counted, ap length e) }
+  has_entries some = record {
+    list = list;
+    spelled = spells_frame;
+    some = λ e. omega (arith, some, are.counted, ap length e);
+  }
 
 -- The entries that are left, and the next one.
 pub record IsNext (left : List ObservationData) (o : ObservationData) (rest : List ℕ) : Type 0 where
@@ -83,29 +114,51 @@ pub record IsNext (left : List ObservationData) (o : ObservationData) (rest : Li
   pub left_is : left ≡ o ∷ others
   pub rest_is : rest ≡ entries others
 
-pub next_fails : (left : List ObservationData) (octets : List ℕ) (f : FrameFault) → AreObservations left → octets ≡ entries left → 0 < length left → EntryFails octets f → ⊥
+pub next_fails : (left : List ObservationData) (octets : List ℕ) (f : FrameFault)
+    → AreObservations left → octets ≡ entries left → 0 < length left → EntryFails octets f → ⊥
 next_fails [] octets f lawful whole some h = omega (arith, some)
-next_fails (o ∷ left) octets f lawful whole some h = entry_or_fault o (entry_of o (lawful o (inl refl))) (entries left) f octets whole h
+next_fails (o ∷ left) octets f lawful whole some h =
+    entry_or_fault o (entry_of o (lawful o (inl refl))) (entries left) f octets whole h
 
-pub next_of : (left : List ObservationData) (octets : List ℕ) (o : ObservationData) (rest : List ℕ) → AreObservations left → octets ≡ entries left → 0 < length left → IsObservation o → octets ≡ entry_octets o ++ rest → IsNext left o rest
+pub next_of : (left : List ObservationData) (octets : List ℕ) (o : ObservationData) (rest : List ℕ)
+    → AreObservations left → octets ≡ entries left → 0 < length left → IsObservation o
+    → octets ≡ entry_octets o ++ rest → IsNext left o rest
 next_of [] octets o rest lawful whole some is stands = absurd (omega (arith, some))
 next_of (p ∷ left) octets o rest lawful whole some is stands =
-    let one = entry_exact p o (entry_of p (lawful p (inl refl))) (entry_of o is) (entries left) rest (sym whole ∙ stands) in
-    record { others = left; left_is = ap (λ (x : ObservationData). x ∷ left) one.0; rest_is = sym one.1 }
+    let one = entry_exact p o (entry_of p (lawful p (inl refl))) (entry_of o is) (entries left) rest
+    (sym whole ∙ stands) in
+    record {
+      others = left;
+      left_is = ap (λ (x : ObservationData). x ∷ left) one.0;
+      rest_is = sym one.1;
+    }
 
-pub next_lawful : (left : List ObservationData) (o : ObservationData) (others : List ObservationData) → left ≡ o ∷ others → AreObservations left → AreObservations others
-next_lawful left o others e lawful = λ x h. lawful x (subst (λ (y : List ObservationData). Has y x) (sym e) (inr h))
+pub next_lawful : (left : List ObservationData) (o : ObservationData)
+    (others : List ObservationData) → left ≡ o ∷ others → AreObservations left
+    → AreObservations others
+next_lawful left o others e lawful = λ x h. lawful x
+    (subst (λ (y : List ObservationData). Has y x) (sym e) (inr h))
 
-pub entries_next : (octets : List ℕ) (made new left : List ObservationData) (o copy : ObservationData) (others : List ObservationData) → left ≡ o ∷ others → octets ≡ entries (made ++ left) → copy ≡ o → new ≡ made ++ copy ∷ [] → octets ≡ entries (new ++ others)
+pub entries_next : (octets : List ℕ) (made new left : List ObservationData)
+    (o copy : ObservationData) (others : List ObservationData) → left ≡ o ∷ others
+    → octets ≡ entries (made ++ left) → copy ≡ o → new ≡ made ++ copy ∷ []
+    → octets ≡ entries (new ++ others)
 entries_next octets made new left o copy others e is copied pushed =
     let all : made ++ left ≡ new ++ others =
-    ap (λ (x : List ObservationData). made ++ x) (e ∙ ap (λ (x : ObservationData). x ∷ others) (sym copied)) ∙ (sym (append_assoc made (copy ∷ []) others) ∙ ap (λ (x : List ObservationData). x ++ others) (sym pushed)) in
+    ap (λ (x : List ObservationData). made ++ x)
+    (e ∙ ap (λ (x : ObservationData). x ∷ others) (sym copied))
+    ∙ (sym (append_assoc made (copy ∷ []) others)
+    ∙ ap (λ (x : List ObservationData). x ++ others) (sym pushed)) in
     is ∙ ap entries all
 
-pub all_made : (octets : List ℕ) (made : List ObservationData) (at count : ℕ) (left : List ObservationData) → AreObservations made → octets ≡ entries (made ++ left) → length made ≡ at → at + length left ≡ count → count ≤ at → AreEntries octets count made []
+pub all_made : (octets : List ℕ) (made : List ObservationData) (at count : ℕ)
+    (left : List ObservationData) → AreObservations made → octets ≡ entries (made ++ left)
+    → length made ≡ at → at + length left ≡ count → count ≤ at → AreEntries octets count made []
 all_made octets made at count left lawful is n all past =
     record {
-      whole = is ∙ (ap (λ (x : List ObservationData). entries (made ++ x)) (nil_from_length left (omega (arith, all, past))) ∙ (ap entries (append-nil made) ∙ sym (append-nil (entries made))));
+      whole = is ∙ (ap (λ (x : List ObservationData). entries (made ++ x))
+          (nil_from_length left (omega (arith, all, past)))
+          ∙ (ap entries (append-nil made) ∙ sym (append-nil (entries made))));
       lawful = lawful;
       counted = omega (arith, n, all, past);
     }

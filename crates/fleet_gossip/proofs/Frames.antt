@@ -4,7 +4,8 @@ use Rattle.std.proofs.lemmas.List.{append-nil}
 use Rattle.fleet_wire.specs.Number.{u16_octets}
 use Rattle.fleet_observe.specs.Observation.{ObservationData, IsObservation, AreObservations}
 use Rattle.fleet_gossip.specs.Entry.{octet, entry_octets}
-use Rattle.fleet_gossip.specs.Frame.{magic, version, entries, frame_octets, SpellsFrame}
+use Rattle.fleet_gossip.specs.Frame.{entries, frame_octets, SpellsFrame}
+use Rattle.fleet_gossip.specs.declared.frame.TheConstants.{MAGIC, VERSION}
 use Rattle.fleet_gossip.specs.Faults.{AnyNumber, EntryFails, EntriesFail, entry_fails, more_octets, CountFails, VersionFails, MagicFails, FrameFails}
 use Rattle.fleet_gossip.specs.declared.fault.FrameFault.{FrameFault}
 use Rattle.fleet_gossip.specs.declared.fault.FrameFault.TheVariants.{BadMagic, BadVersion, Truncated}
@@ -15,75 +16,121 @@ use Rattle.fleet_gossip.proofs.Rows.{Aligned, same, longer, shorter, align, row_
 use Rattle.fleet_name.proofs.Lemmas.{has_left, has_right}
 use Rattle.fleet_gossip.proofs.Entries.{entry_of, entry_or_fault, one_entry_fault, entry_exact}
 
-pub facts_front : (before after : List ObservationData) → AreObservations (before ++ after) → AreObservations before
-facts_front before after l = λ o h. l o (has_left before after o h)
+pub lawful_front : (before after : List ObservationData) → AreObservations (before ++ after)
+    → AreObservations before
+lawful_front before after l = λ o h. l o (has_left before after o h)
 
-facts_one_more : (before : List ObservationData) (o : ObservationData) (more : List ObservationData) → AreObservations (before ++ o ∷ more) → AreObservations (before ++ o ∷ [])
-facts_one_more before o more l = facts_front (before ++ o ∷ []) more (subst (λ (x : List ObservationData). AreObservations x) (sym (append_assoc before (o ∷ []) more)) l)
+lawful_one_more : (before : List ObservationData) (o : ObservationData)
+    (more : List ObservationData)
+    → AreObservations (before ++ o ∷ more) → AreObservations (before ++ o ∷ [])
+lawful_one_more before o more l = lawful_front (before ++ o ∷ []) more
+    (subst (λ (x : List ObservationData). AreObservations x)
+    (sym (append_assoc before (o ∷ []) more)) l)
 
-pub facts_push : (before : List ObservationData) (o : ObservationData) → AreObservations before → IsObservation o → AreObservations (before ++ o ∷ [])
-facts_push [] o l is = λ x h. elim h [ inl e ↦ subst (λ (y : ObservationData). IsObservation y) e is | inr h' ↦ absurd h' ]
-facts_push (y ∷ before) o l is = λ x h. elim h [ inl e ↦ l x (inl e) | inr h' ↦ facts_push before o (λ z k. l z (inr k)) is x h' ]
+pub lawful_push : (before : List ObservationData) (o : ObservationData) → AreObservations before
+    → IsObservation o → AreObservations (before ++ o ∷ [])
+lawful_push [] o l is = λ x h. elim h [
+  | inl e ↦ subst (λ (y : ObservationData). IsObservation y) e is
+  | inr h' ↦ absurd h'
+]
+lawful_push (y ∷ before) o l is = λ x h. elim h [
+  | inl e ↦ l x (inl e)
+  | inr h' ↦
+      lawful_push before o (λ z k. l z (inr k)) is x h'
+]
 
-tells : (before : List ObservationData) (o p : ObservationData) (r s : List ℕ) → AreObservations (before ++ o ∷ []) → AreObservations (before ++ p ∷ []) → entry_octets o ++ r ≡ entry_octets p ++ s → (o ≡ p) × (r ≡ s)
-tells before o p r s l l' e = entry_exact o p (entry_of o (l o (has_right before (o ∷ []) o (inl refl)))) (entry_of p (l' p (has_right before (p ∷ []) p (inl refl)))) r s e
+tells : (before : List ObservationData) (o p : ObservationData) (r s : List ℕ)
+    → AreObservations (before ++ o ∷ []) → AreObservations (before ++ p ∷ [])
+    → entry_octets o ++ r ≡ entry_octets p ++ s → (o ≡ p) × (r ≡ s)
+tells before o p r s l l' e = entry_exact o p
+    (entry_of o (l o (has_right before (o ∷ []) o (inl refl))))
+    (entry_of p (l' p (has_right before (p ∷ []) p (inl refl)))) r s e
 
-next_or_fault : (before : List ObservationData) (o : ObservationData) (rest octets : List ℕ) (f : FrameFault) → AreObservations (before ++ o ∷ []) → octets ≡ entry_octets o ++ rest → EntryFails octets f → ⊥
-next_or_fault before o rest octets f l is h = entry_or_fault o (entry_of o (l o (has_right before (o ∷ []) o (inl refl)))) rest f octets is h
+next_or_fault : (before : List ObservationData) (o : ObservationData) (rest octets : List ℕ)
+    (f : FrameFault) → AreObservations (before ++ o ∷ []) → octets ≡ entry_octets o ++ rest
+    → EntryFails octets f → ⊥
+next_or_fault before o rest octets f l is h =
+    entry_or_fault o (entry_of o (l o (has_right before (o ∷ []) o (inl refl)))) rest f octets is h
 
-rows_of : (a b : List ObservationData) (r s : List ℕ) → AreObservations a → AreObservations b → entries a ++ r ≡ entries b ++ s → Aligned ObservationData entry_octets a b r s
-rows_of a b r s l l' e = align ObservationData entry_octets AreObservations facts_one_more tells a b r s l l' e
+rows_of : (a b : List ObservationData) (r s : List ℕ) → AreObservations a → AreObservations b
+    → entries a ++ r ≡ entries b ++ s → Aligned ObservationData entry_octets a b r s
+rows_of a b r s l l' e = align ObservationData entry_octets AreObservations lawful_one_more tells a
+    b
+    r s l l' e
 
-rows_same : (a b : List ObservationData) (r s : List ℕ) → length a ≡ length b → Aligned ObservationData entry_octets a b r s → (a ≡ b) × (r ≡ s)
+rows_same : (a b : List ObservationData) (r s : List ℕ) → length a ≡ length b
+    → Aligned ObservationData entry_octets a b r s → (a ≡ b) × (r ≡ s)
 rows_same a b r s n (same e e') = (e, e')
-rows_same a b r s n (longer y more e e') = absurd (omega (arith, n, ap length e, length-append a (y ∷ more)))
-rows_same a b r s n (shorter x more e e') = absurd (omega (arith, n, ap length e, length-append b (x ∷ more)))
+rows_same a b r s n (longer y more e e') = absurd
+    (omega (arith, n, ap length e, length-append a (y ∷ more)))
+rows_same a b r s n (shorter x more e e') = absurd
+    (omega (arith, n, ap length e, length-append b (x ∷ more)))
 
-entries_exact : (a b : List ObservationData) (r s : List ℕ) → AreObservations a → AreObservations b → length a ≡ length b → entries a ++ r ≡ entries b ++ s → (a ≡ b) × (r ≡ s)
+entries_exact : (a b : List ObservationData) (r s : List ℕ) → AreObservations a → AreObservations b
+    → length a ≡ length b → entries a ++ r ≡ entries b ++ s → (a ≡ b) × (r ≡ s)
 entries_exact a b r s l l' n e = rows_same a b r s n (rows_of a b r s l l' e)
 
-entries_or_fault : (facts : List ObservationData) (octets : List ℕ) (f : FrameFault) → AreObservations facts → octets ≡ entries facts ++ [] → EntriesFail (length facts) octets f → ⊥
-entries_or_fault facts octets f l is (entry_fails before r e l' few h) =
-    row_or_fault ObservationData entry_octets AreObservations facts_one_more tells (λ b. EntryFails) next_or_fault before facts r [] f l' l (sym e ∙ is) few h
-entries_or_fault facts octets f l is (more_octets all r e l' n some e') =
-    let h = entries_exact all facts r [] l' l n (sym e ∙ is) in omega (arith, some, ap length h.1)
+entries_or_fault : (list : List ObservationData) (octets : List ℕ) (f : FrameFault)
+    → AreObservations list → octets ≡ entries list ++ [] → EntriesFail (length list) octets f → ⊥
+entries_or_fault list octets f l is (entry_fails before r e l' few h) =
+    row_or_fault ObservationData entry_octets AreObservations lawful_one_more tells
+    (λ b. EntryFails)
+    next_or_fault before list r [] f l' l (sym e ∙ is) few h
+entries_or_fault list octets f l is (more_octets all r e l' n some e') =
+    let h = entries_exact all list r [] l' l n (sym e ∙ is) in omega (arith, some, ap length h.1)
 
-one_entries_fault : (count : ℕ) (octets : List ℕ) (f g : FrameFault) → EntriesFail count octets f → EntriesFail count octets g → f ≡ g
+one_entries_fault : (count : ℕ) (octets : List ℕ) (f g : FrameFault) → EntriesFail count octets f
+    → EntriesFail count octets g → f ≡ g
 one_entries_fault count octets f g (entry_fails a r e l few h) (entry_fails b s e' l' few' h') =
-    one_row_fault ObservationData entry_octets AreObservations facts_one_more tells (λ x. EntryFails) next_or_fault (λ x rest f' g' k k'. one_entry_fault rest f' g' k k') a b r s f g l l' (sym e ∙ e') h h'
+    one_row_fault ObservationData entry_octets AreObservations lawful_one_more tells
+    (λ x. EntryFails) next_or_fault (λ x rest f' g' k k'. one_entry_fault rest f' g' k k') a b r
+    s f g l l' (sym e ∙ e') h h'
 one_entries_fault count octets f g (entry_fails a r e l few h) (more_octets b s e' l' n some is) =
-    absurd (row_or_fault ObservationData entry_octets AreObservations facts_one_more tells (λ x. EntryFails) next_or_fault a b r s f l l' (sym e ∙ e') (omega (arith, few, n)) h)
+    absurd (row_or_fault ObservationData entry_octets AreObservations lawful_one_more tells
+    (λ x. EntryFails) next_or_fault a b r s f l l' (sym e ∙ e') (omega (arith, few, n)) h)
 one_entries_fault count octets f g (more_octets b s e' l' n some is) (entry_fails a r e l few h) =
-    absurd (row_or_fault ObservationData entry_octets AreObservations facts_one_more tells (λ x. EntryFails) next_or_fault a b r s g l l' (sym e ∙ e') (omega (arith, few, n)) h)
-one_entries_fault count octets f g (more_octets a r e l n some is) (more_octets b s e' l' n' some' is') = is ∙ sym is'
+    absurd (row_or_fault ObservationData entry_octets AreObservations lawful_one_more tells
+    (λ x. EntryFails) next_or_fault a b r s g l l' (sym e ∙ e') (omega (arith, few, n)) h)
+one_entries_fault count octets f g (more_octets a r e l n some is)
+    (more_octets b s e' l' n' some' is') = is ∙ sym is'
 
-pub one_list : (octets : List ℕ) (a b : List ObservationData) → SpellsFrame octets a → SpellsFrame octets b → a ≡ b
+pub one_list : (octets : List ℕ) (a b : List ObservationData) → SpellsFrame octets a
+    → SpellsFrame octets b → a ≡ b
 one_list octets a b one two =
     let e : frame_octets a ≡ frame_octets b = sym one.spelled ∙ two.spelled in
-    let m = u16_exact magic magic _ _ e in
-    let v = octet_exact version version _ _ m.1 in
+    let m = u16_exact MAGIC MAGIC _ _ e in
+    let v = octet_exact VERSION VERSION _ _ m.1 in
     let n = u16_exact (length a) (length b) (entries a) (entries b) v.1 in
     (entries_exact a b [] [] one.lawful two.lawful n.0 (ap (λ (x : List ℕ). x ++ []) n.1)).0
 
-magic_or_fault : (facts : List ObservationData) (octets : List ℕ) (f : FrameFault) → AreObservations facts → octets ≡ frame_octets facts → MagicFails octets f → ⊥
-magic_or_fault facts octets f l e h =
-    field_or_fault u16_octets 2 (λ n. n ≡ magic) BadMagic (λ n. VersionFails) u16_long u16_exact magic (octet version ++ (u16_octets (length facts) ++ entries facts)) octets f e refl
-    (λ h'. field_or_fault octet 1 (λ n. n ≡ version) BadVersion (λ n. CountFails) octet_long octet_exact version (u16_octets (length facts) ++ entries facts) _ f refl refl
-    (λ h''. field_or_fault u16_octets 2 AnyNumber Truncated EntriesFail u16_long u16_exact (length facts) (entries facts) _ f refl tt
-    (λ k. entries_or_fault facts (entries facts) f l (sym (append-nil (entries facts))) k) h'') h') h
+magic_or_fault : (list : List ObservationData) (octets : List ℕ) (f : FrameFault)
+    → AreObservations list → octets ≡ frame_octets list → MagicFails octets f → ⊥
+magic_or_fault list octets f l e h =
+    field_or_fault u16_octets 2 (λ n. n ≡ MAGIC) BadMagic (λ n. VersionFails) u16_long u16_exact
+    MAGIC (octet VERSION ++ (u16_octets (length list) ++ entries list)) octets f e refl
+    (λ h'. field_or_fault octet 1 (λ n. n ≡ VERSION) BadVersion (λ n. CountFails) octet_long
+    octet_exact VERSION (u16_octets (length list) ++ entries list) _ f refl refl
+    (λ h''. field_or_fault u16_octets 2 AnyNumber Truncated EntriesFail u16_long u16_exact
+    (length list) (entries list) _ f refl tt
+    (λ k. entries_or_fault list (entries list) f l (sym (append-nil (entries list))) k) h'') h')
+    h
 
-pub list_or_fault : (octets : List ℕ) (facts : List ObservationData) (f : FrameFault) → SpellsFrame octets facts → FrameFails octets f → ⊥
-list_or_fault octets facts f is (inl h) = omega (arith, h.0, is.fits)
-list_or_fault octets facts f is (inr h) = magic_or_fault facts octets f is.lawful is.spelled h.1
+pub list_or_fault : (octets : List ℕ) (list : List ObservationData) (f : FrameFault)
+    → SpellsFrame octets list → FrameFails octets f → ⊥
+list_or_fault octets list f is (inl h) = omega (arith, h.0, is.fits)
+list_or_fault octets list f is (inr h) = magic_or_fault list octets f is.lawful is.spelled h.1
 
-one_magic_fault : (octets : List ℕ) (f g : FrameFault) → MagicFails octets f → MagicFails octets g → f ≡ g
+one_magic_fault : (octets : List ℕ) (f g : FrameFault) → MagicFails octets f → MagicFails octets g
+    → f ≡ g
 one_magic_fault octets f g h h' =
-    one_field u16_octets 2 (λ n. n ≡ magic) BadMagic (λ n. VersionFails) u16_long u16_exact
-    (λ n r f' g' l. one_field octet 1 (λ v. v ≡ version) BadVersion (λ v. CountFails) octet_long octet_exact
+    one_field u16_octets 2 (λ n. n ≡ MAGIC) BadMagic (λ n. VersionFails) u16_long u16_exact
+    (λ n r f' g' l. one_field octet 1 (λ v. v ≡ VERSION) BadVersion (λ v. CountFails) octet_long
+    octet_exact
     (λ v r' f'' g'' l'. one_field u16_octets 2 AnyNumber Truncated EntriesFail u16_long u16_exact
     (λ count r'' a b any. one_entries_fault count r'' a b) r' f'' g'') r f' g') octets f g h h'
 
-pub one_fault : (octets : List ℕ) (f g : FrameFault) → FrameFails octets f → FrameFails octets g → f ≡ g
+pub one_fault : (octets : List ℕ) (f g : FrameFault) → FrameFails octets f → FrameFails octets g
+    → f ≡ g
 one_fault octets f g (inl h) (inl h') = h.1 ∙ sym h'.1
 one_fault octets f g (inl h) (inr h') = absurd (omega (arith, h.0, h'.0))
 one_fault octets f g (inr h) (inl h') = absurd (omega (arith, h.0, h'.0))

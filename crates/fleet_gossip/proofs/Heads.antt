@@ -2,7 +2,7 @@
 use Rattle.std.proofs.Common.{◌≡◌, ℕ, List, ◌++◌, refl, sym, ap, ◌∙◌, Bor}
 use Rattle.fleet_name.specs.Name.{wire, IsWire}
 use Rattle.fleet_wire.specs.Number.{u16_octets, u32_octets}
-use Rattle.fleet_observe.specs.declared.kind.Kind.{Kind}
+use Rattle.fleet_observe.specs.declared.observation.kind.Kind.{Kind}
 use Rattle.fleet_observe.specs.Checks.{IsRankOf, IsLifeOf, IsTypeOf}
 use Rattle.fleet_observe.specs.Observation.{ObservationData, IsObservation, kind_number}
 use Rattle.fleet_gossip.specs.Entry.{octet, u64_octets, entry_octets, IsMoment, IsBodyOf}
@@ -14,19 +14,24 @@ use Rattle.fleet_gossip.specs.declared.head.Head.{Head}
 use Rattle.fleet_gossip.proofs.Entries.{fact_of, entry_split}
 
 module _ (octets rest : List ℕ) (f : FrameFault) where
-  pub behind_kind : (kind : Kind) → octets ≡ octet (kind_number kind) ++ rest → RankFails kind rest f → EntryFails octets f
+  pub behind_kind : (kind : Kind) → octets ≡ octet (kind_number kind) ++ rest
+      → RankFails kind rest f → EntryFails octets f
   behind_kind kind is h = behind (kind_number kind) rest is (kind, refl) (kind, refl, h)
 
-  pub behind_rank : (kind : Kind) (rank : ℕ) → IsField octet (IsRankOf kind) octets rank rest → StampFails kind rest f → RankFails kind octets f
+  pub behind_rank : (kind : Kind) (rank : ℕ) → IsField octet (IsRankOf kind) octets rank rest
+      → StampFails kind rest f → RankFails kind octets f
   behind_rank kind rank is h = behind rank rest is.whole is.lawful h
 
-  pub behind_stamp : (kind : Kind) (stamp : ℕ) → IsField u64_octets IsMoment octets stamp rest → LifeFails kind rest f → StampFails kind octets f
+  pub behind_stamp : (kind : Kind) (stamp : ℕ) → IsField u64_octets IsMoment octets stamp rest
+      → LifeFails kind rest f → StampFails kind octets f
   behind_stamp kind stamp is h = behind stamp rest is.whole is.lawful h
 
-  pub behind_life : (kind : Kind) (life : ℕ) → IsField u32_octets (IsLifeOf kind) octets life rest → NamedFails kind rest f → LifeFails kind octets f
+  pub behind_life : (kind : Kind) (life : ℕ) → IsField u32_octets (IsLifeOf kind) octets life rest
+      → NamedFails kind rest f → LifeFails kind octets f
   behind_life kind life is h = behind life rest is.whole is.lawful h
 
-pub behind_head : (octets rest : List ℕ) (f : FrameFault) (head : Head) → IsHead octets head rest → NamedFails head.kind rest f → EntryFails octets f
+pub behind_head : (octets rest : List ℕ) (f : FrameFault) (head : Head) → IsHead octets head rest
+    → NamedFails head.kind rest f → EntryFails octets f
 behind_head octets rest f head is h =
     behind_kind octets _ f head.kind is.whole
     (behind head.rank _ refl is.lawful.rank
@@ -34,21 +39,35 @@ behind_head octets rest f head is h =
     (behind head.life rest refl is.lawful.life h)))
 
 -- An entry from its name on.
-module _ (octets named part typed : List ℕ) (head : Head) (is : IsHead octets head named) (at : IsPart IsWire named part typed) where
+module _ (octets named part typed : List ℕ) (head : Head) (is : IsHead octets head named)
+    (at : IsPart IsWire named part typed) where
   name_stands : named ≡ wire at.lawful.name ++ typed
   name_stands = at.whole ∙ ap (λ (x : List ℕ). x ++ typed) at.lawful.whole
 
-  pub type_fails : (f : FrameFault) → TypeFails head.kind at.lawful.name typed f → EntryFails octets f
-  type_fails f h = behind_head octets named f head is (behind_name at.lawful.name typed name_stands at.lawful.named h)
+  pub type_fails : (f : FrameFault) → TypeFails head.kind at.lawful.name typed f
+      → EntryFails octets f
+  type_fails f h = behind_head octets named f head is
+      (behind_name at.lawful.name typed name_stands at.lawful.named h)
 
-  module _ (rest : List ℕ) (rtype : ℕ) (t : IsField u16_octets (IsTypeOf head.kind) typed rtype rest) where
-    pub body_fails : (f : FrameFault) → BodyFails head.kind at.lawful.name rtype rest f → EntryFails octets f
+  module _ (rest : List ℕ) (rtype : ℕ) (t : IsField u16_octets (IsTypeOf head.kind) typed rtype
+      rest) where
+    pub body_fails : (f : FrameFault) → BodyFails head.kind at.lawful.name rtype rest f
+        → EntryFails octets f
     body_fails f h = type_fails f (behind rtype rest t.whole t.lawful h)
 
-    module _ (body left : List ℕ) (b : IsPart (IsBodyOf head.kind at.lawful.name rtype) rest body left) where
+    module _ (body left : List ℕ) (b : IsPart (IsBodyOf head.kind at.lawful.name rtype) rest body
+        left) where
       -- the observation that stands there
       pub fact_read : ObservationData
-      fact_read = record { kind = head.kind; name = at.lawful.name; rtype = rtype; body = body; rank = head.rank; stamp = head.stamp; life = head.life }
+      fact_read = record {
+        kind = head.kind;
+        name = at.lawful.name;
+        rtype = rtype;
+        body = body;
+        rank = head.rank;
+        stamp = head.stamp;
+        life = head.life;
+      }
 
       fact_lawful : IsObservation fact_read
       unfolding fact_read
@@ -64,10 +83,20 @@ module _ (octets named part typed : List ℕ) (head : Head) (is : IsHead octets 
       pub fact_whole : octets ≡ entry_octets fact_read ++ left
       unfolding fact_read
       fact_whole =
-          let tail : named ≡ wire at.lawful.name ++ (u16_octets rtype ++ (body ++ left)) = name_stands ∙ ap (λ (x : List ℕ). wire at.lawful.name ++ x) (t.whole ∙ ap (λ (x : List ℕ). u16_octets rtype ++ x) b.whole) in
-          is.whole ∙ (ap (λ (x : List ℕ). octet (kind_number head.kind) ++ (octet head.rank ++ (u64_octets head.stamp ++ (u32_octets head.life ++ x)))) tail ∙ sym (entry_split fact_read left))
+          let tail : named ≡ wire at.lawful.name ++ (u16_octets rtype ++ (body ++ left)) =
+          name_stands ∙ ap (λ (x : List ℕ). wire at.lawful.name ++ x)
+          (t.whole ∙ ap (λ (x : List ℕ). u16_octets rtype ++ x) b.whole) in
+          is.whole ∙ (ap (λ (x : List ℕ). octet (kind_number head.kind)
+          ++ (octet head.rank ++ (u64_octets head.stamp ++ (u32_octets head.life ++ x)))) tail
+          ∙ sym (entry_split fact_read left))
 
-      pub entry_read : (name_ref body_ref : Bor (List ℕ)) → name_ref.now ≡ part → body_ref.now ≡ body → IsEntryOf (record { head = head; name = name_ref; rtype = rtype; body = body_ref }) fact_read
+      pub entry_read : (name_ref body_ref : Bor (List ℕ)) → name_ref.now ≡ part
+          → body_ref.now ≡ body → IsEntryOf (record {
+            head = head;
+            name = name_ref;
+            rtype = rtype;
+            body = body_ref;
+          }) fact_read
       unfolding fact_read
       entry_read name_ref body_ref n e = record {
         lawful = fact_lawful;

@@ -1,7 +1,7 @@
 -- No fault of octets is want of memory.
 use Rattle.std.proofs.Common.{◌≡◌, ℕ, List, sym, ◌∙◌, inl, inr}
-use Rattle.fleet_observe.specs.declared.kind.Kind.{Kind}
-use Rattle.fleet_observe.specs.declared.kind.Kind.TheVariants.{NameError, NoData, Positive}
+use Rattle.fleet_observe.specs.declared.observation.kind.Kind.{Kind}
+use Rattle.fleet_observe.specs.declared.observation.kind.Kind.TheVariants.{NameError, NoData, Positive}
 use Rattle.fleet_gossip.specs.Faults.{FieldFails, cut, refused, behind, OctetsFail, cut_octets, refused_octets, NameFails, label_fails, SizedFails, RdatasFail, rdata_fails, NegativeFails, owner_fails, stranger, soa_fails, BodyFails, NamedFails, name_fails, behind_name, EntryFails, EntriesFail, entry_fails, more_octets, FrameFails}
 use Rattle.fleet_gossip.specs.declared.fault.FrameFault.{FrameFault}
 use Rattle.fleet_gossip.specs.declared.fault.FrameFault.TheVariants.{TooLong, Truncated, BadName, BadBody, Trailing, OutOfMemory}
@@ -22,39 +22,57 @@ name_other e = cc
 body_other : IsOther BadBody
 body_other e = cc
 
-field_other : (spelled : ℕ → List ℕ) (size : ℕ) (Lawful : ℕ → Type 0) (refusal : FrameFault) (Behind : ℕ → List ℕ → FrameFault → Type 0) (octets : List ℕ) (f : FrameFault)
-    → IsOther refusal → ((n : ℕ) (rest : List ℕ) → Behind n rest f → IsOther f) → FieldFails spelled size Lawful refusal Behind octets f → IsOther f
-field_other spelled size Lawful refusal Behind octets f other further (cut short e) = is_other f Truncated e cut_other
-field_other spelled size Lawful refusal Behind octets f other further (refused n rest is unlike e) = is_other f refusal e other
-field_other spelled size Lawful refusal Behind octets f other further (behind n rest is lawful h) = further n rest h
+field_other : (spelled : ℕ → List ℕ) (size : ℕ) (Lawful : ℕ → Type 0) (refusal : FrameFault)
+    (Behind : ℕ → List ℕ → FrameFault → Type 0) (octets : List ℕ) (f : FrameFault)
+    → IsOther refusal → ((n : ℕ) (rest : List ℕ) → Behind n rest f → IsOther f)
+    → FieldFails spelled size Lawful refusal Behind octets f → IsOther f
+field_other spelled size Lawful refusal Behind octets f other further (cut short e) =
+    is_other f Truncated e cut_other
+field_other spelled size Lawful refusal Behind octets f other further (refused n rest is unlike e) =
+    is_other f refusal e other
+field_other spelled size Lawful refusal Behind octets f other further (behind n rest is lawful h) =
+    further n rest h
 
-octets_other : (Lawful : List ℕ → Type 0) (refusal : FrameFault) (size : ℕ) (octets : List ℕ) (f : FrameFault) → IsOther refusal → OctetsFail Lawful refusal size octets f → IsOther f
-octets_other Lawful refusal size octets f other (cut_octets short e) = is_other f Truncated e cut_other
-octets_other Lawful refusal size octets f other (refused_octets taken rest is n unlike e) = is_other f refusal e other
+octets_other : (Lawful : List ℕ → Type 0) (refusal : FrameFault) (size : ℕ) (octets : List ℕ)
+    (f : FrameFault) → IsOther refusal → OctetsFail Lawful refusal size octets f → IsOther f
+octets_other Lawful refusal size octets f other (cut_octets short e) =
+    is_other f Truncated e cut_other
+octets_other Lawful refusal size octets f other (refused_octets taken rest is n unlike e) =
+    is_other f refusal e other
 
-name_fault_other : (refusal : FrameFault) → IsOther refusal → (octets : List ℕ) (f : FrameFault) → NameFails refusal octets f → IsOther f
+name_fault_other : (refusal : FrameFault) → IsOther refusal → (octets : List ℕ) (f : FrameFault)
+    → NameFails refusal octets f → IsOther f
 name_fault_other refusal other octets f (label_fails before rest is named h) =
     field_other _ _ _ _ _ rest f other (λ n r k. octets_other _ refusal n r f other k) h
 
-sized_other : (Lawful : List ℕ → Type 0) (octets : List ℕ) (f : FrameFault) → SizedFails Lawful octets f → IsOther f
-sized_other Lawful octets f h = field_other _ _ _ _ _ octets f cut_other (λ n rest k. octets_other Lawful BadBody n rest f body_other k) h
+sized_other : (Lawful : List ℕ → Type 0) (octets : List ℕ) (f : FrameFault)
+    → SizedFails Lawful octets f → IsOther f
+sized_other Lawful octets f h = field_other _ _ _ _ _ octets f cut_other
+    (λ n rest k. octets_other Lawful BadBody n rest f body_other k) h
 
-rdatas_other : (rtype count : ℕ) (octets : List ℕ) (f : FrameFault) → RdatasFail rtype count octets f → IsOther f
+rdatas_other : (rtype count : ℕ) (octets : List ℕ) (f : FrameFault)
+    → RdatasFail rtype count octets f → IsOther f
 rdatas_other rtype count octets f (rdata_fails before rest is first few h) = sized_other _ rest f h
 
-negative_other : (name : List (List ℕ)) (octets : List ℕ) (f : FrameFault) → NegativeFails name octets f → IsOther f
+negative_other : (name : List (List ℕ)) (octets : List ℕ) (f : FrameFault)
+    → NegativeFails name octets f → IsOther f
 negative_other name octets f (owner_fails h) = name_fault_other BadBody body_other octets f h
-negative_other name octets f (stranger owner rest is named unlike e) = is_other f BadBody e body_other
+negative_other name octets f (stranger owner rest is named unlike e) =
+    is_other f BadBody e body_other
 negative_other name octets f (soa_fails owner rest is named under h) = sized_other _ rest f h
 
-body_fault_other : (kind : Kind) (name : List (List ℕ)) (rtype : ℕ) (octets : List ℕ) (f : FrameFault) → BodyFails kind name rtype octets f → IsOther f
-body_fault_other Positive name rtype octets f h = field_other _ _ _ _ _ octets f body_other (λ n rest k. rdatas_other rtype n rest f k) h
+body_fault_other : (kind : Kind) (name : List (List ℕ)) (rtype : ℕ) (octets : List ℕ)
+    (f : FrameFault) → BodyFails kind name rtype octets f → IsOther f
+body_fault_other Positive name rtype octets f h =
+    field_other _ _ _ _ _ octets f body_other (λ n rest k. rdatas_other rtype n rest f k) h
 body_fault_other NoData name rtype octets f h = negative_other name octets f h
 body_fault_other NameError name rtype octets f h = negative_other name octets f h
 
-named_other : (kind : Kind) (octets : List ℕ) (f : FrameFault) → NamedFails kind octets f → IsOther f
+named_other : (kind : Kind) (octets : List ℕ) (f : FrameFault) → NamedFails kind octets f
+    → IsOther f
 named_other kind octets f (name_fails h) = name_fault_other BadName name_other octets f h
-named_other kind octets f (behind_name name rest is named h) = field_other _ _ _ _ _ rest f (λ e. cc) (λ n r k. body_fault_other kind name n r f k) h
+named_other kind octets f (behind_name name rest is named h) =
+    field_other _ _ _ _ _ rest f (λ e. cc) (λ n r k. body_fault_other kind name n r f k) h
 
 entry_other : (octets : List ℕ) (f : FrameFault) → EntryFails octets f → IsOther f
 entry_other octets f h =
@@ -63,9 +81,11 @@ entry_other octets f h =
     (λ rank b. field_other _ _ _ _ _ b f (λ e. cc)
     (λ stamp d. field_other _ _ _ _ _ d f (λ e. cc) (λ life r k. named_other is.0 r f k))) is.2) h
 
-entries_other : (count : ℕ) (octets : List ℕ) (f : FrameFault) → EntriesFail count octets f → IsOther f
-entries_other count octets f (entry_fails facts rest is lawful few h) = entry_other rest f h
-entries_other count octets f (more_octets facts rest is lawful n some e) = is_other f Trailing e (λ e'. cc)
+entries_other : (count : ℕ) (octets : List ℕ) (f : FrameFault) → EntriesFail count octets f
+    → IsOther f
+entries_other count octets f (entry_fails list rest is lawful few h) = entry_other rest f h
+entries_other count octets f (more_octets list rest is lawful n some e) =
+    is_other f Trailing e (λ e'. cc)
 
 pub fault_other : (octets : List ℕ) (f : FrameFault) → FrameFails octets f → IsOther f
 fault_other octets f (inl h) = is_other f TooLong h.1 (λ e. cc)

@@ -14,28 +14,45 @@ use Rattle.fleet_name.proofs.Lemmas.{named_push}
 use Rattle.fleet_gossip.proofs.Names.{wire-append}
 
 -- Behind the length octet of a label.
-module _ (refusal : FrameFault) (before : List (List ℕ)) (octets left : List ℕ) (size count : ℕ) (is : octets ≡ size ∷ left) (same : count ≡ size) (some : count ≡ 0 → ⊥) where
-  pub label_long : (LONGEST_LABEL < count) ⊎ (LONGEST_NAME < length (wire before) + count + 1) → LabelFails refusal before octets refusal
-  label_long over = refused size left is (λ lawful. let room = lawful (omega (arith, some, same)) in omega (arith, over, same, room.short, room.fits)) refl
+module _ (refusal : FrameFault) (before : List (List ℕ)) (octets left : List ℕ) (size count : ℕ)
+    (is : octets ≡ size ∷ left) (same : count ≡ size) (some : count ≡ 0 → ⊥) where
+  pub label_long : (LONGEST_LABEL < count) ⊎ (LONGEST_NAME < length (wire before) + count + 1)
+      → LabelFails refusal before octets refusal
+  label_long over = refused size left is (λ lawful. let room = lawful (omega (arith, some, same))
+      in omega (arith, over, same, room.short, room.fits)) refl
 
-  pub has_room : count ≤ LONGEST_LABEL → length (wire before) + count + 1 ≤ LONGEST_NAME → IsRoom before size
-  has_room short fits = record { some = omega (arith, some, same); short = omega (arith, short, same); fits = omega (arith, fits, same) }
+  pub has_room : count ≤ LONGEST_LABEL → length (wire before) + count + 1 ≤ LONGEST_NAME
+      → IsRoom before size
+  has_room short fits = record {
+    some = omega (arith, some, same);
+    short = omega (arith, short, same);
+    fits = omega (arith, fits, same);
+  }
 
-  pub label_cut : (f : FrameFault) → IsRoom before size → IsCut count left f → LabelFails refusal before octets f
-  label_cut f room h = behind size left is (λ more. room) (cut_octets (subst (λ (n : ℕ). length left < n) same h.0) h.1)
+  pub label_cut : (f : FrameFault) → IsRoom before size → IsCut count left f
+      → LabelFails refusal before octets f
+  label_cut f room h = behind size left is (λ more. room)
+      (cut_octets (subst (λ (n : ℕ). length left < n) same h.0) h.1)
 
   module _ (label rest : List ℕ) (taken : AreTaken left count label rest) where
-    pub label_capital : IsRoom before size → (lower label ≡ label → ⊥) → LabelFails refusal before octets refusal
-    label_capital room unlike = behind size left is (λ more. room) (refused_octets label rest taken.whole (taken.counted ∙ same) unlike refl)
+    pub label_capital : IsRoom before size → (lower label ≡ label → ⊥)
+        → LabelFails refusal before octets refusal
+    label_capital room unlike = behind size left is (λ more. room)
+        (refused_octets label rest taken.whole (taken.counted ∙ same) unlike refl)
 
 -- The labels read so far, and the one that is read next.
-module _ (octets left rest label : List ℕ) (before : List (List ℕ)) (is : octets ≡ flat_map label_octets before ++ left) (named : IsName before) (at : IsLabelAt before left label rest) where
-  pub name_ends : label ≡ [] → (size : ℕ) → size ≡ length (wire before) → IsSizeOf IsWire octets size
+module _ (octets left rest label : List ℕ) (before : List (List ℕ))
+    (is : octets ≡ flat_map label_octets before ++ left) (named : IsName before)
+    (at : IsLabelAt before left label rest) where
+  pub name_ends : label ≡ [] → (size : ℕ) → size ≡ length (wire before)
+      → IsSizeOf IsWire octets size
   name_ends e size n = record {
     part = wire before;
     rest = rest;
     is = record {
-      whole = is ∙ (ap (λ (x : List ℕ). flat_map label_octets before ++ x) (at.whole ∙ ap (λ (l : List ℕ). label_octets l ++ rest) e) ∙ sym (wire-append before rest));
+      whole = is ∙ (ap (λ (x : List ℕ). flat_map label_octets before ++ x)
+          (at.whole ∙ ap (λ (l : List ℕ). label_octets l ++ rest) e)
+          ∙ sym (wire-append before rest));
       lawful = record { name = before; named = named; whole = refl };
     };
     counted = n;
@@ -50,12 +67,17 @@ module _ (octets left rest label : List ℕ) (before : List (List ℕ)) (is : oc
     room = at.room (some_octets label some)
 
     pub name_more : IsName (before ++ label ∷ [])
-    name_more = named_push before label named (record { some = room.some; short = room.short; lowered = at.low }) (omega (arith, room.fits))
+    name_more = named_push before label named
+        (record { some = room.some; short = room.short; lowered = at.low })
+        (omega (arith, room.fits))
 
     pub whole_more : octets ≡ flat_map label_octets (before ++ label ∷ []) ++ rest
     whole_more =
-        let frames : flat_map label_octets (before ++ label ∷ []) ≡ flat_map label_octets before ++ label_octets label = rw (flat_map-append, append-nil) refl in
-        is ∙ (ap (λ (x : List ℕ). flat_map label_octets before ++ x) at.whole ∙ (sym (append_assoc (flat_map label_octets before) (label_octets label) rest) ∙ ap (λ (x : List ℕ). x ++ rest) (sym frames)))
+        let frames : flat_map label_octets (before ++ label ∷ []) ≡ flat_map label_octets before
+        ++ label_octets label = rw (flat_map-append, append-nil) refl in
+        is ∙ (ap (λ (x : List ℕ). flat_map label_octets before ++ x) at.whole
+        ∙ (sym (append_assoc (flat_map label_octets before) (label_octets label) rest)
+        ∙ ap (λ (x : List ℕ). x ++ rest) (sym frames)))
 
 zero_from : (n : ℕ) → true ≡ nat_eq n 0 → n ≡ 0
 zero_from n e = grind (arith, nat_tests, e)

@@ -9,7 +9,8 @@ octet_exact a b r s e = (cc, cc)
 
 pub u64_exact : (a b : ℕ) (r s : List ℕ) → u64_octets a ++ r ≡ u64_octets b ++ s → (a ≡ b) × (r ≡ s)
 u64_exact a b r s e =
-    let one = u32_exact (a / 4294967296) (b / 4294967296) (u32_octets (a % 4294967296) ++ r) (u32_octets (b % 4294967296) ++ s) e in
+    let one = u32_exact (a / 4294967296) (b / 4294967296) (u32_octets (a % 4294967296) ++ r)
+    (u32_octets (b % 4294967296) ++ s) e in
     let two = u32_exact (a % 4294967296) (b % 4294967296) r s one.1 in
     let hi : a / 4294967296 ≡ b / 4294967296 = one.0 in
     let lo : a % 4294967296 ≡ b % 4294967296 = two.0 in

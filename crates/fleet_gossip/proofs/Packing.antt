@@ -7,29 +7,50 @@ use Rattle.fleet_gossip.specs.Entry.{entry_octets}
 use Rattle.fleet_gossip.specs.Frame.{entries, frame_octets, SpellsFrame}
 use Rattle.fleet_gossip.specs.Packed.{IsFull, IsPacked, none, more}
 
-pub frame_length : (facts : List ObservationData) → length (frame_octets facts) ≡ 5 + length (entries facts)
-frame_length facts = omega arith
+pub frame_length : (list : List ObservationData) → length (frame_octets list) ≡ 5
+    + length (entries list)
+frame_length list = omega arith
 
-pub entries_push : (facts : List ObservationData) (o : ObservationData) → entries (facts ++ o ∷ []) ≡ entries facts ++ entry_octets o
-entries_push facts o = rw (flat_map-append, append-nil) refl
+pub entries_push : (list : List ObservationData) (o : ObservationData) → entries (list ++ o ∷ [])
+    ≡ entries list ++ entry_octets o
+entries_push list o = rw (flat_map-append, append-nil) refl
 
-pub frame_push : (facts : List ObservationData) (o : ObservationData) → length (frame_octets (facts ++ o ∷ [])) ≡ length (frame_octets facts) + length (entry_octets o)
-frame_push facts o = omega (arith, ap length (entries_push facts o), length-append (entries facts) (entry_octets o))
+pub frame_push : (list : List ObservationData) (o : ObservationData)
+    → length (frame_octets (list ++ o ∷ [])) ≡ length (frame_octets list)
+    + length (entry_octets o)
+frame_push list o = omega (
+  arith,
+  ap length (entries_push list o),
+  length-append (entries list) (entry_octets o),
+)
 
-frame_grows : (facts : List ObservationData) (o : ObservationData) (others : List ObservationData) → length (frame_octets (facts ++ o ∷ [])) ≤ length (frame_octets (facts ++ o ∷ others))
-frame_grows facts o others =
-    omega (arith, frame_push facts o, ap length (flat_map-append entry_octets facts (o ∷ others)), length-append (entries facts) (entries (o ∷ others)), length-append (entry_octets o) (entries others))
+frame_grows : (list : List ObservationData) (o : ObservationData) (others : List ObservationData)
+    → length (frame_octets (list ++ o ∷ [])) ≤ length (frame_octets (list ++ o ∷ others))
+frame_grows list o others =
+    omega (
+      arith,
+      frame_push list o,
+      ap length (flat_map-append entry_octets list (o ∷ others)),
+      length-append (entries list) (entries (o ∷ others)),
+      length-append (entry_octets o) (entries others),
+    )
 
 -- two ways to split a list
 data Splits (a b c d : List ObservationData) : Type 0 where
   same : a ≡ c → b ≡ d → Splits a b c d
-  later : (x : ObservationData) (m : List ObservationData) → c ≡ a ++ x ∷ m → b ≡ x ∷ (m ++ d) → Splits a b c d
-  sooner : (x : ObservationData) (m : List ObservationData) → a ≡ c ++ x ∷ m → d ≡ x ∷ (m ++ b) → Splits a b c d
+  later : (x : ObservationData) (m : List ObservationData) → c ≡ a ++ x ∷ m → b ≡ x ∷ (m ++ d)
+      → Splits a b c d
+  sooner : (x : ObservationData) (m : List ObservationData) → a ≡ c ++ x ∷ m → d ≡ x ∷ (m ++ b)
+      → Splits a b c d
 
-one_more : (x y : ObservationData) (a b c d : List ObservationData) → x ≡ y → Splits a b c d → Splits (x ∷ a) b (y ∷ c) d
-one_more x y a b c d e (same p q) = same (ap (λ (z : ObservationData). z ∷ a) e ∙ ap (λ (zs : List ObservationData). y ∷ zs) p) q
-one_more x y a b c d e (later z m p q) = later z m (ap (λ (zs : List ObservationData). y ∷ zs) p ∙ ap (λ (w : ObservationData). w ∷ (a ++ z ∷ m)) (sym e)) q
-one_more x y a b c d e (sooner z m p q) = sooner z m (ap (λ (zs : List ObservationData). x ∷ zs) p ∙ ap (λ (w : ObservationData). w ∷ (c ++ z ∷ m)) e) q
+one_more : (x y : ObservationData) (a b c d : List ObservationData) → x ≡ y → Splits a b c d
+    → Splits (x ∷ a) b (y ∷ c) d
+one_more x y a b c d e (same p q) = same (ap (λ (z : ObservationData). z ∷ a) e
+    ∙ ap (λ (zs : List ObservationData). y ∷ zs) p) q
+one_more x y a b c d e (later z m p q) = later z m (ap (λ (zs : List ObservationData). y ∷ zs) p
+    ∙ ap (λ (w : ObservationData). w ∷ (a ++ z ∷ m)) (sym e)) q
+one_more x y a b c d e (sooner z m p q) = sooner z m (ap (λ (zs : List ObservationData). x ∷ zs) p
+    ∙ ap (λ (w : ObservationData). w ∷ (c ++ z ∷ m)) e) q
 
 splits : (a b c d : List ObservationData) → a ++ b ≡ c ++ d → Splits a b c d
 splits [] b [] d e = same refl e
@@ -40,24 +61,48 @@ splits (x ∷ a) b (y ∷ c) d e =
     one_more x y a b c d h (splits a b c d t)
 
 -- where a part ends that is full, no longer one fits a frame
-no_longer_part : (part rest longer : List ObservationData) (x : ObservationData) (m other : List ObservationData) (octets : List ℕ) → IsFull part rest → rest ≡ x ∷ other → longer ≡ part ++ x ∷ m → SpellsFrame octets longer → ⊥
+no_longer_part : (part rest longer : List ObservationData) (x : ObservationData)
+    (m other : List ObservationData) (octets : List ℕ) → IsFull part rest → rest ≡ x ∷ other
+    → longer ≡ part ++ x ∷ m → SpellsFrame octets longer → ⊥
 no_longer_part part rest longer x m other octets full e is spells =
     let over = subst (λ (z : List ObservationData). IsFull part z) e full in
-    omega (arith, over, frame_grows part x m, spells.fits, ap length spells.spelled, ap (λ (z : List ObservationData). length (frame_octets z)) is)
+    omega (
+      arith,
+      over,
+      frame_grows part x m,
+      spells.fits,
+      ap length spells.spelled,
+      ap (λ (z : List ObservationData). length (frame_octets z)) is,
+    )
 
-no_part : (facts part rest : List ObservationData) → facts ≡ [] → facts ≡ part ++ rest → 0 < length part → ⊥
-no_part facts part rest e e' some = omega (arith, ap length e, ap length e', length-append part rest, some)
+no_part : (list part rest : List ObservationData) → list ≡ [] → list ≡ part ++ rest
+    → 0 < length part → ⊥
+no_part list part rest e e' some = omega (
+  arith,
+  ap length e,
+  ap length e',
+  length-append part rest,
+  some,
+)
 
-pub one_packing : (facts : List ObservationData) (a b : List (List ℕ)) → IsPacked facts a → IsPacked facts b → a ≡ b
-one_packing facts a b (none e is) (none e' is') = is ∙ sym is'
-one_packing facts a b (none e is) (more part rest first others e' some spells full packed is') = absurd (no_part facts part rest e e' some)
-one_packing facts a b (more part rest first others e some spells full packed is) (none e' is') = absurd (no_part facts part rest e' e some)
-one_packing facts a b (more part rest first others e some spells full packed is) (more part' rest' first' others' e' some' spells' full' packed' is') =
+pub one_packing : (list : List ObservationData) (a b : List (List ℕ)) → IsPacked list a
+    → IsPacked list b → a ≡ b
+one_packing list a b (none e is) (none e' is') = is ∙ sym is'
+one_packing list a b (none e is) (more part rest first others e' some spells full packed is') =
+    absurd (no_part list part rest e e' some)
+one_packing list a b (more part rest first others e some spells full packed is) (none e' is') =
+    absurd (no_part list part rest e' e some)
+one_packing list a b (more part rest first others e some spells full packed is)
+    (more part' rest' first' others' e' some' spells' full' packed' is') =
     elim (splits part rest part' rest' (sym e ∙ e')) [
       | same p q ↦
           let one : first ≡ first' = spells.spelled ∙ (ap frame_octets p ∙ sym spells'.spelled) in
-          let two : others ≡ others' = one_packing rest others others' packed (subst (λ (z : List ObservationData). IsPacked z others') (sym q) packed') in
-          is ∙ (ap (λ (z : List ℕ). z ∷ others) one ∙ (ap (λ (z : List (List ℕ)). first' ∷ z) two ∙ sym is'))
-      | later x m p q ↦ absurd (no_longer_part part rest part' x m (m ++ rest') first' full q p spells')
-      | sooner x m p q ↦ absurd (no_longer_part part' rest' part x m (m ++ rest) first full' q p spells)
+          let two : others ≡ others' = one_packing rest others others' packed
+          (subst (λ (z : List ObservationData). IsPacked z others') (sym q) packed') in
+          is ∙ (ap (λ (z : List ℕ). z ∷ others) one
+          ∙ (ap (λ (z : List (List ℕ)). first' ∷ z) two ∙ sym is'))
+      | later x m p q ↦ absurd (no_longer_part part rest part' x m (m ++ rest') first' full q p
+          spells')
+      | sooner x m p q ↦ absurd (no_longer_part part' rest' part x m (m ++ rest) first full' q p
+          spells)
     ]

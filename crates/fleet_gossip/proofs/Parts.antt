@@ -4,13 +4,26 @@ use Rattle.fleet_gossip.specs.Steps.{IsCut, AreTaken, IsPart, IsSizeOf}
 use Rattle.fleet_gossip.specs.declared.fault.FrameFault.{FrameFault}
 use Rattle.fleet_name.proofs.Lemmas.{split_same}
 
-module _ (Lawful : List ℕ → Type 0) (octets : List ℕ) (size : ℕ) (found : IsSizeOf Lawful octets size) where
+module _ (Lawful : List ℕ → Type 0) (octets : List ℕ) (size : ℕ)
+    (found : IsSizeOf Lawful octets size) where
   -- so many octets taken are the part
-  pub part_taken : (taken rest : List ℕ) → AreTaken octets size taken rest → IsPart Lawful octets taken rest
+  pub part_taken : (taken rest : List ℕ) → AreTaken octets size taken rest
+      → IsPart Lawful octets taken rest
   part_taken taken rest are =
-      let same = split_same taken found.part rest found.rest (are.counted ∙ found.counted) (sym are.whole ∙ found.is.whole) in
-      record { whole = are.whole; lawful = subst (λ (x : List ℕ). Lawful x) (sym same.0) found.is.lawful }
+      let same = split_same taken found.part rest found.rest (are.counted ∙ found.counted)
+      (sym are.whole ∙ found.is.whole) in
+      record {
+        whole = are.whole;
+        lawful = subst (λ (x : List ℕ). Lawful x) (sym same.0)
+            found.is.lawful;
+      }
 
   -- and none of them is missing
   pub part_uncut : (f : FrameFault) → IsCut size octets f → ⊥
-  part_uncut f cut = omega (arith, cut.0, found.counted, ap length found.is.whole, length-append found.part found.rest)
+  part_uncut f cut = omega (
+    arith,
+    cut.0,
+    found.counted,
+    ap length found.is.whole,
+    length-append found.part found.rest,
+  )

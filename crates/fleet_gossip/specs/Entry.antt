@@ -8,8 +8,8 @@ use Rattle.fleet_observe.specs.Members.{Has, IsAscending}
 use Rattle.fleet_observe.specs.Body.{positive_body, IsPositiveBody, IsNegativeBody}
 use Rattle.fleet_observe.specs.Observation.{ObservationData, kind_number}
 use Rattle.fleet_observe.specs.declared.bounds.TheConstants.{LATEST, LONGEST_BODY}
-use Rattle.fleet_observe.specs.declared.kind.Kind.{Kind}
-use Rattle.fleet_observe.specs.declared.kind.Kind.TheVariants.{NameError, NoData, Positive}
+use Rattle.fleet_observe.specs.declared.observation.kind.Kind.{Kind}
+use Rattle.fleet_observe.specs.declared.observation.kind.Kind.TheVariants.{NameError, NoData, Positive}
 
 -- numbers of one and of eight octets
 abbrev pub octet : ℕ → List ℕ

@@ -10,10 +10,11 @@ use Rattle.fleet_wire.specs.declared.rtype.TheConstants.{SOA}
 use Rattle.fleet_observe.specs.Body.{octets_with_length}
 use Rattle.fleet_observe.specs.Checks.{IsRankOf, IsLifeOf, IsTypeOf, IsCountOf}
 use Rattle.fleet_observe.specs.Observation.{ObservationData, AreObservations}
-use Rattle.fleet_observe.specs.declared.kind.Kind.{Kind}
-use Rattle.fleet_observe.specs.declared.kind.Kind.TheVariants.{NameError, NoData, Positive}
+use Rattle.fleet_observe.specs.declared.observation.kind.Kind.{Kind}
+use Rattle.fleet_observe.specs.declared.observation.kind.Kind.TheVariants.{NameError, NoData, Positive}
 use Rattle.fleet_gossip.specs.Entry.{octet, u64_octets, IsKind, IsKindNumber, IsMoment, AreFirstRdatas}
-use Rattle.fleet_gossip.specs.Frame.{magic, version, entries, frame_octets}
+use Rattle.fleet_gossip.specs.Frame.{entries, frame_octets}
+use Rattle.fleet_gossip.specs.declared.frame.TheConstants.{MAGIC, VERSION}
 use Rattle.fleet_gossip.specs.declared.fault.FrameFault.{FrameFault}
 use Rattle.fleet_gossip.specs.declared.fault.FrameFault.TheVariants.{BadMagic, BadVersion, TooLong, Truncated, BadKind, BadRank, BadMoment, BadLife, BadName, BadBody, Trailing}
 use Rattle.fleet_gossip.specs.declared.bounds.TheConstants.{LONGEST_FRAME}
@@ -44,8 +45,8 @@ pub data OctetsFail (Lawful : List ℕ → Type 0) (refusal : FrameFault) (size 
       → f ≡ refusal
       → OctetsFail Lawful refusal size octets f
 
--- a label of so many octets may stand behind these labels: it is no longer than the longest one,
--- and the name with its zero octet no longer than the longest name
+-- a label of so many octets may stand behind these labels: it has 1 to LONGEST_LABEL octets, and
+-- the name with its zero octet at most LONGEST_NAME
 pub record IsRoom (before : List (List ℕ)) (size : ℕ) : Type 0 where
   pub some : 0 < size
   pub short : size ≤ LONGEST_LABEL
@@ -134,13 +135,13 @@ EntryFails = FieldFails octet 1 IsKindNumber BadKind KindFails
 -- the first fault of so many entries: behind fewer of them the next fails, or octets stand behind
 -- them all
 pub data EntriesFail (count : ℕ) (octets : List ℕ) (f : FrameFault) : Type 0 where
-  entry_fails : (facts : List ObservationData) (rest : List ℕ) → octets ≡ entries facts ++ rest
-      → AreObservations facts
-      → length facts < count → EntryFails rest f
+  entry_fails : (list : List ObservationData) (rest : List ℕ) → octets ≡ entries list ++ rest
+      → AreObservations list
+      → length list < count → EntryFails rest f
       → EntriesFail count octets f
-  more_octets : (facts : List ObservationData) (rest : List ℕ) → octets ≡ entries facts ++ rest
-      → AreObservations facts
-      → length facts ≡ count → 0 < length rest → f ≡ Trailing
+  more_octets : (list : List ObservationData) (rest : List ℕ) → octets ≡ entries list ++ rest
+      → AreObservations list
+      → length list ≡ count → 0 < length rest → f ≡ Trailing
       → EntriesFail count octets f
 
 -- the first fault of a frame from its count on, from its version and from its magic on
@@ -148,10 +149,10 @@ abbrev pub CountFails : List ℕ → FrameFault → Type 0
 CountFails = FieldFails u16_octets 2 AnyNumber Truncated EntriesFail
 
 abbrev pub VersionFails : List ℕ → FrameFault → Type 0
-VersionFails = FieldFails octet 1 (λ n. n ≡ version) BadVersion (λ n. CountFails)
+VersionFails = FieldFails octet 1 (λ n. n ≡ VERSION) BadVersion (λ n. CountFails)
 
 abbrev pub MagicFails : List ℕ → FrameFault → Type 0
-MagicFails = FieldFails u16_octets 2 (λ n. n ≡ magic) BadMagic (λ n. VersionFails)
+MagicFails = FieldFails u16_octets 2 (λ n. n ≡ MAGIC) BadMagic (λ n. VersionFails)
 
 -- the first fault of a frame
 abbrev pub FrameFails : List ℕ → FrameFault → Type 0
@@ -161,4 +162,4 @@ FrameFails octets f =
 
 -- these observations would make too long a frame
 abbrev pub IsTooLong : List ObservationData → FrameFault → Type 0
-IsTooLong facts f = (f ≡ TooLong) × (LONGEST_FRAME < length (frame_octets facts))
+IsTooLong list f = (f ≡ TooLong) × (LONGEST_FRAME < length (frame_octets list))

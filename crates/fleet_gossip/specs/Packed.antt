@@ -12,11 +12,11 @@ IsFull part (next ∷ rest) = LONGEST_FRAME < length (frame_octets (part ++ next
 -- The frames of a list: none of an empty one; else the first frame spells the first ones, as many
 -- as fit, and the others are the frames of the rest.
 pub data IsPacked : List ObservationData → List (List ℕ) → Type 0 where
-  none : {facts : List ObservationData} {frames : List (List ℕ)} → facts ≡ [] → frames ≡ []
-      → IsPacked facts frames
-  more : {facts : List ObservationData} {frames : List (List ℕ)} (part rest : List ObservationData)
+  none : {list : List ObservationData} {frames : List (List ℕ)} → list ≡ [] → frames ≡ []
+      → IsPacked list frames
+  more : {list : List ObservationData} {frames : List (List ℕ)} (part rest : List ObservationData)
       (first : List ℕ)
       (others : List (List ℕ))
-      → facts ≡ part ++ rest → 0 < length part → SpellsFrame first part → IsFull part rest
+      → list ≡ part ++ rest → 0 < length part → SpellsFrame first part → IsFull part rest
       → IsPacked rest others → frames ≡ first ∷ others
-      → IsPacked facts frames
+      → IsPacked list frames

@@ -10,7 +10,8 @@ use Rattle.fleet_observe.specs.Body.{octets_with_length, positive_body, negative
 use Rattle.fleet_observe.specs.Checks.{IsRankOf, IsLifeOf}
 use Rattle.fleet_observe.specs.Observation.{ObservationData, AreObservations, kind_number}
 use Rattle.fleet_gossip.specs.Entry.{octet, u64_octets, IsMoment, AreFirstRdatas}
-use Rattle.fleet_gossip.specs.Frame.{magic, version, entries, frame_octets}
+use Rattle.fleet_gossip.specs.Frame.{entries, frame_octets}
+use Rattle.fleet_gossip.specs.declared.frame.TheConstants.{MAGIC, VERSION}
 use Rattle.fleet_gossip.specs.Faults.{FieldFails, IsRoom}
 use Rattle.fleet_gossip.specs.declared.fault.FrameFault.{FrameFault}
 use Rattle.fleet_gossip.specs.declared.fault.FrameFault.TheVariants.{Truncated}
@@ -110,22 +111,22 @@ pub record IsSoaBody (body : List ℕ) : Type 0 where
   pub named : IsName owner
   pub octets : body ≡ negative_body owner rdata
 
--- magic, version and a count of entries stand at the front, and the rest behind them
+-- the magic, the version and a count of entries stand at the front, the rest behind them
 abbrev pub IsOpened : List ℕ → ℕ → List ℕ → Type 0
 IsOpened octets count rest =
-    octets ≡ u16_octets magic ++ (octet version ++ (u16_octets count ++ rest))
+    octets ≡ u16_octets MAGIC ++ (octet VERSION ++ (u16_octets count ++ rest))
 
 -- so many entries stand at the front, and the rest behind them
-pub record AreEntries (octets : List ℕ) (count : ℕ) (facts : List ObservationData) (rest : List ℕ)
+pub record AreEntries (octets : List ℕ) (count : ℕ) (list : List ObservationData) (rest : List ℕ)
     : Type 0 where
-  pub whole : octets ≡ entries facts ++ rest
-  pub lawful : AreObservations facts
-  pub counted : length facts ≡ count
+  pub whole : octets ≡ entries list ++ rest
+  pub lawful : AreObservations list
+  pub counted : length list ≡ count
 
 -- octets that are just so many lawful entries
 pub record StandEntries (octets : List ℕ) (count : ℕ) : Type 0 where
-  pub facts : List ObservationData
-  pub are : AreEntries octets count facts []
+  pub list : List ObservationData
+  pub are : AreEntries octets count list []
 
 -- a frame has so many entries, and these octets are all of them
 pub record AreEntriesOf (frame : List ℕ) (count : ℕ) (octets : List ℕ) : Type 0 where
@@ -134,7 +135,7 @@ pub record AreEntriesOf (frame : List ℕ) (count : ℕ) (octets : List ℕ) : T
   pub stand : StandEntries octets count
 
 -- the frame of these observations has so many octets, which fit
-pub record FitsFrame (facts : List ObservationData) (size : ℕ) : Type 0 where
-  pub lawful : AreObservations facts
-  pub counted : size ≡ length (frame_octets facts)
+pub record FitsFrame (list : List ObservationData) (size : ℕ) : Type 0 where
+  pub lawful : AreObservations list
+  pub counted : size ≡ length (frame_octets list)
   pub fits : size ≤ LONGEST_FRAME

@@ -4,7 +4,7 @@ ghost use Rattle.std.specs.Prelude.{◌≡◌, ℕ, ◌++◌, List, IfOk, MatchR
 ghost use Rattle.fleet_name.specs.Name.{wire, IsName, IsWire};
 ghost use Rattle.fleet_observe.specs.Body.{positive_body, negative_body};
 ghost use Rattle.fleet_observe.specs.Observation.{ObservationData};
-ghost use Rattle.fleet_observe.specs.declared.kind.Kind.TheVariants.{Positive};
+ghost use Rattle.fleet_observe.specs.declared.observation.kind.Kind.TheVariants.{Positive};
 ghost use Rattle.fleet_observe.specs.Checks.{denied_kind, denied_type};
 ghost use Rattle.fleet_gossip.specs.Entry.{entry_octets};
 ghost use Rattle.fleet_gossip.specs.Faults.{EntryFails};

@@ -18,7 +18,7 @@ use fleet_observe::Observation;
 use std::alloc::{AllocError, Allocator};
 
 /// The octets 44 47, which a frame begins with.
-pub(crate) const MAGIC: u16 = 17479;
+pub(crate) const MAGIC: u16 = 0x4447;
 
 /// The version of the frames that are read and written.
 pub(crate) const VERSION: u8 = 1;
@@ -157,7 +157,7 @@ pub fn decode<A: Allocator + Copy>(
     ensures found { IfOk result (λ v. SpellsFrame octets.now v.items) }
     ensures fault { IfErr result (λ f. OrMemory OutOfMemory f (FrameFails octets.now f)) }
     // Where a list is spelled, only want of memory keeps it from being read.
-    ensures only { (facts : List ObservationData) → SpellsFrame octets.now facts
+    ensures only { (list : List ObservationData) → SpellsFrame octets.now list
         → IfErr result (λ f. f ≡ OutOfMemory) }
     // Want of memory is told only where a list is spelled that has something in it.
     ensures memory { IfErr result (λ f. f ≡ OutOfMemory → HasEntries octets.now) }

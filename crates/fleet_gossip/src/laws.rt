@@ -17,15 +17,15 @@ pub fn one_list()
 
 /// A list has one frame at most.
 pub fn one_spelling()
-    ensures { (facts : List ObservationData) (a b : List ℕ) → SpellsFrame a facts
-        → SpellsFrame b facts
+    ensures { (list : List ObservationData) (a b : List ℕ) → SpellsFrame a list
+        → SpellsFrame b list
         → a ≡ b }
 {}
 
 /// A frame that spells a list has no fault.
 pub fn list_or_fault()
-    ensures { (octets : List ℕ) (facts : List ObservationData) (f : FrameFault)
-        → SpellsFrame octets facts
+    ensures { (octets : List ℕ) (list : List ObservationData) (f : FrameFault)
+        → SpellsFrame octets list
         → FrameFails octets f → ⊥ }
 {}
 
@@ -43,7 +43,7 @@ pub fn entry_fits()
 
 /// A list has one packing at most: its frames are determined.
 pub fn one_packing()
-    ensures { (facts : List ObservationData) (a b : List (List ℕ)) → IsPacked facts a
-        → IsPacked facts b
+    ensures { (list : List ObservationData) (a b : List (List ℕ)) → IsPacked list a
+        → IsPacked list b
         → a ≡ b }
 {}

@@ -4,7 +4,7 @@ ghost use Rattle.std.specs.Prelude.{◌≡◌, ◌≢◌, ◌+◌, ◌<◌, ◌�
 ghost use Rattle.fleet_wire.specs.Number.{u16_octets};
 ghost use Rattle.fleet_observe.specs.Observation.{ObservationData};
 ghost use Rattle.fleet_gossip.specs.Entry.{octet};
-ghost use Rattle.fleet_gossip.specs.Frame.{magic, version};
+ghost use Rattle.fleet_gossip.specs.declared.frame.TheConstants.{MAGIC, VERSION};
 ghost use Rattle.fleet_gossip.specs.Packed.{IsPacked};
 ghost use Rattle.fleet_gossip.specs.Packs.{Packs, IsPacking};
 ghost use Rattle.fleet_gossip.specs.declared.bounds.TheConstants.{LONGEST_FRAME};
@@ -47,8 +47,8 @@ impl<A: Allocator + Copy> Packer<A> {
         requires { length self.old.entries.items ≤ LONGEST_FRAME }
         ensures frames { OnOk result (self.new.frames.items
             ≡ self.old.frames.items
-            ++ (u16_octets magic
-            ++ (octet version ++ (u16_octets self.old.count ++ self.old.entries.items))) ∷ []) }
+            ++ (u16_octets MAGIC
+            ++ (octet VERSION ++ (u16_octets self.old.count ++ self.old.entries.items))) ∷ []) }
         ensures entries { OnOk result (self.new.entries.items ≡ []) }
         ensures count { OnOk result (self.new.count ≡ 0) }
     {

@@ -23,6 +23,7 @@ impl<'a> Model for Reader<'a> {
 }
 
 impl<'a> Reader<'a> {
+    /// A reader of all of the octets.
     pub fn new(octets: &'a [u8]) -> Reader<'a>
         ensures { result ≡ octets.now }
     {

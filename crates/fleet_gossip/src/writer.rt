@@ -4,7 +4,7 @@ ghost use Rattle.std.specs.Prelude.{◌≡◌, ◌≤◌, ◌++◌, length, OnOk
 ghost use Rattle.fleet_wire.specs.Number.{u16_octets, u32_octets};
 ghost use Rattle.fleet_observe.specs.Observation.{IsObservation, kind_number};
 ghost use Rattle.fleet_gossip.specs.Entry.{octet, u64_octets, entry_octets};
-ghost use Rattle.fleet_gossip.specs.Frame.{magic, version};
+ghost use Rattle.fleet_gossip.specs.declared.frame.TheConstants.{MAGIC, VERSION};
 ghost use Rattle.fleet_gossip.specs.declared.bounds.TheConstants.{LONGEST_ENTRY};
 
 use crate::frame::{MAGIC, VERSION};
@@ -32,7 +32,7 @@ fn push_u64<A: Allocator>(out: &mut Vec<u8, A>, number: u64) -> Result<(), Alloc
 /// Magic, version and how many entries there are.
 pub(crate) fn push_opening<A: Allocator>(out: &mut Vec<u8, A>, count: u16) -> Result<(), AllocError>
     ensures { OnOk result (out.new.items
-        ≡ out.old.items ++ (u16_octets magic ++ (octet version ++ u16_octets count))) }
+        ≡ out.old.items ++ (u16_octets MAGIC ++ (octet VERSION ++ u16_octets count))) }
 {
     push_u16(out, MAGIC)?;
     out.push(VERSION)?;

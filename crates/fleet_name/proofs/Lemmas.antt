@@ -160,7 +160,7 @@ labels_after-frame : (c : ℕ) (label rest octets : List ℕ) → octets ≡ lab
 labels_after-frame c label rest octets e =
     rw (e, labels_after-append label rest, labels_after-append-rest label rest) refl
 
--- a label in upper or lower case: not empty, and no longer than the longest one
+-- a label in upper or lower case: of 1 to LONGEST_LABEL octets
 abbrev pub IsAnyCase : List ℕ → Type 0
 IsAnyCase label = (0 < length label) × (length label ≤ LONGEST_LABEL)
 

@@ -1,7 +1,7 @@
 -- What the functions make of the octets of a name.
 use Rattle.std.proofs.Common.{◌≡◌, ℕ, suc, ◌+◌, ◌-◌, ◌<◌, ◌≤◌, List, [], ◌∷◌, ◌++◌, length, take, drop, get_or, set, refl, sym, ap, ◌∙◌, append_assoc, arith, length-append, drop-cons, add-one}
-use Rattle.std.proofs.lemmas.List.{length-map, map-append, append-nil, take-append-drop, take_more, length-take-le}
-use Rattle.std.proofs.Math.Seq.{drop-append_seam, take-append_seam, get_or-append_seam, set-append_seam, drop-length, take-length}
+use Rattle.std.proofs.lemmas.List.{length-map, map-append, append-nil, take-append-drop, take_more, length-take-le, set_at}
+use Rattle.std.proofs.Math.Seq.{drop-append_seam, take-append_seam, get_or-append_seam, drop-length, take-length}
 use Rattle.std.specs.Char.{to_ascii_lowercase}
 use Rattle.std.specs.List.{flat_map}
 use Rattle.fleet_name.specs.declared.bounds.TheConstants.{LONGEST_LABEL, LONGEST_NAME}
@@ -86,10 +86,6 @@ seam_read : (front : List ℕ) (x : ℕ) (rest : List ℕ) (i : ℕ) → length 
     → get_or (front ++ x ∷ rest) i 0 ≡ x
 seam_read front x rest i n = rw (← n) (get_or-append_seam front x rest 0)
 
-seam_write : (front : List ℕ) (x y : ℕ) (rest : List ℕ) (i : ℕ) → length front ≡ i
-    → set (front ++ x ∷ rest) i y ≡ front ++ y ∷ rest
-seam_write front x y rest i n = rw (← n) (set-append_seam front x rest y)
-
 -- one more octet of a list is put in lower case
 pub lower_more : (xs : List ℕ) (i : ℕ) (now : List ℕ) → i < length xs
     → now ≡ lower (take i xs) ++ drop i xs
@@ -104,7 +100,7 @@ lower_more xs i now within is =
     ap (λ (ys : List ℕ). get_or ys i 0) now_is ∙ seam_read front x rest i n in
     let wrote : set now i (to_ascii_lowercase x) ≡ front ++ to_ascii_lowercase x ∷ rest =
     ap (λ (ys : List ℕ). set ys i (to_ascii_lowercase x)) now_is
-    ∙ seam_write front x (to_ascii_lowercase x) rest i n in
+    ∙ set_at front x rest (to_ascii_lowercase x) i n in
     let told : lower (take (i + 1) xs) ≡ front ++ to_ascii_lowercase x ∷ [] =
     ap lower (take_more xs i 0 within) ∙ map-append to_ascii_lowercase (take i xs) (x ∷ []) in
     rw read (wrote ∙ rw (told, append_assoc, add-one i) refl)

@@ -1,24 +1,28 @@
 -- Nothing is wrong with a reply that means something.
-use Rattle.std.proofs.Common.{◌≡◌, List, refl}
+use Rattle.std.proofs.Common.{◌≡◌, List, refl, inl, inr}
 use Rattle.fleet_wire.specs.Message.{MessageData}
-use Rattle.fleet_observe.specs.declared.told.DigestFault.{DigestFault}
-use Rattle.fleet_observe.specs.declared.told.DigestFault.TheVariants.{NotReply, BadChain, OutOfMemory}
+use Rattle.fleet_observe.specs.declared.reply.ending.DigestFault.{DigestFault}
+use Rattle.fleet_observe.specs.declared.reply.ending.DigestFault.TheVariants.{NotReply, BadChain, OutOfMemory}
 use Rattle.fleet_observe.specs.RrSet.{RrSetData}
 use Rattle.fleet_observe.specs.Digest.{EndData, WithRecords, WithoutData, WithoutName, WithCode, CutOff, DigestData}
 use Rattle.fleet_observe.specs.Meaning.{AsksWalk, IsWalkable, IsFault, IsMeaning, IsSound, Tells}
 use Rattle.fleet_observe.proofs.LawfulMeanings.{no_walk_cut, no_walk_coded}
 
-walk_told : (r : MessageData) (chain : List RrSetData) (e : EndData) → Tells r chain e → AsksWalk r → IsWalkable r
-walk_told r chain CutOff tells asks = absurd (no_walk_cut r tells.0 asks)
-walk_told r chain (WithCode c) tells asks = absurd (no_walk_coded r tells.1 tells.2 asks)
-walk_told r chain (WithRecords x) tells asks = (tells.later, tells.walk)
-walk_told r chain (WithoutData soa) tells asks = (tells.later, tells.walk)
-walk_told r chain (WithoutName soa) tells asks = (tells.later, tells.walk)
+tells_walkable : (r : MessageData) (chain : List RrSetData) (e : EndData) → Tells r chain e
+    → AsksWalk r → IsWalkable r
+tells_walkable r chain CutOff tells asks = absurd (no_walk_cut r tells.0 asks)
+tells_walkable r chain (WithCode c) tells asks =
+    absurd (no_walk_coded r (λ h. elim h [ inl e ↦ tells.1 e | inr e ↦ tells.2 e ]) asks)
+tells_walkable r chain (WithRecords x) tells asks = (tells.later, tells.walk)
+tells_walkable r chain (WithoutData soa) tells asks = (tells.later, tells.walk)
+tells_walkable r chain (WithoutName soa) tells asks = (tells.later, tells.walk)
 
 pub meaning_sound : (r : MessageData) (d : DigestData) → IsMeaning r d → IsSound r
-meaning_sound r d meaning = (meaning.served, walk_told r d.chain d.end meaning.tells)
+meaning_sound r d meaning = (meaning.served, tells_walkable r d.chain d.end meaning.tells)
 
-pub meaning_or_fault : (r : MessageData) (d : DigestData) (f : DigestFault) → IsMeaning r d → IsFault r f → f ≡ OutOfMemory
+pub meaning_or_fault : (r : MessageData) (d : DigestData) (f : DigestFault) → IsMeaning r d
+    → IsFault r f → f ≡ OutOfMemory
 meaning_or_fault r d NotReply meaning fault = absurd (fault meaning.served)
-meaning_or_fault r d BadChain meaning fault = absurd (fault.2 (walk_told r d.chain d.end meaning.tells fault.1))
+meaning_or_fault r d BadChain meaning fault =
+    absurd (fault.2 (tells_walkable r d.chain d.end meaning.tells fault.1))
 meaning_or_fault r d OutOfMemory meaning fault = refl

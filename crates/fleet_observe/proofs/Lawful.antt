@@ -1,28 +1,53 @@
--- Values that meet the checks make facts.
+-- Values that meet the checks make observations.
 use Rattle.std.proofs.Common.{ℕ, ◌≤◌, inl, inr, List, ap, refl, arith, Option, Some, None}
 use Rattle.fleet_name.specs.Name.{IsName}
+use Rattle.fleet_observe.proofs.Lemmas.{any_rank}
 use Rattle.fleet_observe.specs.Body.{positive_body, negative_body}
 use Rattle.fleet_observe.specs.Observation.{IsObservation, IsNegativeKind, IsDenialRank, IsRank, kind_number}
 use Rattle.fleet_observe.specs.Checks.{MakesPositive, MakesNegative, denied_kind, denied_type}
 use Rattle.fleet_observe.specs.declared.bounds.TheConstants.{LATEST}
-use Rattle.fleet_observe.specs.declared.kind.Kind.TheVariants.{Positive}
+use Rattle.fleet_observe.specs.declared.observation.kind.Kind.TheVariants.{Positive}
 
-pub positive_lawful : (name : List (List ℕ)) (rtype rank stamp life : ℕ) (rdatas : List (List ℕ)) → IsName name → stamp ≤ LATEST → MakesPositive rtype rank life rdatas → IsObservation (record { kind = Positive; name = name; rtype = rtype; body = positive_body rdatas; rank = rank; stamp = stamp; life = life })
+pub positive_lawful : (name : List (List ℕ)) (rtype rank stamp life : ℕ) (rdatas : List (List ℕ))
+    → IsName name → stamp ≤ LATEST → MakesPositive rtype rank life rdatas
+    → IsObservation (record {
+      kind = Positive;
+      name = name;
+      rtype = rtype;
+      body = positive_body rdatas;
+      rank = rank;
+      stamp = stamp;
+      life = life;
+    })
 positive_lawful name rtype rank stamp life rdatas named early made = record {
   named = named;
   rank = made.ranked;
   stamped = early;
   life = made.lasts;
-  positive = λ k. record { typed = made.typed; body = record { rdatas = rdatas; lawful = made.body; octets = refl } };
+  positive = λ k. record {
+    typed = made.typed;
+    body = record {
+      rdatas = rdatas;
+      lawful = made.body;
+      octets = refl;
+    };
+  };
   no_data = λ k. absurd (omega (arith, ap kind_number k));
   name_error = λ k. absurd (omega (arith, ap kind_number k));
 }
 
-any_rank : (rank : ℕ) → IsDenialRank rank → IsRank rank
-any_rank rank (inl e) = (omega (arith, e), omega (arith, e))
-any_rank rank (inr e) = (omega (arith, e), omega (arith, e))
-
-pub negative_lawful : (name : List (List ℕ)) (rtype : Option ℕ) (rank stamp life : ℕ) (owner : List (List ℕ)) (rdata : List ℕ) → IsName name → stamp ≤ LATEST → MakesNegative name rtype rank life owner rdata → IsObservation (record { kind = denied_kind rtype; name = name; rtype = denied_type rtype; body = negative_body owner rdata; rank = rank; stamp = stamp; life = life })
+pub negative_lawful : (name : List (List ℕ)) (rtype : Option ℕ) (rank stamp life : ℕ)
+    (owner : List (List ℕ)) (rdata : List ℕ) → IsName name → stamp ≤ LATEST
+    → MakesNegative name rtype rank life owner rdata
+    → IsObservation (record {
+      kind = denied_kind rtype;
+      name = name;
+      rtype = denied_type rtype;
+      body = negative_body owner rdata;
+      rank = rank;
+      stamp = stamp;
+      life = life;
+    })
 negative_lawful name None rank stamp life owner rdata named early made = record {
   named = named;
   rank = any_rank rank made.ranked;
@@ -30,7 +55,19 @@ negative_lawful name None rank stamp life owner rdata named early made = record 
   life = (made.lasts.0, omega (arith, made.lasts.1));
   positive = λ k. absurd (omega (arith, ap kind_number k));
   no_data = λ k. absurd (omega (arith, ap kind_number k));
-  name_error = λ k. (record { rank = made.ranked; life = made.lasts; body = record { owner = owner; rdata = rdata; lawful = made.body; octets = refl } }, refl);
+  name_error = λ k. (
+    record {
+      rank = made.ranked;
+      life = made.lasts;
+      body = record {
+        owner = owner;
+        rdata = rdata;
+        lawful = made.body;
+        octets = refl;
+      };
+    },
+    refl,
+  );
 }
 negative_lawful name (Some rtype) rank stamp life owner rdata named early made = record {
   named = named;
@@ -38,7 +75,19 @@ negative_lawful name (Some rtype) rank stamp life owner rdata named early made =
   stamped = early;
   life = (made.lasts.0, omega (arith, made.lasts.1));
   positive = λ k. absurd (omega (arith, ap kind_number k));
-  no_data = λ k. (record { rank = made.ranked; life = made.lasts; body = record { owner = owner; rdata = rdata; lawful = made.body; octets = refl } }, made.typed);
+  no_data = λ k. (
+    record {
+      rank = made.ranked;
+      life = made.lasts;
+      body = record {
+        owner = owner;
+        rdata = rdata;
+        lawful = made.body;
+        octets = refl;
+      };
+    },
+    made.typed,
+  );
   name_error = λ k. absurd (omega (arith, ap kind_number k));
 }
 

@@ -1,5 +1,5 @@
 -- What a reply that was read means is lawful.
-use Rattle.std.proofs.Common.{◌≡◌, ℕ, ◌≤◌, inl, inr, Bool, true, min, List, [], ◌∷◌, length, ap, sym, ◌∙◌, refl, arith, subst, Some, None}
+use Rattle.std.proofs.Common.{◌≡◌, ℕ, ◌≤◌, inl, inr, Bool, true, false, IsTrue, ◌↔◌, ◌⊎◌, min, List, [], ◌∷◌, length, ap, sym, ◌∙◌, refl, arith, subst, Some, None}
 use mathlib.Core.Bool.{false≢true}
 use Rattle.std.specs.List.{AllByRecursion}
 use Rattle.std.specs.declared.cmp.Ordering.TheVariants.{Less, Greater}
@@ -9,10 +9,12 @@ use Rattle.std.proofs.lemmas.Cmp.{nat_list_cmp_total}
 use Rattle.fleet_name.specs.Name.{wire, labels_of, IsName}
 use Rattle.fleet_wire.specs.Record.{RecordData, IsPlainRecord}
 use Rattle.fleet_wire.specs.Message.{MessageData, IsRead}
+use Rattle.fleet_wire.specs.declared.rcode.TheConstants.{NO_ERROR, NAME_ERROR}
 use Rattle.fleet_observe.specs.Members.{Has, IsAscending}
 use Rattle.fleet_observe.specs.RrSet.{RrSetData, IsRrSet, InSet, IsOnly, read_ttl}
 use Rattle.fleet_observe.specs.Walk.{ArePlainRecords, IsPath, AreLinks, last, Ends, EndsFound}
-use Rattle.fleet_observe.specs.Digest.{SoaData, EndData, WithRecords, WithoutData, WithoutName, WithCode, CutOff, DigestData, target_of, denied_by, IsLawfulSet, IsLawfulLink, IsLawfulSoa, IsLawfulEnd, IsLawful}
+use Rattle.fleet_observe.specs.Soa.{SoaData}
+use Rattle.fleet_observe.specs.Digest.{EndData, WithRecords, WithoutData, WithoutName, WithCode, CutOff, DigestData, target_of, denied_by, IsLawfulSet, IsLawfulLink, IsLawfulSoa, IsLawfulEnd, IsLawful}
 use Rattle.fleet_observe.specs.Meaning.{IsSoaOf, TellsWalk, IsEnd, Tells, IsMeaning, IsAuthority, IsServed, AsksWalk}
 use Rattle.fleet_observe.proofs.Sets.{read_bound}
 use Rattle.fleet_observe.proofs.Soas.{first_member}
@@ -33,7 +35,8 @@ not_below_itself d e = apart (sym e ∙ (nat_list_cmp_total.antisymm d d ∙ ap 
     apart k = cc
 
 -- octets in ascending order that are all the same are one alone
-alone_of : (ds : List (List ℕ)) → IsAscending ds → ¬ (ds ≡ []) → ((d e : List ℕ) → Has ds d → Has ds e → d ≡ e) → (d : List ℕ) × (ds ≡ d ∷ [])
+alone_of : (ds : List (List ℕ)) → IsAscending ds → ¬ (ds ≡ [])
+    → ((d e : List ℕ) → Has ds d → Has ds e → d ≡ e) → (d : List ℕ) × (ds ≡ d ∷ [])
 alone_of [] up some same = absurd (some refl)
 alone_of (d ∷ []) up some same = (d, refl)
 alone_of (d ∷ e ∷ ds) up some same =
@@ -44,11 +47,22 @@ alone_of (d ∷ e ∷ ds) up some same =
 some_of : (ds : List (List ℕ)) (d : List ℕ) → Has ds d → ¬ (ds ≡ [])
 some_of ds d h e = let nowhere = rw e at h in nowhere
 
-pub set_some : (s : List RecordData) (n : List (List ℕ)) (t : ℕ) (x : RrSetData) → IsRrSet s n t x → (d : List ℕ) × InSet s n t d
-set_some s n t x is = (is.ttl.carrier.rdata, record { carrier = is.ttl.carrier; member = is.ttl.member; belongs = is.ttl.belongs; rdata = refl })
+pub set_some : (s : List RecordData) (n : List (List ℕ)) (t : ℕ) (x : RrSetData) → IsRrSet s n t x
+    → (d : List ℕ) × InSet s n t d
+set_some s n t x is = (
+  is.ttl.carrier.rdata,
+  record {
+    carrier = is.ttl.carrier;
+    member = is.ttl.member;
+    belongs = is.ttl.belongs;
+    rdata = refl;
+  },
+)
 
 -- an RRset of plain records
-pub set_lawful : (s : List RecordData) (n : List (List ℕ)) (t : ℕ) (x : RrSetData) → ArePlainRecords s → IsRrSet s n t x → (t ≡ CNAME → (d e : List ℕ) → InSet s n t d → InSet s n t e → d ≡ e) → IsLawfulSet x
+pub set_lawful : (s : List RecordData) (n : List (List ℕ)) (t : ℕ) (x : RrSetData)
+    → ArePlainRecords s → IsRrSet s n t x → (t ≡ CNAME → (d e : List ℕ) → InSet s n t d
+    → InSet s n t e → d ≡ e) → IsLawfulSet x
 set_lawful s n t x plain is single =
     let one = set_some s n t x is in let carrier = is.ttl.carrier in
     let named : IsName n = subst IsName is.ttl.belongs.owner (plain carrier is.ttl.member).name in
@@ -62,42 +76,59 @@ set_lawful s n t x plain is single =
       plain = λ d h.
           let m = is.of_section d h in
           rw (is.rtype, ← m.rdata, ← m.belongs.rtype) ((plain m.carrier m.member).rdata);
-      alone = λ alias. ap length (alone_of x.rdatas is.ascending some (λ d e h k. single (sym is.rtype ∙ alias) d e (is.of_section d h) (is.of_section e k))).1;
+      alone = λ alias. ap length (alone_of x.rdatas is.ascending some
+          (λ d e h k. single (sym is.rtype ∙ alias) d e (is.of_section d h) (is.of_section e k))).1;
     }
 
-only_same : (s : List RecordData) (n : List (List ℕ)) (t : ℕ) (m : List ℕ) → IsOnly s n t m → (d e : List ℕ) → InSet s n t d → InSet s n t e → d ≡ e
+only_same : (s : List RecordData) (n : List (List ℕ)) (t : ℕ) (m : List ℕ) → IsOnly s n t m
+    → (d e : List ℕ) → InSet s n t d → InSet s n t e → d ≡ e
 only_same s n t m only d e h k = sym (only.only d h) ∙ only.only e k
 
-pub links_lawful : (s : List RecordData) (t : ℕ) (n : List (List ℕ)) (later : List (List (List ℕ))) (chain : List RrSetData) → ArePlainRecords s → IsPath s t n later → AreLinks s n later chain → (x : RrSetData) → Has chain x → IsLawfulLink x
+pub links_lawful : (s : List RecordData) (t : ℕ) (n : List (List ℕ)) (later : List (List (List ℕ)))
+    (chain : List RrSetData) → ArePlainRecords s → IsPath s t n later → AreLinks s n later chain
+    → (x : RrSetData) → Has chain x → IsLawfulLink x
 links_lawful s t n [] [] plain p l x h = absurd h
 links_lawful s t n [] (y ∷ chain) plain p l x h = absurd l
 links_lawful s t n (m ∷ later) [] plain p l x h = absurd l
 links_lawful s t n (m ∷ later) (y ∷ chain) plain p l x (inl e) =
-    subst IsLawfulLink e (record { set = set_lawful s n CNAME y plain l.0 (λ _. only_same s n CNAME (wire m) p.0.target); alias = l.0.rtype })
-links_lawful s t n (m ∷ later) (y ∷ chain) plain p l x (inr h) = links_lawful s t m later chain plain p.1 l.1 x h
+    subst IsLawfulLink e (record {
+      set = set_lawful s n CNAME y plain l.0
+          (λ _. only_same s n CNAME (wire m) p.0.target);
+      alias = l.0.rtype;
+    })
+links_lawful s t n (m ∷ later) (y ∷ chain) plain p l x (inr h) = links_lawful s t m later chain
+    plain p.1 l.1 x h
 
-target_is : (s : List RecordData) (n m : List (List ℕ)) (ds : List (List ℕ)) → IsOnly s n CNAME (wire m) → IsName m → ¬ (ds ≡ []) → ((d : List ℕ) → Has ds d → InSet s n CNAME d) → target_of n ds ≡ m
+target_is : (s : List RecordData) (n m : List (List ℕ)) (ds : List (List ℕ))
+    → IsOnly s n CNAME (wire m) → IsName m → ¬ (ds ≡ [])
+    → ((d : List ℕ) → Has ds d → InSet s n CNAME d) → target_of n ds ≡ m
 target_is s n m [] only named some of = absurd (some refl)
-target_is s n m (d ∷ ds) only named some of = ap labels_of (sym (only.only d (of d (inl refl)))) ∙ labels_of-wire m named.labels
+target_is s n m (d ∷ ds) only named some of = ap labels_of (sym (only.only d (of d (inl refl))))
+    ∙ labels_of-wire m named.labels
 
 -- the name that a chain denies is the one where the walk ends
-pub denied_is : (s : List RecordData) (t : ℕ) (n : List (List ℕ)) (later : List (List (List ℕ))) (chain : List RrSetData) → IsPath s t n later → AreLinks s n later chain → denied_by n chain ≡ last n later
+pub denied_is : (s : List RecordData) (t : ℕ) (n : List (List ℕ)) (later : List (List (List ℕ)))
+    (chain : List RrSetData) → IsPath s t n later → AreLinks s n later chain
+    → denied_by n chain ≡ last n later
 denied_is s t n [] [] p l = refl
 denied_is s t n [] (y ∷ chain) p l = absurd l
 denied_is s t n (m ∷ later) [] p l = absurd l
 denied_is s t n (m ∷ later) (y ∷ chain) p l =
     let one = set_some s n CNAME y l.0 in
-    let k = target_is s n m y.rdatas p.0.target p.0.named (some_of y.rdatas one.0 (l.0.whole one.0 one.1)) l.0.of_section in
+    let k = target_is s n m y.rdatas p.0.target p.0.named
+    (some_of y.rdatas one.0 (l.0.whole one.0 one.1)) l.0.of_section in
     ap (λ (x : List (List ℕ)). denied_by x chain) k ∙ denied_is s t m later chain p.1 l.1
 
-pub last_named : (s : List RecordData) (t : ℕ) (n : List (List ℕ)) (later : List (List (List ℕ))) → IsName n → IsPath s t n later → IsName (last n later)
+pub last_named : (s : List RecordData) (t : ℕ) (n : List (List ℕ)) (later : List (List (List ℕ)))
+    → IsName n → IsPath s t n later → IsName (last n later)
 last_named s t n [] named p = named
 last_named s t n (m ∷ later) named p = last_named s t m later p.0.named p.1
 
 three_hours : (a b c : ℕ) → min (min a b) LONGEST_DENIAL ≤ LONGEST_DENIAL
 three_hours a b c = omega arith
 
-pub soa_lawful : (s : List RecordData) (n : List (List ℕ)) (x : SoaData) → ArePlainRecords s → IsSoaOf s n x → IsLawfulSoa n x
+pub soa_lawful : (s : List RecordData) (n : List (List ℕ)) (x : SoaData) → ArePlainRecords s
+    → IsSoaOf s n x → IsLawfulSoa n x
 soa_lawful s n x plain is =
     let r = is.carrier in let p = plain r (first_member s r is.counts.first) in
     record {
@@ -107,14 +138,17 @@ soa_lawful s n x plain is =
       plain = rw is.rdata (rw is.counts.first.soa.rtype at p.rdata);
     }
 
-found_single : (s : List RecordData) (t : ℕ) (n : List (List ℕ)) (d : List ℕ) → InSet s n t d → Ends s t n → EndsFound s t n
+found_single : (s : List RecordData) (t : ℕ) (n : List (List ℕ)) (d : List ℕ) → InSet s n t d
+    → Ends s t n → EndsFound s t n
 found_single s t n d h (inl found) = found
 found_single s t n d h (inr bare) = absurd (bare.without d h)
 
-end_lawful : (r : MessageData) (n : List (List ℕ)) (e : EndData) → ArePlainRecords r.answer → ArePlainRecords r.authority → Ends r.answer r.question.rtype n → IsEnd r n e → IsLawfulEnd n e
+end_lawful : (r : MessageData) (n : List (List ℕ)) (e : EndData) → ArePlainRecords r.answer
+    → ArePlainRecords r.authority → Ends r.answer r.question.rtype n → IsEnd r n e → IsLawfulEnd n e
 end_lawful r n (WithRecords x) plain plain' ends is =
     let one = set_some r.answer n r.question.rtype x is in
-    set_lawful r.answer n r.question.rtype x plain is (found_single r.answer r.question.rtype n one.0 one.1 ends).single
+    set_lawful r.answer n r.question.rtype x plain is (found_single r.answer r.question.rtype n
+    one.0 one.1 ends).single
 end_lawful r n (WithoutData None) plain plain' ends is = tt
 end_lawful r n (WithoutData (Some x)) plain plain' ends is = soa_lawful r.authority n x plain' is.2
 end_lawful r n (WithoutName None) plain plain' ends is = tt
@@ -128,34 +162,49 @@ record IsLawfulWalk (n : List (List ℕ)) (chain : List RrSetData) (e : EndData)
   short : length chain ≤ MOST_LINKS
   end_is : IsLawfulEnd (denied_by n chain) e
 
-walk_lawful : (r : MessageData) (chain : List RrSetData) (e : EndData) → IsRead r → TellsWalk r chain e → IsLawfulWalk r.question.name chain e
+walk_lawful : (r : MessageData) (chain : List RrSetData) (e : EndData) → IsRead r
+    → TellsWalk r chain e → IsLawfulWalk r.question.name chain e
 walk_lawful r chain e read t =
     let plain = all_plain r.answer read.answer in let path = t.walk.path in
     let denied = denied_is r.answer r.question.rtype r.question.name t.later chain path t.links in
     record {
-      chain_is = links_lawful r.answer r.question.rtype r.question.name t.later chain plain path t.links;
+      chain_is = links_lawful r.answer r.question.rtype r.question.name t.later chain plain path
+          t.links;
       short = rw (← links_length r.answer r.question.name t.later chain t.links) t.walk.short;
-      end_is = rw denied (end_lawful r (last r.question.name t.later) e plain (all_plain r.authority read.authority) t.walk.ends t.end_is);
+      end_is = rw denied (end_lawful r (last r.question.name t.later) e plain
+          (all_plain r.authority read.authority) t.walk.ends t.end_is);
     }
 
 none_in : (chain : List RrSetData) → chain ≡ [] → (x : RrSetData) → Has chain x → IsLawfulLink x
 none_in chain e x h = let nowhere = rw e at h in absurd nowhere
 
-tells_lawful : (r : MessageData) (chain : List RrSetData) (e : EndData) → IsRead r → Tells r chain e → IsLawfulWalk r.question.name chain e
+tells_lawful : (r : MessageData) (chain : List RrSetData) (e : EndData) → IsRead r
+    → Tells r chain e → IsLawfulWalk r.question.name chain e
 tells_lawful r chain (WithRecords x) read t = walk_lawful r chain (WithRecords x) read t
 tells_lawful r chain (WithoutData x) read t = walk_lawful r chain (WithoutData x) read t
 tells_lawful r chain (WithoutName x) read t = walk_lawful r chain (WithoutName x) read t
-tells_lawful r chain (WithCode c) read t = record { chain_is = none_in chain t.4; short = rw t.4 (omega arith); end_is = rw t.3 read.header.rcode }
-tells_lawful r chain CutOff read t = record { chain_is = none_in chain t.1; short = rw t.1 (omega arith); end_is = tt }
+tells_lawful r chain (WithCode c) read t = record {
+  chain_is = none_in chain t.4;
+  short = rw t.4 (omega arith);
+  end_is = rw t.3 read.header.rcode;
+}
+tells_lawful r chain CutOff read t = record {
+  chain_is = none_in chain t.1;
+  short = rw t.1 (omega arith);
+  end_is = tt;
+}
 
 apart : ¬ (◌≡◌ {A = ℕ} NS CNAME)
 apart e = omega (arith, e)
 
-ns_lawful : (r : MessageData) (sets : List RrSetData) → IsRead r → IsAuthority r sets → (x : RrSetData) → Has sets x → IsLawfulSet x
-ns_lawful r sets read (inl a) x h = set_lawful r.authority x.name 2 x (all_plain r.authority read.authority) (a.1.each x h) (λ e. absurd (apart e))
+ns_lawful : (r : MessageData) (sets : List RrSetData) → IsRead r → IsAuthority r sets
+    → (x : RrSetData) → Has sets x → IsLawfulSet x
+ns_lawful r sets read (inl a) x h = set_lawful r.authority x.name 2 x
+    (all_plain r.authority read.authority) (a.1.each x h) (λ e. absurd (apart e))
 ns_lawful r sets read (inr a) x h = let nowhere = rw a.1 at h in absurd nowhere
 
-pub tells_by_walk : (r : MessageData) (chain : List RrSetData) (e : EndData) → TellsWalk r chain e → Tells r chain e
+pub tells_by_walk : (r : MessageData) (chain : List RrSetData) (e : EndData) → TellsWalk r chain e
+    → Tells r chain e
 tells_by_walk r chain (WithRecords x) t = t
 tells_by_walk r chain (WithoutData x) t = t
 tells_by_walk r chain (WithoutName x) t = t
@@ -163,9 +212,19 @@ tells_by_walk r chain (WithCode x) t = absurd t.end_is
 tells_by_walk r chain CutOff t = absurd t.end_is
 
 -- what a reply means that asks for no walk
-pub short_meaning : (r : MessageData) (name : List (List ℕ)) (rtype : ℕ) (aa : Bool) (chain : List RrSetData) (e : EndData) (ns : List RrSetData) → IsServed r → name ≡ r.question.name → rtype ≡ r.question.rtype → aa ≡ r.header.aa
-    → chain ≡ [] → Tells r [] e → ¬ AsksWalk r → ns ≡ [] → IsMeaning r (record { name = name; rtype = rtype; aa = aa; chain = chain; end = e; ns = ns })
-short_meaning r name rtype aa chain e ns served one two three none tells idle bare = record {
+pub meaning_without_walk : (r : MessageData) (name : List (List ℕ)) (rtype : ℕ) (aa : Bool)
+    (chain : List RrSetData) (e : EndData) (ns : List RrSetData) → IsServed r
+    → name ≡ r.question.name → rtype ≡ r.question.rtype → aa ≡ r.header.aa
+    → chain ≡ [] → Tells r [] e → ¬ AsksWalk r → ns ≡ []
+    → IsMeaning r (record {
+      name = name;
+      rtype = rtype;
+      aa = aa;
+      chain = chain;
+      end = e;
+      ns = ns;
+    })
+meaning_without_walk r name rtype aa chain e ns served one two three none tells idle bare = record {
   served = served;
   name = one;
   rtype = two;
@@ -175,9 +234,19 @@ short_meaning r name rtype aa chain e ns served one two three none tells idle ba
 }
 
 -- what a reply means whose walk was followed
-pub walked_meaning : (r : MessageData) (name : List (List ℕ)) (rtype : ℕ) (aa : Bool) (chain : List RrSetData) (e : EndData) (ns : List RrSetData) → IsServed r → name ≡ r.question.name → rtype ≡ r.question.rtype → aa ≡ r.header.aa
-    → TellsWalk r chain e → IsAuthority r ns → IsMeaning r (record { name = name; rtype = rtype; aa = aa; chain = chain; end = e; ns = ns })
-walked_meaning r name rtype aa chain e ns served one two three tells authority = record {
+pub meaning_along_walk : (r : MessageData) (name : List (List ℕ)) (rtype : ℕ) (aa : Bool)
+    (chain : List RrSetData) (e : EndData) (ns : List RrSetData) → IsServed r
+    → name ≡ r.question.name → rtype ≡ r.question.rtype → aa ≡ r.header.aa
+    → TellsWalk r chain e → IsAuthority r ns
+    → IsMeaning r (record {
+      name = name;
+      rtype = rtype;
+      aa = aa;
+      chain = chain;
+      end = e;
+      ns = ns;
+    })
+meaning_along_walk r name rtype aa chain e ns served one two three tells authority = record {
   served = served;
   name = one;
   rtype = two;
@@ -202,5 +271,10 @@ lawful_meaning r d read is =
 pub no_walk_cut : (r : MessageData) → r.header.tc ≡ true → ¬ AsksWalk r
 no_walk_cut r cut asks = false≢true (sym asks.whole ∙ cut)
 
-pub no_walk_coded : (r : MessageData) → ¬ (r.header.rcode ≡ 0) → ¬ (r.header.rcode ≡ 3) → ¬ AsksWalk r
-no_walk_coded r one two asks = elim asks.code [ inl e ↦ one e | inr e ↦ two e ]
+pub not_so : (b : Bool) (P : Type 0) → (IsTrue b ↔ P) → b ≡ false → ¬ P
+not_so b P is none p = false≢true (sym none ∙ is.1 p)
+
+pub no_walk_coded : (r : MessageData)
+    → ¬ ((r.header.rcode ≡ NO_ERROR) ⊎ (r.header.rcode ≡ NAME_ERROR))
+    → ¬ AsksWalk r
+no_walk_coded r none asks = none asks.code

@@ -1,5 +1,5 @@
 -- The lemmas of this crate's words. Crates above cite these, and no other file of proofs/.
-use Rattle.std.proofs.Common.{◌≡◌, ℕ, ◌/◌, ◌%◌, List, [], ◌∷◌, ◌++◌, length, refl, sym, ap, ◌∙◌, arith, length-append}
+use Rattle.std.proofs.Common.{◌≡◌, ℕ, inl, inr, ◌/◌, ◌%◌, List, [], ◌∷◌, ◌++◌, length, refl, sym, ap, ◌∙◌, arith, length-append}
 use Rattle.std.specs.declared.cmp.Ordering.{Ordering}
 use Rattle.std.specs.declared.cmp.Ordering.TheVariants.{Less, Equal, Greater}
 use Rattle.std.specs.Ordering.{nat_cmp, ordering_then, ordering_reverse}
@@ -7,10 +7,10 @@ use Rattle.std.proofs.lemmas.Map.Lookups.{exact_unsigned, exact_bytes}
 use Rattle.fleet_name.specs.Name.{wire}
 use Rattle.fleet_name.proofs.Lemmas.{split_same, wire_exact}
 use Rattle.fleet_wire.specs.Number.{u16_octets}
-use Rattle.fleet_observe.specs.Observation.{ObservationData, expires, key_at, kind_number}
+use Rattle.fleet_observe.specs.Observation.{ObservationData, expires, key_at, kind_number, IsRank, IsDenialRank}
 use Rattle.fleet_observe.specs.Preference.{name_cmp, preference, preference_total}
-use Rattle.fleet_observe.specs.declared.kind.Kind.{Kind}
-use Rattle.fleet_observe.specs.declared.kind.Kind.TheVariants.{NameError, NoData, Positive}
+use Rattle.fleet_observe.specs.declared.observation.kind.Kind.{Kind}
+use Rattle.fleet_observe.specs.declared.observation.kind.Kind.TheVariants.{NameError, NoData, Positive}
 
 -- what is equal one after the other is equal both times
 pub then_parts : (a b : Ordering) → ordering_then a b ≡ Equal → (a ≡ Equal) × (b ≡ Equal)
@@ -52,11 +52,11 @@ key_exact n m k j r q e =
     let low : r % 256 ≡ q % 256 = cc in
     (wire_exact n m p.0, kind_exact k j kind, grind (arith, high, low))
 
-abbrev fact_of : ℕ × ℕ × ℕ × Kind × ℕ × List (List ℕ) × List ℕ → ObservationData
-fact_of p =
+abbrev observation_of : ℕ × ℕ × ℕ × Kind × ℕ × List (List ℕ) × List ℕ → ObservationData
+observation_of p =
     record { rank = p.0; stamp = p.1; life = p.2; kind = p.3; rtype = p.4; name = p.5; body = p.6 }
 
--- only equal facts are equally preferred
+-- only equal observations are equally preferred
 pub preference_exact : (x y : ObservationData) → preference x y ≡ Equal → x ≡ y
 preference_exact x y e =
     let a = then_parts (nat_cmp x.rank y.rank) _ e in
@@ -73,12 +73,13 @@ preference_exact x y e =
     let u : x.rtype ≡ y.rtype = exact_unsigned _ _ f.0 in
     let v : x.name ≡ y.name = wire_exact _ _ (exact_bytes _ _ g.0) in
     let w : x.body ≡ y.body = exact_bytes _ _ g.1 in
-    let z : fact_of (x.rank, x.stamp, x.life, x.kind, x.rtype, x.name, x.body)
-    ≡ fact_of (y.rank, y.stamp, y.life, y.kind, y.rtype, y.name, y.body) = cc in
+    let z : observation_of (x.rank, x.stamp, x.life, x.kind, x.rtype, x.name, x.body)
+    ≡ observation_of (y.rank, y.stamp, y.life, y.kind, y.rtype, y.name, y.body) = cc in
     z
 
 -- what is preferred to another is so to all to which the other is
-pub preferred_chain : (x y z : ObservationData) → preference x y ≡ Greater → preference y z ≡ Greater
+pub preferred_chain : (x y z : ObservationData) → preference x y ≡ Greater
+    → preference y z ≡ Greater
     → preference x z ≡ Greater
 preferred_chain x y z e f = turned z x (preference_total.trans z y x (below y z f) (below x y e))
   where
@@ -87,3 +88,8 @@ preferred_chain x y z e f = turned z x (preference_total.trans z y x (below y z 
 
     below : (a b : ObservationData) → preference a b ≡ Greater → preference b a ≡ Less
     below a b e = preference_total.antisymm b a ∙ ap ordering_reverse e
+
+-- a rank of a denial is a rank
+pub any_rank : (rank : ℕ) → IsDenialRank rank → IsRank rank
+any_rank rank (inl e) = (omega (arith, e), omega (arith, e))
+any_rank rank (inr e) = (omega (arith, e), omega (arith, e))

@@ -11,7 +11,7 @@ pub mod Soas
 pub mod Walks
 pub mod Owners
 pub mod LawfulMeanings
-pub mod Facts
+pub mod Kept
 pub mod Lines
 pub mod Faults
 pub mod OneMeaning

@@ -1,13 +1,12 @@
 -- Which SOA counts.
-use Rattle.std.proofs.Common.{◌≡◌, ℕ, ◌+◌, ◌<◌, ◌≤◌, inl, inr, List, [], ◌∷◌, ◌++◌, length, take, drop, get_or, ap, sym, ◌∙◌, refl, arith, subst, append_assoc}
-use Rattle.std.proofs.lemmas.List.{length-append}
+use Rattle.std.proofs.Common.{◌≡◌, ℕ, ◌+◌, ◌<◌, ◌≤◌, inl, inr, List, [], ◌∷◌, ◌++◌, length, take, drop, get_or, ap, sym, ◌∙◌, refl, arith, subst}
+use Rattle.std.proofs.lemmas.List.{length-append, take-append-drop}
 use Rattle.fleet_name.specs.Name.{wire, IsUnder}
-use Rattle.fleet_wire.specs.Record.{RecordData, record_data, all_record_data}
+use Rattle.fleet_wire.specs.Record.{RecordData}
 use Rattle.fleet_wire.specs.Shape.{IsPlain}
-use Rattle.fleet_wire.specs.declared.record.Record.{Record}
 use Rattle.fleet_observe.specs.Members.{Has}
 use Rattle.fleet_observe.specs.Meaning.{IsSoaRecord, IsFirstSoa, CountsFor}
-use Rattle.fleet_observe.proofs.Sections.{told-split, told-item}
+use Rattle.fleet_observe.proofs.Lists.{split_at}
 use Rattle.fleet_wire.specs.declared.rtype.TheConstants.{SOA}
 
 Has-middle : {X : Type 0} (before after : List X) (r : X) → Has (before ++ r ∷ after) r
@@ -15,29 +14,42 @@ Has-middle [] after r = inl refl
 Has-middle (x ∷ before) after r = inr (Has-middle before after r)
 
 pub first_member : (s : List RecordData) (r : RecordData) → IsFirstSoa s r → Has s r
-first_member s r f = subst (λ (x : List RecordData). Has x r) (sym f.is) (Has-middle f.before f.after r)
+first_member s r f = subst (λ (x : List RecordData). Has x r) (sym f.is)
+    (Has-middle f.before f.after r)
 
-same_first : (b c : List RecordData) (x y : RecordData) (p q : List RecordData) → b ++ x ∷ p ≡ c ++ y ∷ q → ((z : RecordData) → Has b z → ¬ IsSoaRecord z) → ((z : RecordData) → Has c z → ¬ IsSoaRecord z) → IsSoaRecord x → IsSoaRecord y → x ≡ y
+same_first : (b c : List RecordData) (x y : RecordData) (p q : List RecordData) → b ++ x ∷ p ≡ c
+    ++ y ∷ q → ((z : RecordData) → Has b z → ¬ IsSoaRecord z)
+    → ((z : RecordData) → Has c z → ¬ IsSoaRecord z) → IsSoaRecord x → IsSoaRecord y → x ≡ y
 same_first [] [] x y p q e f g i j = cc
-same_first [] (z ∷ c) x y p q e f g i j = let k : x ≡ z = cc in absurd (g z (inl refl) (subst IsSoaRecord k i))
-same_first (z ∷ b) [] x y p q e f g i j = let k : z ≡ y = cc in absurd (f z (inl refl) (subst IsSoaRecord (sym k) j))
-same_first (z ∷ b) (w ∷ c) x y p q e f g i j = let k : b ++ x ∷ p ≡ c ++ y ∷ q = cc in same_first b c x y p q k (λ v h. f v (inr h)) (λ v h. g v (inr h)) i j
+same_first [] (z ∷ c) x y p q e f g i j = let k : x ≡ z = cc in
+    absurd (g z (inl refl) (subst IsSoaRecord k i))
+same_first (z ∷ b) [] x y p q e f g i j = let k : z ≡ y = cc in
+    absurd (f z (inl refl) (subst IsSoaRecord (sym k) j))
+same_first (z ∷ b) (w ∷ c) x y p q e f g i j = let k : b ++ x ∷ p ≡ c ++ y ∷ q = cc in
+    same_first b c x y p q k (λ v h. f v (inr h)) (λ v h. g v (inr h)) i j
 
 -- a section has one first SOA
 pub one_first : (s : List RecordData) (x y : RecordData) → IsFirstSoa s x → IsFirstSoa s y → x ≡ y
-one_first s x y f g = same_first f.before g.before x y f.after g.after (sym f.is ∙ g.is) f.first g.first f.soa g.soa
+one_first s x y f g = same_first f.before g.before x y f.after g.after (sym f.is ∙ g.is) f.first
+    g.first f.soa g.soa
 
-pub none_counts : (s : List RecordData) (n : List (List ℕ)) → ((r : RecordData) → Has s r → ¬ IsSoaRecord r) → (r : RecordData) → ¬ CountsFor s n r
+pub none_counts : (s : List RecordData) (n : List (List ℕ))
+    → ((r : RecordData) → Has s r → ¬ IsSoaRecord r) → (r : RecordData) → ¬ CountsFor s n r
 none_counts s n none r c = none r (first_member s r c.first) c.first.soa
 
-pub other_counts : (s : List RecordData) (n : List (List ℕ)) (x : RecordData) → IsFirstSoa s x → ¬ IsUnder n x.name → (r : RecordData) → ¬ CountsFor s n r
-other_counts s n x f out r c = out (subst (λ (y : RecordData). IsUnder n y.name) (one_first s r x c.first f) c.under)
+pub other_counts : (s : List RecordData) (n : List (List ℕ)) (x : RecordData) → IsFirstSoa s x
+    → ¬ IsUnder n x.name → (r : RecordData) → ¬ CountsFor s n r
+other_counts s n x f out r c = out (subst (λ (y : RecordData). IsUnder n y.name)
+    (one_first s r x c.first f) c.under)
 
-pub first_at : {A : Type 0} (xs : List (Record A)) (i : ℕ) (item : Record A) → i < length xs → item ≡ get_or xs i item → ((r : RecordData) → Has (all_record_data (take i xs)) r → ¬ IsSoaRecord r) → IsSoaRecord (record_data item) → IsFirstSoa (all_record_data xs) (record_data item)
+pub first_at : (xs : List RecordData) (i : ℕ) (item : RecordData) → i < length xs
+    → item ≡ get_or xs i item → ((r : RecordData) → Has (take i xs) r → ¬ IsSoaRecord r)
+    → IsSoaRecord item → IsFirstSoa xs item
 first_at xs i item within is none soa = record {
-  before = all_record_data (take i xs);
-  after = all_record_data (drop (i + 1) xs);
-  is = told-split xs (i + 1) ∙ (ap (λ (s : List RecordData). s ++ all_record_data (drop (i + 1) xs)) (told-item xs i item within is) ∙ append_assoc (all_record_data (take i xs)) (record_data item ∷ []) (all_record_data (drop (i + 1) xs)));
+  before = take i xs;
+  after = drop (i + 1) xs;
+  is = sym (take-append-drop i xs) ∙ ap (λ (s : List RecordData). take i xs ++ s)
+      (split_at xs i item within is);
   first = none;
   soa = soa;
 }

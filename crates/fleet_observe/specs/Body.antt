@@ -22,8 +22,8 @@ abbrev pub negative_body : List (List ℕ) → List ℕ → List ℕ
 negative_body owner rdata = wire owner ++ octets_with_length rdata
 
 -- RDATAs that an observation may hold: at least one, ascending, each of the type's shape with its
--- names in full and in lower case, one alone for an alias (RFC 2181 10.1), and of bounded length
--- together
+-- names in full and in lower case, one alone for an alias (RFC 2181 10.1), in a body of at most
+-- LONGEST_BODY octets
 pub record AreRdatas (rtype : ℕ) (rdatas : List (List ℕ)) : Type 0 where
   pub some : rdatas ≢ []
   pub ascending : IsAscending rdatas

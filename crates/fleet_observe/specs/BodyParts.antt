@@ -2,10 +2,10 @@
 use Rattle.std.specs.Prelude.{◌≡◌, ℕ, List}
 use Rattle.fleet_observe.specs.Body.{positive_body, negative_body, AreRdatas, IsDenial}
 use Rattle.fleet_observe.specs.Observation.{ObservationData, IsNegativeKind}
-use Rattle.fleet_observe.specs.declared.kind.Kind.{Kind}
-use Rattle.fleet_observe.specs.declared.kind.Kind.TheVariants.{Positive}
-use Rattle.fleet_observe.specs.declared.body.Body.{Body}
-use Rattle.fleet_observe.specs.declared.body.Body.TheVariants.{Records, Authority}
+use Rattle.fleet_observe.specs.declared.observation.kind.Kind.{Kind}
+use Rattle.fleet_observe.specs.declared.observation.kind.Kind.TheVariants.{Positive}
+use Rattle.fleet_observe.specs.declared.observation.body.Body.{Body}
+use Rattle.fleet_observe.specs.declared.observation.body.Body.TheVariants.{Records, Authority}
 
 -- the octets that the parts are
 abbrev pub body_octets : {A : Type 0} → Body A → List ℕ

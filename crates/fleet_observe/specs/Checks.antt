@@ -4,10 +4,10 @@ use Rattle.fleet_observe.specs.Body.{AreRdatas, IsDenial}
 use Rattle.fleet_wire.specs.declared.rtype.TheConstants.{CNAME}
 use Rattle.fleet_observe.specs.Observation.{IsRank, IsDenialRank, IsLife, IsDataType}
 use Rattle.fleet_observe.specs.declared.bounds.TheConstants.{LONGEST_DENIAL, LONGEST_LIFE}
-use Rattle.fleet_observe.specs.declared.fault.ObservationFault.{ObservationFault}
-use Rattle.fleet_observe.specs.declared.fault.ObservationFault.TheVariants.{BadRank, BadLife, BadKind, BadBody}
-use Rattle.fleet_observe.specs.declared.kind.Kind.{Kind}
-use Rattle.fleet_observe.specs.declared.kind.Kind.TheVariants.{NameError, NoData, Positive}
+use Rattle.fleet_observe.specs.declared.observation.fault.ObservationFault.{ObservationFault}
+use Rattle.fleet_observe.specs.declared.observation.fault.ObservationFault.TheVariants.{BadRank, BadLife, BadKind, BadBody}
+use Rattle.fleet_observe.specs.declared.observation.kind.Kind.{Kind}
+use Rattle.fleet_observe.specs.declared.observation.kind.Kind.TheVariants.{NameError, NoData, Positive}
 
 -- a rank that a kind has: 1, 2 or 3, and of a denial 1 or 3
 abbrev pub IsRankOf : Kind → ℕ → Type 0

@@ -5,17 +5,11 @@ use Rattle.fleet_wire.specs.Shape.{IsPlain}
 use Rattle.fleet_wire.specs.declared.rtype.TheConstants.{CNAME, SOA}
 use Rattle.fleet_observe.specs.Members.{Has, IsAscending}
 use Rattle.fleet_observe.specs.Observation.{IsDataType}
-use Rattle.fleet_observe.specs.RrSet.{RrSetData, rrset_data}
+use Rattle.fleet_observe.specs.RrSet.{RrSetData}
 use Rattle.fleet_observe.specs.declared.bounds.TheConstants.{LONGEST_DENIAL, LONGEST_LIFE, MOST_LINKS}
-use Rattle.fleet_observe.specs.declared.soa.Soa.{Soa}
-use Rattle.fleet_observe.specs.declared.told.End.{End}
-use Rattle.fleet_observe.specs.declared.told.End.TheVariants.{Records, NoData, NxDomain, Code, Truncated}
-
--- an SOA: its owner, its TTL and its RDATA
-pub record SoaData : Type 0 where
-  pub owner : List (List ℕ)
-  pub ttl : ℕ
-  pub rdata : List ℕ
+use Rattle.fleet_observe.specs.Soa.{SoaData}
+use Rattle.fleet_observe.specs.declared.reply.ending.End.{End}
+use Rattle.fleet_observe.specs.declared.reply.ending.End.TheVariants.{Records, NoData, NxDomain, Code, Truncated}
 
 -- how a reply ends
 pub data EndData : Type 0 where
@@ -34,17 +28,10 @@ pub record DigestData : Type 0 where
   pub end : EndData
   pub ns : List RrSetData
 
-abbrev pub soa_data : {A : Type 0} → Soa A → SoaData
-soa_data x = record { owner = x.owner; ttl = x.ttl; rdata = x.rdata }
-
-abbrev pub soa_data_if_any : {A : Type 0} → Option (Soa A) → Option SoaData
-soa_data_if_any None = None
-soa_data_if_any (Some x) = Some (soa_data x)
-
 abbrev pub end_data : {A : Type 0} → End A → EndData
-end_data (Records x) = WithRecords (rrset_data x)
-end_data (NoData soa) = WithoutData (soa_data_if_any soa)
-end_data (NxDomain soa) = WithoutName (soa_data_if_any soa)
+end_data (Records x) = WithRecords x
+end_data (NoData soa) = WithoutData soa
+end_data (NxDomain soa) = WithoutName soa
 end_data (Code c) = WithCode c
 end_data Truncated = CutOff
 

@@ -5,8 +5,9 @@ pub mod Preference
 pub mod Checks
 pub mod BodyParts
 pub mod RrSet
+pub mod Soa
 pub mod Walk
 pub mod Digest
 pub mod Meaning
-pub mod Observed
-pub mod Relayed
+pub mod Observations
+pub mod Relay

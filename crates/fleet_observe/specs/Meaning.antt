@@ -4,27 +4,30 @@ use Rattle.fleet_name.specs.Name.{IsUnder}
 use Rattle.fleet_wire.specs.Number.{u32_at}
 use Rattle.fleet_wire.specs.Record.{RecordData}
 use Rattle.fleet_wire.specs.Message.{MessageData}
+use Rattle.fleet_wire.specs.declared.class.TheConstants.{IN}
+use Rattle.fleet_wire.specs.declared.rcode.TheConstants.{NO_ERROR, NAME_ERROR}
 use Rattle.fleet_wire.specs.declared.rtype.TheConstants.{NS, SOA}
 use Rattle.fleet_observe.specs.declared.bounds.TheConstants.{LONGEST_DENIAL}
-use Rattle.fleet_observe.specs.declared.told.DigestFault.{DigestFault}
-use Rattle.fleet_observe.specs.declared.told.DigestFault.TheVariants.{NotReply, BadChain, OutOfMemory}
+use Rattle.fleet_observe.specs.declared.reply.ending.DigestFault.{DigestFault}
+use Rattle.fleet_observe.specs.declared.reply.ending.DigestFault.TheVariants.{NotReply, BadChain, OutOfMemory}
 use Rattle.fleet_observe.specs.Members.{Has}
 use Rattle.fleet_observe.specs.Observation.{IsDataType}
 use Rattle.fleet_observe.specs.RrSet.{RrSetData, IsRrSet, read_ttl}
 use Rattle.fleet_observe.specs.Walk.{EndsBare, IsWalk, HasWalk, last, AreLinks}
-use Rattle.fleet_observe.specs.Digest.{SoaData, EndData, WithRecords, WithoutData, WithoutName, WithCode, CutOff, DigestData}
+use Rattle.fleet_observe.specs.Soa.{SoaData}
+use Rattle.fleet_observe.specs.Digest.{EndData, WithRecords, WithoutData, WithoutName, WithCode, CutOff, DigestData}
 
 -- a reply to a question that is served: of class 1 and of a type that data can have
 pub record IsServed (r : MessageData) : Type 0 where
   pub response : r.header.response ≡ true
   pub opcode : r.header.opcode ≡ 0
-  pub class : r.question.class ≡ 1
+  pub class : r.question.class ≡ IN
   pub typed : IsDataType r.question.rtype
 
 -- the reply asks for a walk
 pub record AsksWalk (r : MessageData) : Type 0 where
   pub whole : r.header.tc ≡ false
-  pub code : (r.header.rcode ≡ 0) ⊎ (r.header.rcode ≡ 3)
+  pub code : (r.header.rcode ≡ NO_ERROR) ⊎ (r.header.rcode ≡ NAME_ERROR)
 
 -- there is a walk from the question's name
 abbrev pub IsWalkable : MessageData → Type 0
@@ -43,7 +46,7 @@ IsFault r BadChain = IsServed r × AsksWalk r × (¬ IsWalkable r)
 IsFault r OutOfMemory = IsSound r
 
 pub record IsSoaRecord (r : RecordData) : Type 0 where
-  pub class : r.class ≡ 1
+  pub class : r.class ≡ IN
   pub rtype : r.rtype ≡ SOA
 
 -- the first SOA of the section
@@ -86,9 +89,9 @@ IsSoa s n (Some x) = IsSoaOf s n x
 abbrev pub IsEnd : MessageData → List (List ℕ) → EndData → Type 0
 IsEnd r n (WithRecords x) = IsRrSet r.answer n r.question.rtype x
 IsEnd r n (WithoutData soa) =
-    EndsBare r.answer r.question.rtype n × (r.header.rcode ≡ 0) × IsSoa r.authority n soa
+    EndsBare r.answer r.question.rtype n × (r.header.rcode ≡ NO_ERROR) × IsSoa r.authority n soa
 IsEnd r n (WithoutName soa) =
-    EndsBare r.answer r.question.rtype n × (r.header.rcode ≡ 3) × IsSoa r.authority n soa
+    EndsBare r.answer r.question.rtype n × (r.header.rcode ≡ NAME_ERROR) × IsSoa r.authority n soa
 IsEnd r n (WithCode c) = ⊥
 IsEnd r n CutOff = ⊥
 
@@ -103,15 +106,15 @@ pub record TellsWalk (r : MessageData) (chain : List RrSetData) (e : EndData) : 
 -- the chain and the end of a reply
 abbrev pub Tells : MessageData → List RrSetData → EndData → Type 0
 Tells r chain CutOff = (r.header.tc ≡ true) × (chain ≡ [])
-Tells r chain (WithCode c) = (r.header.tc ≡ false) × (¬ (r.header.rcode ≡ 0))
-    × (¬ (r.header.rcode ≡ 3)) × (c ≡ r.header.rcode) × (chain ≡ [])
+Tells r chain (WithCode c) = (r.header.tc ≡ false) × (¬ (r.header.rcode ≡ NO_ERROR))
+    × (¬ (r.header.rcode ≡ NAME_ERROR)) × (c ≡ r.header.rcode) × (chain ≡ [])
 Tells r chain (WithRecords x) = TellsWalk r chain (WithRecords x)
 Tells r chain (WithoutData soa) = TellsWalk r chain (WithoutData soa)
 Tells r chain (WithoutName soa) = TellsWalk r chain (WithoutName soa)
 
 -- an authority NS record at the question's name or an ancestor of it
 pub record IsNs (q : List (List ℕ)) (r : RecordData) : Type 0 where
-  pub class : r.class ≡ 1
+  pub class : r.class ≡ IN
   pub rtype : r.rtype ≡ NS
   pub above : IsUnder q r.name
 
@@ -151,7 +154,7 @@ pub record AreNsSets (q : List (List ℕ)) (s : List RecordData) (sets : List Rr
 pub record HasAuthority (r : MessageData) : Type 0 where
   pub whole : r.header.tc ≡ false
   pub aa : r.header.aa ≡ true
-  pub code : r.header.rcode ≡ 0
+  pub code : r.header.rcode ≡ NO_ERROR
 
 -- the NS RRsets that the reply is an authority for
 abbrev pub IsAuthority : MessageData → List RrSetData → Type 0

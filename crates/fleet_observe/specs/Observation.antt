@@ -4,9 +4,10 @@ use Rattle.fleet_name.specs.Name.{wire, IsName}
 use Rattle.fleet_wire.specs.Number.{u16_octets}
 use Rattle.fleet_observe.specs.Members.{Has}
 use Rattle.fleet_observe.specs.Body.{IsPositiveBody, IsNegativeBody}
+use Rattle.fleet_observe.specs.declared.rank.TheConstants.{OTHER, ANSWER}
 use Rattle.fleet_observe.specs.declared.bounds.TheConstants.{LATEST, LONGEST_DENIAL, LONGEST_LIFE}
-use Rattle.fleet_observe.specs.declared.kind.Kind.{Kind}
-use Rattle.fleet_observe.specs.declared.kind.Kind.TheVariants.{NameError, NoData, Positive}
+use Rattle.fleet_observe.specs.declared.observation.kind.Kind.{Kind}
+use Rattle.fleet_observe.specs.declared.observation.kind.Kind.TheVariants.{NameError, NoData, Positive}
 
 -- what was observed of a name: the kind, the name as its labels, the type, the body's octets, the
 -- rank, the moment and the life in seconds
@@ -47,11 +48,11 @@ OneKey = (n m : List (List ℕ)) (k j : Kind) (r q : ℕ) → key_at n k r ≡ k
 
 -- a rank
 abbrev pub IsRank : ℕ → Type 0
-IsRank rank = (1 ≤ rank) × (rank ≤ 3)
+IsRank rank = (OTHER ≤ rank) × (rank ≤ ANSWER)
 
 -- a rank of a denial
 abbrev pub IsDenialRank : ℕ → Type 0
-IsDenialRank rank = (rank ≡ 1) ⊎ (rank ≡ 3)
+IsDenialRank rank = (rank ≡ OTHER) ⊎ (rank ≡ ANSWER)
 
 -- a life, in seconds
 abbrev pub IsLife : ℕ → ℕ → Type 0

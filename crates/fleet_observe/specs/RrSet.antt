@@ -4,11 +4,11 @@ use Rattle.std.specs.Ordering.{nat_cmp, is_lt}
 use Rattle.std.specs.Cmp.Lexicographic.{slice_cmp}
 use Rattle.fleet_name.specs.Name.{wire, labels_of, IsName}
 use Rattle.fleet_wire.specs.Record.{RecordData}
+use Rattle.fleet_wire.specs.declared.class.TheConstants.{IN}
 use Rattle.fleet_observe.specs.Members.{Has, IsAscending}
 use Rattle.fleet_observe.specs.Observation.{IsDataType}
 use Rattle.fleet_observe.specs.declared.bounds.TheConstants.{LONGEST_LIFE}
-use Rattle.fleet_observe.specs.declared.rrset.RrSet.{RrSet}
-use Rattle.fleet_observe.specs.declared.rows.Rows.{Rows}
+use Rattle.fleet_observe.specs.declared.reply.rows.Rows.{Rows}
 
 -- octets that are a name in full
 pub record SpellsName (octets : List ℕ) : Type 0 where
@@ -17,7 +17,7 @@ pub record SpellsName (octets : List ℕ) : Type 0 where
 
 -- the record is of the RRset at name n and type t
 pub record Belongs (n : List (List ℕ)) (t : ℕ) (r : RecordData) : Type 0 where
-  pub class : r.class ≡ 1
+  pub class : r.class ≡ IN
   pub rtype : r.rtype ≡ t
   pub typed : IsDataType t
   pub owner : r.name ≡ n
@@ -66,17 +66,9 @@ pub record IsRrSet (s : List RecordData) (n : List (List ℕ)) (t : ℕ) (x : Rr
   pub of_section : (d : List ℕ) → Has x.rdatas d → InSet s n t d
   pub whole : (d : List ℕ) → InSet s n t d → Has x.rdatas d
 
-abbrev pub rrset_data : {A : Type 0} → RrSet A → RrSetData
-rrset_data x = record { name = x.name; rtype = x.rtype; ttl = x.ttl; rdatas = x.rdatas }
-
 -- records of one owner and type that are lent
 abbrev pub rrset_of_rows : {A : Type 0} → Rows A → RrSetData
 rrset_of_rows r = record { name = r.name.now; rtype = r.rtype; ttl = r.ttl; rdatas = r.rdatas.now }
-
--- RRsets, as plain data
-abbrev pub all_rrset_data : {A : Type 0} → List (RrSet A) → List RrSetData
-all_rrset_data [] = []
-all_rrset_data (x ∷ xs) = rrset_data x ∷ all_rrset_data xs
 
 -- how many of the RDATAs at the front are less than d
 abbrev pub count_below : List ℕ → List (List ℕ) → ℕ

@@ -1,16 +1,16 @@
 -- The walk from a question's name along aliases (RFC 1034 3.6.2).
 use Rattle.std.specs.Prelude.{◌≡◌, ℕ, ◌≤◌, ◌⊎◌, List, [], ◌∷◌, length}
 use Rattle.fleet_name.specs.Name.{wire, labels_of, IsName}
-use Rattle.fleet_wire.specs.Record.{RecordData, record_data, IsPlainRecord}
+use Rattle.fleet_wire.specs.Record.{RecordData, IsPlainRecord}
 use Rattle.fleet_wire.specs.declared.rtype.TheConstants.{CNAME}
 use Rattle.fleet_observe.specs.Members.{Has}
-use Rattle.fleet_observe.specs.RrSet.{Belongs, InSet, IsEmpty, IsOnly, RrSetData, IsRrSet, all_rrset_data, SpellsName}
+use Rattle.fleet_observe.specs.RrSet.{Belongs, InSet, IsEmpty, IsOnly, RrSetData, IsRrSet, SpellsName}
 use Rattle.fleet_observe.specs.declared.bounds.TheConstants.{MOST_LINKS}
-use Rattle.fleet_observe.specs.declared.summary.Followed.{Followed}
-use Rattle.fleet_observe.specs.declared.walk.Found.{Found}
-use Rattle.fleet_observe.specs.declared.walk.Found.TheVariants.{Nothing, One, Several}
-use Rattle.fleet_observe.specs.declared.walk.Step.{Step}
-use Rattle.fleet_observe.specs.declared.walk.Step.TheVariants.{Records, Alias, Bare, Fork}
+use Rattle.fleet_observe.specs.declared.reply.summary.Followed.{Followed}
+use Rattle.fleet_observe.specs.declared.reply.walk.Found.{Found}
+use Rattle.fleet_observe.specs.declared.reply.walk.Found.TheVariants.{Nothing, One, Several}
+use Rattle.fleet_observe.specs.declared.reply.walk.Step.{Step}
+use Rattle.fleet_observe.specs.declared.reply.walk.Step.TheVariants.{Records, Alias, Bare, Fork}
 
 -- at name n the walk goes on to name m: no RRset of the type wanted, and an alias with this target
 -- alone
@@ -42,7 +42,7 @@ abbrev pub last : List (List ℕ) → List (List (List ℕ)) → List (List ℕ)
 last n [] = n
 last n (m ∷ later) = last m later
 
--- the walk: from n over the later names, and over no more links than there may be
+-- the walk: from n over the later names, which are at most MOST_LINKS
 pub record IsWalk (s : List RecordData) (t : ℕ) (n : List (List ℕ)) (later : List (List (List ℕ)))
     : Type 0 where
   pub path : IsPath s t n later
@@ -73,8 +73,8 @@ pub record IsOf (s : List RecordData) (n : List (List ℕ)) (t : ℕ) (r : Recor
 -- what is found of an RRset
 abbrev pub IsFound : {A : Type 0} → List RecordData → List (List ℕ) → ℕ → Found A → Type 0
 IsFound s n t Nothing = IsEmpty s n t
-IsFound s n t (One r) = IsOf s n t (record_data r.now) × IsOnly s n t (record_data r.now).rdata
-IsFound s n t (Several r) = IsOf s n t (record_data r.now)
+IsFound s n t (One r) = IsOf s n t r.now × IsOnly s n t r.now.rdata
+IsFound s n t (Several r) = IsOf s n t r.now
     × ((d : List ℕ) × (e : List ℕ) × InSet s n t d × InSet s n t e × (¬ (d ≡ e)))
 
 -- no walk ends at n or goes on from there
@@ -90,8 +90,8 @@ pub record IsAlias (s : List RecordData) (t : ℕ) (n : List (List ℕ)) (r : Re
 
 -- what the walk does at a name
 abbrev pub IsStep : {A : Type 0} → List RecordData → ℕ → List (List ℕ) → Step A → Type 0
-IsStep s t n (Records r) = EndsFound s t n × IsOf s n t (record_data r.now)
-IsStep s t n (Alias r) = IsAlias s t n (record_data r.now)
+IsStep s t n (Records r) = EndsFound s t n × IsOf s n t r.now
+IsStep s t n (Alias r) = IsAlias s t n r.now
 IsStep s t n Bare = EndsBare s t n
 IsStep s t n Fork = IsFork s t n
 
@@ -101,7 +101,7 @@ pub record IsFollowed {A : Type 0} (s : List RecordData) (t : ℕ) (n : List (Li
     : Type 0 where
   pub later : List (List (List ℕ))
   pub walk : IsWalk s t n later
-  pub links : AreLinks s n later (all_rrset_data f.chain.items)
+  pub links : AreLinks s n later f.chain.items
   pub stands : labels_of f.at.now ≡ last n later
   pub spelled : SpellsName f.at.now
 

@@ -1,6 +1,6 @@
 //! The bounds of what is observed.
 
-/// The longest life, in seconds: a day.
+/// The longest life, and the greatest TTL as it is read, in seconds: a day.
 pub const LONGEST_LIFE: u32 = 86400;
 
 /// The longest life of a denial, in seconds: three hours (RFC 2308 5).
@@ -12,5 +12,5 @@ pub const LONGEST_BODY: usize = 8192;
 /// The latest moment, in seconds.
 pub const LATEST: u64 = 1 << 40;
 
-/// How many links a walk has at most.
+/// How many links a walk, or an answer, has at most.
 pub const MOST_LINKS: usize = 8;

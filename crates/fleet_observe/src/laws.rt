@@ -3,7 +3,7 @@
 ghost use Rattle.fleet_observe.specs.Observation.{OneKey};
 ghost use Rattle.fleet_observe.specs.Walk.{OneWalk};
 ghost use Rattle.fleet_observe.specs.Meaning.{MeaningIsSound, MeaningOrFault};
-ghost use Rattle.fleet_observe.specs.Observed.{OneMeaning, OneObserved, EachOnce};
+ghost use Rattle.fleet_observe.specs.Observations.{OneMeaning, OneObserved, EachOnce};
 
 /// A key is of one name, one kind and one type.
 pub fn one_key()

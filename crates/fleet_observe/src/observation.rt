@@ -1,26 +1,34 @@
-//! Observations.
+//! What an observation is: its parts, their lawful values, its body and its order.
 
 ghost use Rattle.std.specs.Prelude.{◌≡◌, ◌≢◌, ℕ, ◌+◌, ◌≤◌, [], ◌++◌, length, MatchOption, MatchResult, IfOk, OnOk, IfSome};
 ghost use Rattle.fleet_observe.specs.Body.{positive_body, negative_body, AreRdatas, IsDenial};
 ghost use Rattle.fleet_observe.specs.Observation.{expires as end_of, IsNegativeKind, IsObservation};
 ghost use Rattle.fleet_observe.specs.Checks.{denied_kind, denied_type, MakesPositive, IsPositiveFault, MakesNegative, IsNegativeFault};
 ghost use Rattle.fleet_observe.specs.declared.bounds.TheConstants.{LONGEST_BODY};
-ghost use Rattle.fleet_observe.specs.declared.kind.Kind.TheVariants.{Positive};
+ghost use Rattle.fleet_observe.specs.declared.observation.kind.Kind.TheVariants.{Positive};
 
-use crate::body::Body;
+pub(crate) mod body;
+pub(crate) mod fault;
+pub(crate) mod kind;
+pub(crate) mod moment;
+pub(crate) mod order;
+pub(crate) mod soa;
+pub(crate) mod values;
+
 use crate::bounds::{LATEST, LONGEST_DENIAL, LONGEST_LIFE};
-use crate::checks::{
-    are_rdatas, is_data_type, is_denial, is_denied_type, is_life, is_negative_rank, is_rank,
+use crate::observation::body::Body;
+use crate::observation::fault::ObservationFault;
+use crate::observation::kind::Kind;
+use crate::observation::moment::Moment;
+use crate::observation::soa::Soa;
+use crate::observation::values::{
+    are_rdatas, is_data_type, is_denial, is_denial_rank, is_denied_type, is_life, is_rank,
 };
-use crate::fault::ObservationFault;
-use crate::kind::Kind;
-use crate::moment::Moment;
-use crate::soa::Soa;
 use fleet_name::{Name, Octets};
 use std::alloc::{AllocError, Allocator, Global};
 use std::marker::Model;
 
-/// What was observed of a name at a moment. Contracts see it as a `Fact`.
+/// What was observed of a name at a moment. Contracts see it as `ObservationData`.
 #[derive(Drop)]
 pub struct Observation<A: Allocator = Global> {
     kind: Kind,
@@ -125,7 +133,7 @@ impl<A: Allocator> Observation<A> {
             (λ _. MakesNegative name rtype rank life soa.owner soa.rdata)
             (IsNegativeFault name rtype rank life soa.owner soa.rdata) }
     {
-        if !is_negative_rank(rank) {
+        if !is_denial_rank(rank) {
             return Err(ObservationFault::BadRank);
         }
         if !is_life(LONGEST_DENIAL, life) {

@@ -1,19 +1,33 @@
-//! The digest of a reply.
+//! What a reply tells: its digest, the observations that it makes, and how it is relayed.
 
-ghost use Rattle.std.specs.Prelude.{◌≡◌, ℕ, ◌⊎◌, MatchResult};
-ghost use Rattle.std.specs.Bool.{MatchBool};
+ghost use Rattle.std.specs.Prelude.{◌≡◌, ◌↔◌, ℕ, ◌⊎◌, IsTrue, MatchResult};
+ghost use Rattle.fleet_wire.specs.declared.rcode.TheConstants.{NAME_ERROR, NO_ERROR};
 ghost use Rattle.fleet_observe.specs.Meaning.{IsServed, IsFault, IsMeaning};
 
-use crate::checks::is_data_type;
-use crate::summary::{Digest, short, walked};
-use crate::told::{DigestFault, End};
-use crate::walk::has_walk;
+pub(crate) mod authority;
+pub(crate) mod denial;
+pub(crate) mod ending;
+pub(crate) mod names;
+pub(crate) mod observations;
+pub(crate) mod rdatas;
+pub(crate) mod relay;
+pub(crate) mod rows;
+pub(crate) mod rrset;
+pub(crate) mod summary;
+pub(crate) mod walk;
+
+use crate::observation::values::is_data_type;
+use crate::reply::ending::{DigestFault, End};
+use crate::reply::summary::{Digest, digest_along_walk, digest_without_walk};
+use crate::reply::walk::has_walk;
 use fleet_wire::Message;
+use fleet_wire::class::IN;
+use fleet_wire::rcode::{NAME_ERROR, NO_ERROR};
 use std::alloc::Allocator;
 
 /// Whether the message is a reply to a question that is served.
 fn is_served<A: Allocator>(message: &Message<A>) -> bool
-    ensures { MatchBool result (IsServed message.now) (¬ IsServed message.now) }
+    ensures { IsTrue result ↔ IsServed message.now }
 {
     let header = message.header();
     if !header.response {
@@ -23,7 +37,7 @@ fn is_served<A: Allocator>(message: &Message<A>) -> bool
         return false;
     }
     let question = message.question();
-    if question.class != 1 {
+    if question.class != IN {
         return false;
     }
     is_data_type(question.rtype)
@@ -31,12 +45,12 @@ fn is_served<A: Allocator>(message: &Message<A>) -> bool
 
 /// Whether the code leaves the answer to the walk.
 fn is_answered(rcode: u8) -> bool
-    ensures { MatchBool result ((rcode ≡ 0) ⊎ (rcode ≡ 3)) ((¬ (rcode ≡ 0)) × (¬ (rcode ≡ 3))) }
+    ensures { IsTrue result ↔ ((rcode ≡ NO_ERROR) ⊎ (rcode ≡ NAME_ERROR)) }
 {
-    if rcode == 0 {
+    if rcode == NO_ERROR {
         return true;
     }
-    rcode == 3
+    rcode == NAME_ERROR
 }
 
 /// What a reply tells (RFC 1034 3.6.2, RFC 2308 2): the walk from the question's name along aliases
@@ -59,14 +73,14 @@ pub fn digest<A: Allocator + Copy>(alloc: A, message: &Message<A>) -> Result<Dig
     let question = message.question();
     if header.tc {
         let name = question.name.try_clone()?;
-        return Ok(short(alloc, message, name, End::Truncated));
+        return Ok(digest_without_walk(alloc, message, name, End::Truncated));
     }
     if !is_answered(header.rcode) {
         let name = question.name.try_clone()?;
-        return Ok(short(alloc, message, name, End::Code(header.rcode)));
+        return Ok(digest_without_walk(alloc, message, name, End::Code(header.rcode)));
     }
     if !has_walk(message.answer(), question.name.octets(), question.rtype) {
         return Err(DigestFault::BadChain);
     }
-    Ok(walked(alloc, message)?)
+    Ok(digest_along_walk(alloc, message)?)
 }

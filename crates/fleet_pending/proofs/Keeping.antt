@@ -53,7 +53,8 @@ new_is_open w moment id = record {
     one zero (suc j) u v s t a = absurd (let q : None ≡ Some v = t in cc)
     one (suc i) j u v s t a = absurd (let q : None ≡ Some u = s in cc)
 
-pub next_is_open : (e : EntryData) (moment : ℕ) → IsEntryData e → IsEntryData (with_next_upstream e moment)
+pub next_is_open : (e : EntryData) (moment : ℕ) → IsEntryData e
+    → IsEntryData (with_next_upstream e moment)
 next_is_open e moment h = record { some = h.some; few = h.few; waiting = h.waiting; once = h.once }
 
 -- a write of an entry for the same question, under the same id
@@ -124,7 +125,8 @@ pub joins_keeps : (o : PendingData) (i : ℕ) (e f : EntryData) (w : WaiterData)
     → Joins e w r f → IsPendingData (record o { entries = slice_set o.entries i f })
 joins_keeps o i e f w (Ok Again) h t a j = same_keeps o i e f h t j.1
 joins_keeps o i e f w (Ok Joined) h t a j =
-    let k : IsEntryData f = subst IsEntryData (sym j.2) (join_is_open e w (h.open_ones i e t) a j.0 j.1) in
+    let k : IsEntryData f = subst IsEntryData (sym j.2)
+    (join_is_open e w (h.open_ones i e t) a j.0 j.1) in
     set_keeps o i e f h t (ap (λ x. x.id) j.2) (ap (λ x. x.name) j.2) (ap (λ x. x.rtype) j.2) k
     (subst (λ x. x.upstream < o.upstreams) (sym j.2) (h.asking i e t))
 joins_keeps o i e f w (Ok (Send upstream id)) h t a j = absurd j

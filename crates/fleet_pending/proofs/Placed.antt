@@ -1,18 +1,14 @@
 -- What stands where in a list.
 use Rattle.std.proofs.Common.{◌≡◌, ℕ, zero, suc, ◌+◌, ◌<◌, ◌≤◌, ◌⊎◌, inl, inr, List, [], ◌∷◌, ◌++◌, Some, None, length, slice_set, get_or, refl, sym, ◌∙◌, ap, subst, arith, ◌≢◌}
 use Rattle.std.specs.List.{remove}
-use Rattle.std.proofs.lemmas.Option.{slice_get_within, same_Some, slice_get-get_or}
+use Rattle.std.proofs.lemmas.Option.{slice_get_within, same_Some}
 use Rattle.std.proofs.lemmas.Bool.{cases_eq, cases_lt}
-use Rattle.fleet_name.proofs.Lemmas.{at_same, at_set}
+use Rattle.fleet_name.proofs.Lemmas.{at_read, at_same, at_set}
 use Rattle.fleet_name.specs.Places.{At, NoneIs, NoTwo, IsPlace}
 
 -- none of the first n is like this
 abbrev pub NoneBefore : {X : Type 0} → (X → Type 0) → List X → ℕ → Type 0
 NoneBefore {X} P xs n = (i : ℕ) (x : X) → i < n → At xs i x → P x → ⊥
-
-pub at_read : {X : Type 0} (xs : List X) (i : ℕ) (x : X) → i < length xs → x ≡ get_or xs i x
-    → At xs i x
-at_read xs i x l e = slice_get-get_or xs i x l ∙ ap (λ y. Some y) (sym e)
 
 -- what stands in a list with one more
 pub at_push : {X : Type 0} (xs : List X) (j : ℕ) (y x : X) → At (xs ++ y ∷ []) j x

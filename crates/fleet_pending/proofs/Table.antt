@@ -4,13 +4,14 @@ use Rattle.std.specs.List.{remove}
 use Rattle.std.proofs.lemmas.Option.{slice_get_within}
 use Rattle.fleet_wire.specs.Question.{QuestionData as Question}
 use Rattle.fleet_name.specs.Places.{At, NoneIs, IsPlace, Finds}
+use Rattle.fleet_wire.specs.declared.class.TheConstants.{IN}
 use Rattle.fleet_pending.specs.Waiter.{WaiterData}
 use Rattle.fleet_pending.specs.PendingData.{EntryData, PendingData, IsPendingData, UsesId, AsksFor, Matches}
 use Rattle.fleet_pending.specs.Asking.{Joins, Opens, Asks, Settles, Advances, joins, opens, with_next_upstream}
 use Rattle.fleet_pending.specs.declared.answer.Asked.{Asked}
 use Rattle.fleet_pending.specs.declared.answer.PendingFault.{PendingFault}
 use Rattle.fleet_name.proofs.Lemmas.{at_same}
-use Rattle.fleet_pending.proofs.Placed.{at_read}
+use Rattle.fleet_name.proofs.Lemmas.{at_read}
 use Rattle.fleet_pending.proofs.Keeping.{set_keeps, remove_keeps, joins_keeps, opens_keeps, next_is_open}
 
 -- a table for so many upstreams
@@ -52,49 +53,43 @@ removal_keeps u id i es ns r h k n =
 
 -- an entry has the question, and the waiter meets it
 pub asks_there : (u i moment word : ℕ) (o : PendingData) (es : List EntryData) (e f : EntryData)
-    (w : WaiterData) (r : Result Asked PendingFault)
-    → table u es ≡ o → IsAt (AsksFor w.question) es i e → Joins e w r f
+    (v w : WaiterData) (r : Result Asked PendingFault)
+    → table u es ≡ o → v ≡ w → IsAt (AsksFor v.question) es i e → Joins e w r f
     → Asks o w moment word r (table u (slice_set es i f))
-asks_there u i moment word o es e f w r v k j =
-    subst (λ x. Asks x w moment word r (table u (slice_set es i f))) v
-    (joins i e f k.there k.is j refl)
-
-pub meeting_keeps : (u i : ℕ) (es : List EntryData) (e f : EntryData) (w : WaiterData)
-    (r : Result Asked PendingFault)
-    → IsPendingData (table u es) → IsAt (AsksFor w.question) es i e → Joins e w r f
-    → IsPendingData (table u (slice_set es i f))
-meeting_keeps u i es e f w r h k j = joins_keeps (table u es) i e f w r h k.there k.is j
+asks_there u i moment word o es e f v w r q s k j =
+    subst (λ x. Asks x w moment word r (table u (slice_set es i f))) q
+    (joins i e f k.there (subst (λ x. AsksFor x.question e) s k.is) j refl)
 
 -- no entry has the question
-pub asks_anew : (u moment word : ℕ) (o : PendingData) (es rs fs : List EntryData) (w : WaiterData)
-    (r : Result Asked PendingFault)
-    → table u es ≡ o → rs ≡ es → IsPlace (AsksFor w.question) rs None → Opens es w moment word r fs
-    → Asks o w moment word r (table u fs)
-asks_anew u moment word o es rs fs w r v q p j =
-    subst (λ x. Asks x w moment word r (table u fs)) v
-    (opens fs (subst (λ xs. NoneIs (AsksFor w.question) xs) q p) j refl)
+pub asks_anew : (u moment word : ℕ) (o : PendingData) (es rs fs : List EntryData)
+    (v w : WaiterData) (r : Result Asked PendingFault)
+    → table u es ≡ o → v ≡ w → rs ≡ es → IsPlace (AsksFor v.question) rs None
+    → Opens es w moment word r fs → Asks o w moment word r (table u fs)
+asks_anew u moment word o es rs fs v w r q s p n j =
+    subst (λ x. Asks x w moment word r (table u fs)) q
+    (opens fs (subst (λ x. NoneIs (AsksFor x.question) es) s
+    (subst (λ xs. NoneIs (AsksFor v.question) xs) p n)) j refl)
 
-pub opening_keeps : (u moment word : ℕ) (es rs fs : List EntryData) (w : WaiterData)
-    (r : Result Asked PendingFault)
-    → IsPendingData (table u es) → rs ≡ es → IsPlace (AsksFor w.question) rs None
-    → Opens es w moment word r fs → IsPendingData (table u fs)
-opening_keeps u moment word es rs fs w r h q p j =
-    opens_keeps (table u es) w moment word r fs h
-    (subst (λ xs. NoneIs (AsksFor w.question) xs) q p) j
+pub asks_keeps : (o n : PendingData) (w : WaiterData) (moment word : ℕ)
+    (r : Result Asked PendingFault) → IsPendingData o → Asks o w moment word r n → IsPendingData n
+asks_keeps o n w moment word r h (joins i e f t a j q) =
+    subst IsPendingData (sym q) (joins_keeps o i e f w r h t a j)
+asks_keeps o n w moment word r h (opens fs a j q) =
+    subst IsPendingData (sym q) (opens_keeps o w moment word r fs h a j)
 
 -- the entry with the id is not the reply's: none is
 none_matches : (o : PendingData) (u id i : ℕ) (q : Question) (e : EntryData)
     → IsPendingData o → At o.entries i e → UsesId id e
-    → ((e.upstream ≡ u) × AsksFor q e × (q.class ≡ 1) → ⊥) → NoneIs (Matches u id q) o.entries
+    → ((e.upstream ≡ u) × AsksFor q e × (q.class ≡ IN) → ⊥) → NoneIs (Matches u id q) o.entries
 none_matches o u id i q e h t p n j x a m =
     let z : j ≡ i = h.ids j i x e a t (m.0 ∙ sym p) in
     let y : x ≡ e = at_same o.entries i x e (subst (λ k. At o.entries k x) z a) t in
-    n (subst (λ v. (v.upstream ≡ u) × AsksFor q v × (q.class ≡ 1)) y (m.1, m.2, m.3))
+    n (subst (λ v. (v.upstream ≡ u) × AsksFor q v × (q.class ≡ IN)) y (m.1, m.2, m.3))
 
 pub finds_none : (k u id i : ℕ) (o : PendingData) (es : List EntryData) (q : Question)
     (e : EntryData)
     → table k es ≡ o → IsPendingData (table k es) → IsAt (UsesId id) es i e
-    → ((e.upstream ≡ u) × AsksFor q e × (q.class ≡ 1) → ⊥) → NoneIs (Matches u id q) o.entries
+    → ((e.upstream ≡ u) × AsksFor q e × (q.class ≡ IN) → ⊥) → NoneIs (Matches u id q) o.entries
 finds_none k u id i o es q e v h t n =
     subst (λ x. NoneIs (Matches u id q) x.entries) v
     (none_matches (table k es) u id i q e h t.there t.is n)
@@ -102,50 +97,49 @@ finds_none k u id i o es q e v h t n =
 pub finds_some : (k u id i : ℕ) (o : PendingData) (es : List EntryData) (q : Question)
     (e : EntryData)
     → table k es ≡ o → IsAt (UsesId id) es i e
-    → (e.upstream ≡ u) × AsksFor q e × (q.class ≡ 1) → Finds (Matches u id q) o.entries (Some e)
+    → (e.upstream ≡ u) × AsksFor q e × (q.class ≡ IN) → Finds (Matches u id q) o.entries (Some e)
 finds_some k u id i o es q e v t m =
     subst (λ x. Finds (Matches u id q) x.entries (Some e)) v
     (i, t.there, (t.is, m.0, m.1, m.2))
 
--- e was looked at, and d has a next upstream
-pub next_below : (u id i : ℕ) (es : List EntryData) (e d : EntryData)
-    → IsAt (UsesId id) es i e → IsAt (UsesId id) es i d → e.upstream + 1 < u → d.upstream + 1 < u
-next_below u id i es e d k m l =
-    let n : e.upstream ≡ d.upstream = ap (λ x. x.upstream) (at_same es i e d k.there m.there) in
+-- e was looked at, as v, and d has a next upstream
+pub next_below : (u id i : ℕ) (es : List EntryData) (v e d : EntryData)
+    → v ≡ e → IsAt (UsesId id) es i e → IsAt (UsesId id) es i d → v.upstream + 1 < u
+    → d.upstream + 1 < u
+next_below u id i es v e d s k m l =
+    let n : v.upstream ≡ d.upstream =
+    ap (λ x. x.upstream) (s ∙ at_same es i e d k.there m.there) in
     omega (arith, n)
 
--- e was looked at, and d changed to f
-pub advances : (u id i moment : ℕ) (o : PendingData) (es : List EntryData) (e d f : EntryData)
-    → table u es ≡ o → IsAt (UsesId id) es i e → IsAt (UsesId id) es i d → e.upstream + 1 < u
-    → f ≡ with_next_upstream d moment → Advances o id moment true (table u (slice_set es i f))
-advances u id i moment o es e d f v k m l n =
-    let b = next_below u id i es e d k m l in
-    let s : Advances (table u es) id moment true (table u (slice_set es i f)) =
+-- e was looked at, as v, and d changed to f
+pub advances : (u id i moment : ℕ) (o : PendingData) (es : List EntryData) (v e d f : EntryData)
+    → table u es ≡ o → v ≡ e → IsAt (UsesId id) es i e → IsAt (UsesId id) es i d
+    → v.upstream + 1 < u → f ≡ with_next_upstream d moment
+    → Advances o id moment true (table u (slice_set es i f))
+advances u id i moment o es v e d f q s k m l n =
+    let b = next_below u id i es v e d s k m l in
+    let a : Advances (table u es) id moment true (table u (slice_set es i f)) =
     (i, (d, m.there, m.is, b, ap (λ x. table u (slice_set es i x)) n)) in
-    subst (λ x. Advances x id moment true (table u (slice_set es i f))) v s
+    subst (λ x. Advances x id moment true (table u (slice_set es i f))) q a
 
-pub advance_keeps : (u id i moment : ℕ) (es : List EntryData) (e d f : EntryData)
-    → IsPendingData (table u es) → IsAt (UsesId id) es i e → IsAt (UsesId id) es i d
-    → e.upstream + 1 < u → f ≡ with_next_upstream d moment
-    → IsPendingData (table u (slice_set es i f))
-advance_keeps u id i moment es e d f h k m l n =
-    let g = with_next_upstream d moment in
-    let w = next_is_open d moment (h.open_ones i d m.there) in
-    let b = next_below u id i es e d k m l in
-    subst (λ x. IsPendingData (table u (slice_set es i x))) (sym n)
-    (set_keeps (table u es) i d g h m.there refl refl refl w b)
+pub advance_keeps : (o n : PendingData) (id moment : ℕ) → IsPendingData o
+    → Advances o id moment true n → IsPendingData n
+advance_keeps o n id moment h (i, (e, t, p, b, q)) =
+    let w = next_is_open e moment (h.open_ones i e t) in
+    subst IsPendingData (sym q)
+    (set_keeps o i e (with_next_upstream e moment) h t refl refl refl w b)
 
 -- the entry with the id has no further upstream
-pub stays : (u id i : ℕ) (o : PendingData) (es : List EntryData) (e : EntryData)
-    → table u es ≡ o → IsPendingData (table u es) → IsAt (UsesId id) es i e → u ≤ e.upstream + 1
-    → NoneIs (λ x. UsesId id x × (x.upstream + 1 < o.upstreams)) o.entries
-stays u id i o es e v h k l =
-    subst (λ y. NoneIs (λ x. UsesId id x × (x.upstream + 1 < y.upstreams)) y.entries) v
+pub stays : (u id i : ℕ) (o : PendingData) (es : List EntryData) (v e : EntryData)
+    → table u es ≡ o → v ≡ e → IsPendingData (table u es) → IsAt (UsesId id) es i e
+    → u ≤ v.upstream + 1 → NoneIs (λ x. UsesId id x × (x.upstream + 1 < o.upstreams)) o.entries
+stays u id i o es v e q s h k l =
+    subst (λ y. NoneIs (λ x. UsesId id x × (x.upstream + 1 < y.upstreams)) y.entries) q
     (λ j x a m. go j x a m.0 m.1)
   where
     go : (j : ℕ) (x : EntryData) → At es j x → UsesId id x → x.upstream + 1 < u → ⊥
     go j x a p b =
         let z : j ≡ i = h.ids j i x e a k.there (p ∙ sym k.is) in
         let y : x ≡ e = at_same es i x e (subst (λ n. At es n x) z a) k.there in
-        let n : x.upstream ≡ e.upstream = ap (λ d. d.upstream) y in
+        let n : x.upstream ≡ v.upstream = ap (λ d. d.upstream) (y ∙ sym s) in
         omega (arith, n, b)

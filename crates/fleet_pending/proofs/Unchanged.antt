@@ -1,7 +1,7 @@
 -- What a waiter that was not taken leaves.
 use Rattle.std.proofs.Common.{◌≡◌, ℕ, List, Result, Ok, Err, OnErr, slice_set, ◌∙◌, ap}
 use Rattle.fleet_pending.specs.Waiter.{WaiterData}
-use Rattle.fleet_pending.specs.Asking.{Asks, Joins, Opens, joins, opens, asked_or_fault}
+use Rattle.fleet_pending.specs.Asking.{Asks, Joins, Opens, joins, opens, ask_result}
 use Rattle.fleet_pending.specs.PendingData.{EntryData, PendingData}
 use Rattle.fleet_name.proofs.Lemmas.{set_same}
 use Rattle.fleet_pending.specs.declared.answer.Asked.{Asked}
@@ -29,6 +29,6 @@ not_asked o n w moment word x (opens fs a j q) =
     q ∙ ap (λ xs. record o { entries = xs }) (not_opened o.entries fs w moment word x j)
 
 pub unchanged : {A : Type 0} (o n : PendingData) (w : WaiterData) (moment word : ℕ)
-    (r : Result Asked (Unasked A)) → Asks o w moment word (asked_or_fault r) n → OnErr r (n ≡ o)
+    (r : Result Asked (Unasked A)) → Asks o w moment word (ask_result r) n → OnErr r (n ≡ o)
 unchanged o n w moment word (Ok a) h = tt
 unchanged o n w moment word (Err u) h = not_asked o n w moment word u.fault h

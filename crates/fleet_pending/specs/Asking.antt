@@ -13,9 +13,9 @@ use Rattle.fleet_pending.specs.declared.answer.PendingFault.TheVariants.{Full, W
 use Rattle.fleet_pending.specs.declared.answer.Unasked.{Unasked}
 
 -- what asking answered, without the waiter that comes back
-abbrev pub asked_or_fault : {A : Type 0} → Result Asked (Unasked A) → Result Asked PendingFault
-asked_or_fault (Ok a) = Ok a
-asked_or_fault (Err u) = Err u.fault
+abbrev pub ask_result : {A : Type 0} → Result Asked (Unasked A) → Result Asked PendingFault
+ask_result (Ok a) = Ok a
+ask_result (Err u) = Err u.fault
 
 abbrev pub with_waiter : EntryData → WaiterData → EntryData
 with_waiter e w = record e { waiters = e.waiters ++ w ∷ [] }

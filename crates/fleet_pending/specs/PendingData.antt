@@ -1,6 +1,7 @@
 -- The questions that are open.
 use Rattle.std.specs.Prelude.{◌≡◌, ℕ, ◌<◌, ◌≤◌, List, length}
 use Rattle.fleet_wire.specs.Question.{QuestionData}
+use Rattle.fleet_wire.specs.declared.class.TheConstants.{IN}
 use Rattle.fleet_pending.specs.Waiter.{WaiterData, SameAsker}
 use Rattle.fleet_pending.specs.declared.bounds.TheConstants.{MOST_ENTRIES, MOST_WAITERS, MOST_UPSTREAMS}
 use Rattle.fleet_name.specs.Places.{At, NoTwo}
@@ -25,7 +26,7 @@ UsesId id e = e.id ≡ id
 abbrev pub AsksFor : QuestionData → EntryData → Type 0
 AsksFor q e = (e.name ≡ q.name) × (e.rtype ≡ q.rtype)
 
--- at least one waiter and not too many, each for the entry's name and type, and none twice
+-- 1 to MOST_WAITERS waiters, each for the entry's name and type, and none twice
 pub record IsEntryData (e : EntryData) : Type 0 where
   pub some : 0 < length e.waiters
   pub few : length e.waiters ≤ MOST_WAITERS
@@ -38,7 +39,7 @@ SameId a b = a.id ≡ b.id
 abbrev pub SameQuestion : EntryData → EntryData → Type 0
 SameQuestion a b = (a.name ≡ b.name) × (a.rtype ≡ b.rtype)
 
--- not too many open questions, no two with the same id or the same name and type
+-- at most MOST_ENTRIES open questions, no two with the same id or the same name and type
 pub record IsPendingData (o : PendingData) : Type 0 where
   pub ids : NoTwo SameId o.entries
   pub questions : NoTwo SameQuestion o.entries
@@ -50,4 +51,4 @@ pub record IsPendingData (o : PendingData) : Type 0 where
 
 -- the entry that a reply from this upstream, under this id and with this question, is for
 abbrev pub Matches : ℕ → ℕ → QuestionData → EntryData → Type 0
-Matches upstream id q e = UsesId id e × (e.upstream ≡ upstream) × AsksFor q e × (q.class ≡ 1)
+Matches upstream id q e = UsesId id e × (e.upstream ≡ upstream) × AsksFor q e × (q.class ≡ IN)

@@ -9,11 +9,11 @@ use Rattle.fleet_pending.specs.declared.answer.Asked.{Asked}
 use Rattle.fleet_pending.specs.declared.answer.PendingFault.{PendingFault}
 use Rattle.fleet_pending.specs.declared.answer.PendingFault.TheVariants.{Full, WaitersFull}
 
--- the question is new, and the most are open
+-- the question is new, and MOST_ENTRIES are open
 abbrev pub NoRoom : PendingData → WaiterData → Type 0
 NoRoom o w = NoneIs (AsksFor w.question) o.entries × (MOST_ENTRIES ≤ length o.entries)
 
--- the most wait for the question, and this asker is none of them
+-- MOST_WAITERS wait for the question, and this asker is none of them
 abbrev pub NoPlace : PendingData → WaiterData → Type 0
 NoPlace o w = (i : ℕ)
     × ((e : EntryData) × At o.entries i e × AsksFor w.question e × (Waits w e.waiters → ⊥)

@@ -1,7 +1,7 @@
 //! Open questions.
 
 ghost use Rattle.std.specs.Prelude.{◌≡◌, IfErr, MatchResult};
-ghost use Rattle.fleet_pending.specs.Asking.{Joins, asked_or_fault, new_entry};
+ghost use Rattle.fleet_pending.specs.Asking.{Joins, ask_result, new_entry};
 
 use crate::answer::{Asked, PendingFault, Unasked};
 use crate::bounds::{MOST_WAITERS, TRY_SECONDS};
@@ -76,7 +76,7 @@ pub(crate) fn join<A: Allocator>(
     entry: &mut Entry<A>,
     waiter: Waiter<A>,
 ) -> Result<Asked, Unasked<A>>
-    ensures joins { Joins entry.old waiter (asked_or_fault result) entry.new }
+    ensures joins { Joins entry.old waiter (ask_result result) entry.new }
     ensures back { IfErr result (λ u. u.waiter ≡ waiter) }
 {
     if entry.waiters.has(&waiter) {

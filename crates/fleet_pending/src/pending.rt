@@ -1,11 +1,11 @@
 //! The table of open questions.
 
-ghost use Rattle.std.specs.Prelude.{◌≡◌, ◌<◌, ◌≤◌, [], IfErr, IfSome, OnErr, MatchOption, map, option_copied, IsTrue, ◌↔◌};
-ghost use Rattle.fleet_wire.specs.Question.{question_data};
-ghost use Rattle.fleet_pending.specs.Asking.{Asks, Opens, Settles, Advances, asked_or_fault, with_next_upstream};
+ghost use Rattle.std.specs.Prelude.{◌≡◌, ◌<◌, ◌≤◌, [], IfErr, IfSome, OnErr, MatchOption, option_copied, IsTrue, ◌↔◌};
+ghost use Rattle.fleet_pending.specs.Asking.{Asks, Opens, Settles, Advances, ask_result, with_next_upstream};
 ghost use Rattle.fleet_pending.specs.Due.{Dues, due_at, due_entry};
 ghost use Rattle.fleet_pending.specs.PendingData.{UsesId, AsksFor, Matches, IsEntryData, IsPendingData};
 ghost use Rattle.fleet_pending.specs.declared.bounds.TheConstants.{MOST_UPSTREAMS};
+ghost use Rattle.fleet_wire.specs.declared.class.TheConstants.{IN};
 ghost use Rattle.fleet_name.specs.Places.{Finds};
 
 use crate::answer::{Asked, Due, PendingFault, Unasked};
@@ -15,6 +15,7 @@ use crate::search::{asks_for, first_due_entry, first_free_id, place_of_id, place
 use crate::waiter::Waiter;
 use fleet_observe::Moment;
 use fleet_wire::Question;
+use fleet_wire::class::IN;
 use std::alloc::{Allocator, Global};
 use std::marker::Model;
 
@@ -43,7 +44,7 @@ impl<A: Allocator> Pending<A> {
         requires some { 1 ≤ upstreams }
         requires few { upstreams ≤ MOST_UPSTREAMS }
         ensures empty { result ≡ record { upstreams = upstreams; entries = [] } }
-        ensures outstanding { IsPendingData result }
+        ensures lawful { IsPendingData result }
     {
         Pending {
             upstreams,
@@ -64,11 +65,11 @@ impl<A: Allocator> Pending<A> {
     pub fn ask(&mut self, waiter: Waiter<A>, moment: Moment, word: u16) -> Result<Asked, Unasked<A>>
     where
         A: Copy,
-        ensures asks { Asks self.old waiter moment word (asked_or_fault result) self.new }
+        ensures asks { Asks self.old waiter moment word (ask_result result) self.new }
         ensures back { IfErr result (λ u. u.waiter ≡ waiter) }
         ensures unchanged { OnErr result (self.new ≡ self.old) }
         ensures upstreams { self.new.upstreams ≡ self.old.upstreams }
-        ensures outstanding { IsPendingData self.new }
+        ensures lawful { IsPendingData self.new }
     {
         match place_of_question(self.entries.as_slice(), &waiter.question) {
             Some(i) => join(&mut self.entries[i], waiter),
@@ -80,7 +81,7 @@ impl<A: Allocator> Pending<A> {
     pub fn entry(&self, id: u16) -> Option<&Entry<A>>
         ensures finds { Finds (UsesId id) self.now.entries (option_copied result) }
         ensures is_open { IfSome result (λ e. IsEntryData e.now) }
-        ensures outstanding { IsPendingData self.now }
+        ensures lawful { IsPendingData self.now }
     {
         let i = place_of_id(self.entries.as_slice(), id)?;
         Some(&self.entries[i])
@@ -89,10 +90,10 @@ impl<A: Allocator> Pending<A> {
     /// The entry that a reply is for: it asks this upstream now, under this id, for this name and
     /// type, and the reply's question is of class 1 (IN), whatever its waiters' classes are.
     pub fn find(&self, upstream: u8, id: u16, question: &Question<A>) -> Option<&Entry<A>>
-        ensures finds { Finds (Matches upstream id (question_data question.now)) self.now.entries
+        ensures finds { Finds (Matches upstream id question.now) self.now.entries
             (option_copied result) }
         ensures is_open { IfSome result (λ e. IsEntryData e.now) }
-        ensures outstanding { IsPendingData self.now }
+        ensures lawful { IsPendingData self.now }
     {
         let i = place_of_id(self.entries.as_slice(), id)?;
         let entry = &self.entries[i];
@@ -108,7 +109,7 @@ impl<A: Allocator> Pending<A> {
         ensures settles { Settles self.old id result self.new }
         ensures is_open { IfSome result (λ e. IsEntryData e) }
         ensures upstreams { self.new.upstreams ≡ self.old.upstreams }
-        ensures outstanding { IsPendingData self.new }
+        ensures lawful { IsPendingData self.new }
     {
         let i = place_of_id(self.entries.as_slice(), id)?;
         Some(self.entries.remove(i))
@@ -117,7 +118,7 @@ impl<A: Allocator> Pending<A> {
     /// Removes all entries, as of a new table; the room is kept.
     pub fn clear(&mut self)
         ensures cleared { self.new ≡ record self.old { entries = [] } }
-        ensures outstanding { IsPendingData self.new }
+        ensures lawful { IsPendingData self.new }
     {
         self.entries.clear();
     }
@@ -130,7 +131,7 @@ impl<A: Allocator> Pending<A> {
         ensures is_open { IfSome result (λ d. IsEntryData (due_entry d)) }
         ensures count { MatchOption result (due_at self.now moment ≡ 0)
             (λ _. 0 < due_at self.now moment) }
-        ensures outstanding { IsPendingData self.now }
+        ensures lawful { IsPendingData self.now }
     {
         let entry = first_due_entry(self.entries.as_slice(), moment.value())?;
         let id = entry.id;
@@ -151,7 +152,7 @@ impl<A: Allocator> Pending<A> {
     pub fn advance(&mut self, id: u16, moment: Moment) -> bool
         ensures advances { Advances self.old id moment result self.new }
         ensures upstreams { self.new.upstreams ≡ self.old.upstreams }
-        ensures outstanding { IsPendingData self.new }
+        ensures lawful { IsPendingData self.new }
     {
         match place_of_id(self.entries.as_slice(), id) {
             Some(i) => {
@@ -181,10 +182,10 @@ fn move_on<A: Allocator>(entry: &mut Entry<A>, moment: Moment)
 fn matches<A: Allocator>(entry: &Entry<A>, upstream: u8, question: &Question<A>) -> bool
     ensures { IsTrue result
         ↔ ((entry.now.upstream ≡ upstream)
-        × AsksFor (question_data question.now) entry.now
-        × (question.now.class ≡ 1)) }
+        × AsksFor question.now entry.now
+        × (question.now.class ≡ IN)) }
 {
-    entry.upstream == upstream && question.class == 1 && asks_for(entry, question)
+    entry.upstream == upstream && question.class == IN && asks_for(entry, question)
 }
 
 /// The waiter's question is new.
@@ -194,7 +195,7 @@ fn add_entry<A: Allocator + Copy>(
     moment: Moment,
     word: u16,
 ) -> Result<Asked, Unasked<A>>
-    ensures opens { Opens entries.old.items waiter moment word (asked_or_fault result)
+    ensures opens { Opens entries.old.items waiter moment word (ask_result result)
         entries.new.items }
     ensures back { IfErr result (λ u. u.waiter ≡ waiter) }
 {

@@ -1,7 +1,6 @@
 //! Where the entries of a table are.
 
 ghost use Rattle.std.specs.Prelude.{◌<◌, ◌≤◌, ◌↔◌, IsTrue, MatchOption, length};
-ghost use Rattle.fleet_wire.specs.Question.{question_data};
 ghost use Rattle.fleet_pending.specs.FreeId.{AreTaken, IsFirstFree};
 ghost use Rattle.fleet_pending.specs.Due.{IsFirstDue, NoneDue, IsBefore};
 ghost use Rattle.fleet_pending.specs.PendingData.{UsesId, AsksFor};
@@ -30,7 +29,7 @@ pub(crate) fn place_of_question<A: Allocator>(
     entries: &[Entry<A>],
     question: &Question<A>,
 ) -> Option<usize>
-    ensures { IsPlace (AsksFor (question_data question.now)) entries.now result }
+    ensures { IsPlace (AsksFor question.now) entries.now result }
 {
     for (i, entry) in entries.iter().enumerate() {
         if asks_for(entry, question) {
@@ -42,7 +41,7 @@ pub(crate) fn place_of_question<A: Allocator>(
 
 /// Whether the entry is for a question of this name and type.
 pub(crate) fn asks_for<A: Allocator>(entry: &Entry<A>, question: &Question<A>) -> bool
-    ensures { IsTrue result ↔ AsksFor (question_data question.now) entry.now }
+    ensures { IsTrue result ↔ AsksFor question.now entry.now }
 {
     entry.rtype == question.rtype && entry.name.same(&question.name)
 }

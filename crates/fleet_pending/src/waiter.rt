@@ -29,7 +29,5 @@ impl<A: Allocator> Model for Waiter<A> {
 
     ghost Value = { WaiterData };
 
-    ghost use Rattle.fleet_wire.specs.Question.{question_data};
-
-    ghost view = { λ w. record { from = w.from; id = w.id; question = question_data w.question } };
+    ghost view = { λ w. record { from = w.from; id = w.id; question = w.question } };
 }

@@ -1,20 +1,20 @@
 //! Waiters in order of joining.
 
-ghost use Rattle.std.specs.Prelude.{◌≡◌, ◌++◌, ◌∷◌, [], ◌↔◌, IsTrue, IfErr, OnErr, OnOk, MatchResult, length, map};
+ghost use Rattle.std.specs.Prelude.{◌≡◌, ◌++◌, ◌∷◌, [], ◌↔◌, IsTrue, IfErr, OnErr, OnOk, MatchResult, length};
 ghost use Rattle.fleet_pending.specs.Waiter.{SameAsker, Waits};
 
 use crate::waiter::Waiter;
 use std::alloc::{AllocFailed, Allocator, Global};
 use std::marker::Model;
 
-/// Waiters in order of joining, seen by contracts as the list of what they are.
+/// Waiters in order of joining, seen by contracts as their list.
 #[derive(Drop)]
 pub struct Waiters<A: Allocator = Global> {
     items: Vec<Waiter<A>, A>,
 }
 
 impl<A: Allocator> Model for Waiters<A> {
-    ghost use Rattle.std.specs.Prelude.{List, map};
+    ghost use Rattle.std.specs.Prelude.{List};
     ghost use Rattle.fleet_pending.specs.Waiter.{WaiterData};
 
     ghost Value = { List WaiterData };

@@ -1,7 +1,9 @@
 -- What the loops of a server keep.
 use Rattle.std.specs.Prelude.{◌≡◌, ℕ, ◌+◌, ◌<◌, ◌≤◌, max, Bool, true, false, List, length, Option, Some, None, Result}
 use Rattle.rand_core.specs.Stream.{Stream}
+use Rattle.fleet_pending.specs.declared.bounds.TheConstants.{MOST_ENTRIES}
 use Rattle.fleet_pending.specs.Due.{due_at}
+use Rattle.fleet_site.specs.declared.bounds.TheConstants.{MOST_COUNTED}
 use Rattle.fleet_site.specs.OutcomeData.{OutcomeData}
 use Rattle.fleet_site.specs.SiteData.{SiteData}
 use Rattle.fleet_site.specs.SiteModel.{SiteModel}
@@ -16,11 +18,11 @@ use Rattle.fleet_site.specs.declared.report.Report.{Report}
 -- afterwards
 pub record Stepped (x : Deal) (a : Result OutcomeData SiteFault) (old new : SiteData) : Type 0 where
   pub step : (m : SiteModel) → StandsFor old m → (n : SiteModel) × Deals m x a n × StandsFor new n
-  pub setting : new.setting ≡ old.setting
+  pub config : new.config ≡ old.config
 
 -- how many entries of a site are due at a moment, which raises its clock
 abbrev pub due_by : SiteData → ℕ → ℕ
-due_by s t = due_at s.outstanding (max s.clock t)
+due_by s t = due_at s.pending (max s.clock t)
 
 -- how many ticks there can be yet
 abbrev pub room : Bool → ℕ → ℕ
@@ -33,11 +35,12 @@ ticks_left true due = due + 1
 ticks_left false due = 0
 
 -- some ticks of a turn
-pub record Ticking (old new : PortState) (t : ℕ) (more : Bool) (site after : SiteData) (r q : Report)
+pub record Ticking (old new : PortState) (t : ℕ) (more : Bool) (site after : SiteData)
+    (r q : Report)
     : Type 0 where
   pub acts : List Act
   pub ticks : Ticks t acts more
-  pub few : length acts + room more (due_by after t) ≤ 256
+  pub few : length acts + room more (due_by after t) ≤ MOST_ENTRIES
   pub took : Took old new site after r q acts
 
 -- the moments that a clock has left are those from n on
@@ -59,8 +62,8 @@ pub record Serves (old new : PortState) (moments : Option (ℕ → ℕ)) (s : St
 -- what a port counts as failures is what a report counts as lost and faults, where no count is at
 -- its end
 pub record CountsFailures (old new : ℕ) (r q : Report) : Type 0 where
-  pub lost : q.lost < 18446744073709551615 → r.lost ≤ q.lost
-  pub faults : q.faults < 18446744073709551615 → r.faults ≤ q.faults
-  pub failed : new < 18446744073709551615 → old ≤ new
-  pub sum : q.lost < 18446744073709551615 → q.faults < 18446744073709551615
-      → new < 18446744073709551615 → new + (r.lost + r.faults) ≡ old + (q.lost + q.faults)
+  pub lost : q.lost < MOST_COUNTED → r.lost ≤ q.lost
+  pub faults : q.faults < MOST_COUNTED → r.faults ≤ q.faults
+  pub failed : new < MOST_COUNTED → old ≤ new
+  pub sum : q.lost < MOST_COUNTED → q.faults < MOST_COUNTED
+      → new < MOST_COUNTED → new + (r.lost + r.faults) ≡ old + (q.lost + q.faults)

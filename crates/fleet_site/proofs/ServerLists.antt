@@ -1,5 +1,5 @@
 -- Lists of calls of a port, and of what is sent.
-use Rattle.std.proofs.Common.{◌≡◌, ℕ, ◌+◌, ◌<◌, List, [], ◌∷◌, ◌++◌, Bool, Option, Some, None, Result, Ok, refl, sym, ap, subst, ◌∙◌, append_assoc, length, take, get_or, map, is_some}
+use Rattle.std.proofs.Common.{◌≡◌, ℕ, ◌+◌, ◌<◌, List, [], ◌∷◌, ◌++◌, Option, Some, None, Ok, refl, sym, ap, subst, ◌∙◌, append_assoc, length, take, get_or, map, is_some}
 use Rattle.std.proofs.lemmas.List.{append-nil, map-append, take_more}
 use Rattle.fleet_pending.specs.declared.waiter.Addr.{Addr}
 use Rattle.fleet_site.specs.PacketData.{PacketData}
@@ -8,10 +8,10 @@ use Rattle.fleet_site.specs.OutcomeData.{OutcomeData, nothing}
 use Rattle.fleet_site.specs.PortRecord.{PortCall, Received, NoDatagram, Fault, PacketSent, PacketLost, NotesAll, PortState, Made, failures_of, one_more}
 use Rattle.fleet_site.specs.Sending.{AreSent, count_call, count_calls, count_refusal_in, Sends, CarriesOut, to_each, to_peers}
 use Rattle.fleet_site.specs.declared.outcome.Packet.{Packet}
-use Rattle.fleet_site.specs.declared.outcome.SiteFault.{SiteFault}
 use Rattle.fleet_site.specs.declared.report.Report.{Report}
 
-pub failures_of-append : (cs ds : List PortCall) (n : ℕ) → failures_of (cs ++ ds) n ≡ failures_of ds (failures_of cs n)
+pub failures_of-append : (cs ds : List PortCall) (n : ℕ)
+    → failures_of (cs ++ ds) n ≡ failures_of ds (failures_of cs n)
 failures_of-append [] ds n = refl
 failures_of-append (Received from octets ∷ cs) ds n = failures_of-append cs ds n
 failures_of-append (NoDatagram ∷ cs) ds n = failures_of-append cs ds n
@@ -19,11 +19,13 @@ failures_of-append (Fault ∷ cs) ds n = failures_of-append cs ds (one_more n)
 failures_of-append (PacketSent s ∷ cs) ds n = failures_of-append cs ds n
 failures_of-append (PacketLost s ∷ cs) ds n = failures_of-append cs ds (one_more n)
 
-pub counting-append : (cs ds : List PortCall) (r : Report) → count_calls (cs ++ ds) r ≡ count_calls ds (count_calls cs r)
+pub counting-append : (cs ds : List PortCall) (r : Report)
+    → count_calls (cs ++ ds) r ≡ count_calls ds (count_calls cs r)
 counting-append [] ds r = refl
 counting-append (c ∷ cs) ds r = counting-append cs ds (count_call c r)
 
-sent_both : (ss ts : List PacketData) (cs ds : List PortCall) → AreSent ss cs → AreSent ts ds → AreSent (ss ++ ts) (cs ++ ds)
+sent_both : (ss ts : List PacketData) (cs ds : List PortCall) → AreSent ss cs → AreSent ts ds
+    → AreSent (ss ++ ts) (cs ++ ds)
 sent_both [] ts [] ds h k = k
 sent_both [] ts (c ∷ cs) ds h k = absurd h
 sent_both (s ∷ ss) ts [] ds h k = absurd h
@@ -33,7 +35,8 @@ notes_none : (old : Option (List PortCall)) → NotesAll old [] old
 notes_none None = tt
 notes_none (Some told) = (told, refl, sym (append-nil told))
 
-notes_both : (old mid new : Option (List PortCall)) (cs ds : List PortCall) → NotesAll old cs mid → NotesAll mid ds new → NotesAll old (cs ++ ds) new
+notes_both : (old mid new : Option (List PortCall)) (cs ds : List PortCall) → NotesAll old cs mid
+    → NotesAll mid ds new → NotesAll old (cs ++ ds) new
 notes_both old mid None cs ds h k = tt
 notes_both old None (Some now) cs ds h k = let e : None ≡ Some k.0 = k.1 in cc
 notes_both old (Some mid) (Some now) cs ds h k =
@@ -43,7 +46,8 @@ notes_both old (Some mid) (Some now) cs ds h k =
 pub made_none : (old : PortState) → Made old old []
 made_none old = record { told = notes_none old.told; failed = refl }
 
-pub made_both : (old mid new : PortState) (cs ds : List PortCall) → Made old mid cs → Made mid new ds → Made old new (cs ++ ds)
+pub made_both : (old mid new : PortState) (cs ds : List PortCall) → Made old mid cs
+    → Made mid new ds → Made old new (cs ++ ds)
 made_both old mid new cs ds a b = record {
   told = notes_both old.told mid.told new.told cs ds a.told b.told;
   failed = b.failed ∙ ap (failures_of ds) a.failed ∙ sym (failures_of-append cs ds old.failed);
@@ -61,41 +65,62 @@ sends_more old mid new ss ts us r q p e a b = record {
   report = b.report ∙ ap (count_calls b.calls) a.report ∙ sym (counting-append a.calls b.calls r);
 }
 
-to_each-append : (frame : List ℕ) (ps qs : List Addr) → to_each frame (ps ++ qs) ≡ to_each frame ps ++ to_each frame qs
+to_each-append : (frame : List ℕ) (ps qs : List Addr)
+    → to_each frame (ps ++ qs) ≡ to_each frame ps ++ to_each frame qs
 to_each-append frame [] qs = refl
-to_each-append frame (p ∷ ps) qs = ap (λ xs. record { to = p; octets = frame } ∷ xs) (to_each-append frame ps qs)
+to_each-append frame (p ∷ ps) qs =
+    ap (λ xs. record { to = p; octets = frame } ∷ xs) (to_each-append frame ps qs)
 
-to_peers-append : (peers : List Addr) (fs gs : List (List ℕ)) → to_peers peers (fs ++ gs) ≡ to_peers peers fs ++ to_peers peers gs
+to_peers-append : (peers : List Addr) (fs gs : List (List ℕ))
+    → to_peers peers (fs ++ gs) ≡ to_peers peers fs ++ to_peers peers gs
 to_peers-append peers [] gs = refl
-to_peers-append peers (f ∷ fs) gs = ap (λ xs. to_each f peers ++ xs) (to_peers-append peers fs gs) ∙ sym (append_assoc (to_each f peers) (to_peers peers fs) (to_peers peers gs))
+to_peers-append peers (f ∷ fs) gs =
+    ap (λ xs. to_each f peers ++ xs) (to_peers-append peers fs gs)
+    ∙ sym (append_assoc (to_each f peers) (to_peers peers fs) (to_peers peers gs))
 
-pub packets_more : {A : Type 0} (ps : List (Packet A)) (i : ℕ) (p : Packet A) → i < length ps → p ≡ get_or ps i p → map packet_data (take (i + 1) ps) ≡ map packet_data (take i ps) ++ packet_data p ∷ []
-packets_more ps i p h e = ap (map packet_data) (take_more ps i p h) ∙ map-append packet_data (take i ps) (get_or ps i p ∷ []) ∙ ap (λ x. map packet_data (take i ps) ++ packet_data x ∷ []) (sym e)
+pub packets_more : {A : Type 0} (ps : List (Packet A)) (i : ℕ) (p : Packet A) → i < length ps
+    → p ≡ get_or ps i p → map packet_data (take (i + 1) ps) ≡ map packet_data (take i ps)
+    ++ packet_data p ∷ []
+packets_more ps i p h e =
+    ap (map packet_data) (take_more ps i p h) ∙ map-append packet_data (take i ps)
+    (get_or ps i p ∷ []) ∙ ap (λ x. map packet_data (take i ps) ++ packet_data x ∷ []) (sym e)
 
 pub to_each_more : (frame : List ℕ) (ps : List Addr) (i : ℕ) (d : Addr) → i < length ps
-    → to_each frame (take (i + 1) ps) ≡ to_each frame (take i ps) ++ record { to = get_or ps i d; octets = frame } ∷ []
-to_each_more frame ps i d h = ap (to_each frame) (take_more ps i d h) ∙ to_each-append frame (take i ps) (get_or ps i d ∷ [])
+    → to_each frame (take (i + 1) ps) ≡ to_each frame (take i ps)
+    ++ record { to = get_or ps i d; octets = frame } ∷ []
+to_each_more frame ps i d h =
+    ap (to_each frame) (take_more ps i d h) ∙ to_each-append frame (take i ps) (get_or ps i d ∷ [])
 
-pub to_peers_more : (peers : List Addr) (fs : List (List ℕ)) (i : ℕ) (f : List ℕ) → i < length fs → f ≡ get_or fs i f
+pub to_peers_more : (peers : List Addr) (fs : List (List ℕ)) (i : ℕ) (f : List ℕ) → i < length fs
+    → f ≡ get_or fs i f
     → to_peers peers (take (i + 1) fs) ≡ to_peers peers (take i fs) ++ to_each f peers
 to_peers_more peers fs i f h e =
-    let a : take (i + 1) fs ≡ take i fs ++ f ∷ [] = take_more fs i f h ∙ ap (λ (x : List ℕ). take i fs ++ x ∷ []) (sym e) in
-    ap (to_peers peers) a ∙ to_peers-append peers (take i fs) (f ∷ []) ∙ ap (λ xs. to_peers peers (take i fs) ++ xs) (append-nil (to_each f peers))
+    let a : take (i + 1) fs ≡ take i fs ++ f ∷ [] =
+    take_more fs i f h ∙ ap (λ (x : List ℕ). take i fs ++ x ∷ []) (sym e) in
+    ap (to_peers peers) a ∙ to_peers-append peers (take i fs) (f ∷ [])
+    ∙ ap (λ xs. to_peers peers (take i fs) ++ xs) (append-nil (to_each f peers))
 
-pub carries : (old mid new : PortState) (peers : List Addr) (e : OutcomeData) (ss ts : List PacketData) (r q p u : Report)
-    → ss ≡ e.packets → ts ≡ to_peers peers e.frames → q ≡ count_refusal_in (is_some e.refused) r → Sends old mid ss q p → Sends mid new ts p u
+pub carries : (old mid new : PortState) (peers : List Addr) (e : OutcomeData)
+    (ss ts : List PacketData) (r q p u : Report)
+    → ss ≡ e.packets → ts ≡ to_peers peers e.frames → q ≡ count_refusal_in (is_some e.refused) r
+    → Sends old mid ss q p → Sends mid new ts p u
     → CarriesOut old new peers (Ok e) r u
 carries old mid new peers e ss ts r q p u d k i a b =
     let all = sends_more old mid new ss ts (ss ++ ts) q p u refl a b in
     record {
       calls = all.calls;
       made = all.made;
-      sent = subst (λ (xs : List PacketData). AreSent xs all.calls) (ap (λ (xs : List PacketData). xs ++ ts) d ∙ ap (λ (xs : List PacketData). e.packets ++ xs) k) all.sent;
+      sent = subst (λ (xs : List PacketData). AreSent xs all.calls)
+          (ap (λ (xs : List PacketData). xs ++ ts) d ∙ ap
+          (λ (xs : List PacketData). e.packets ++ xs) k)
+          all.sent;
       report = all.report ∙ ap (count_calls all.calls) i;
     }
 
-pub carries_frames : (old new : PortState) (peers : List Addr) (ts : List PacketData) (fs : List (List ℕ)) (r q : Report)
-    → ts ≡ to_peers peers fs → Sends old new ts r q → CarriesOut old new peers (Ok (record nothing { frames = fs })) r q
+pub carries_frames : (old new : PortState) (peers : List Addr) (ts : List PacketData)
+    (fs : List (List ℕ)) (r q : Report)
+    → ts ≡ to_peers peers fs → Sends old new ts r q
+    → CarriesOut old new peers (Ok (record nothing { frames = fs })) r q
 carries_frames old new peers ts fs r q e a = record {
   calls = a.calls;
   made = a.made;

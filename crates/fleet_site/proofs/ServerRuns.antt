@@ -1,13 +1,14 @@
 -- Runs of a server, and what its counts say.
 use Rattle.std.proofs.Common.{◌≡◌, ℕ, suc, zero, ◌+◌, ◌%◌, ◌<◌, ◌≤◌, List, [], ◌∷◌, ◌++◌, Bool, true, false, Option, Some, None, Result, Ok, Err, IfSome, is_some, refl, sym, ap, subst, ◌∙◌, arith, add-one, add-zero}
 use Rattle.rand_core.specs.Stream.{Stream, next_u32}
+use Rattle.fleet_site.specs.declared.bounds.TheConstants.{MOST_COUNTED}
 use Rattle.fleet_site.specs.OutcomeData.{OutcomeData}
 use Rattle.fleet_site.specs.SiteModel.{SiteModel}
 use Rattle.fleet_site.specs.SiteData.{SiteData}
 use Rattle.fleet_site.specs.StandsFor.{StandsFor}
-use Rattle.fleet_site.specs.PortRecord.{PortCall, Received, NoDatagram, Fault, PacketSent, PacketLost, PortState, Made, failures_of, one_more}
+use Rattle.fleet_site.specs.PortRecord.{PortCall, Received, NoDatagram, Fault, PacketSent, PacketLost, PortState, failures_of, one_more}
 use Rattle.fleet_site.specs.Sending.{count_call, count_calls, count_refusal_in, count_step}
-use Rattle.fleet_site.specs.Turn.{Act, calls_of, counting_acts, Acts, Between, Turn, left_after, word_of, IsMoment, Turns, blank, start_of}
+use Rattle.fleet_site.specs.Turn.{Act, calls_of, count_acts, Acts, Between, Turn, left_after, word_of, IsMoment, Turns, empty_report, start_of}
 use Rattle.fleet_site.specs.Served.{Served, FollowsSteps, Turned}
 use Rattle.fleet_site.specs.declared.outcome.SiteFault.{SiteFault}
 use Rattle.fleet_site.specs.declared.report.Report.{Report}
@@ -15,38 +16,62 @@ use Rattle.fleet_site.proofs.ServerLists.{made_none, made_both, failures_of-appe
 use Rattle.fleet_site.proofs.ServerTurns.{acts_both}
 use Rattle.fleet_site.proofs.Loops.{Ahead, Serves, CountsFailures}
 
-moment_at : (f : ℕ → ℕ) (n t : ℕ) (now next : Option (ℕ → ℕ)) → Ahead (Some f) n now → IfSome now (λ h. (t ≡ h 0) × (next ≡ Some (λ k. h (k + 1)))) → t ≡ f n
+moment_at : (f : ℕ → ℕ) (n t : ℕ) (now next : Option (ℕ → ℕ)) → Ahead (Some f) n now
+    → IfSome now (λ h. (t ≡ h 0) × (next ≡ Some (λ k. h (k + 1)))) → t ≡ f n
 moment_at f n t now next a c =
-    let d = subst (λ (o : Option (ℕ → ℕ)). IfSome o (λ h. (t ≡ h 0) × (next ≡ Some (λ k. h (k + 1))))) a.1 c in
+    let d = subst (λ (o : Option (ℕ → ℕ)). IfSome o
+    (λ h. (t ≡ h 0) × (next ≡ Some (λ k. h (k + 1))))) a.1 c in
     d.0 ∙ a.2 0 ∙ ap f (add-zero n)
 
 pub ahead_none : (moments : Option (ℕ → ℕ)) → Ahead moments 0 moments
 ahead_none None = tt
 ahead_none (Some f) = (f, refl, λ k. ap f (let e : k ≡ 0 + k = omega arith in e))
 
-pub ahead_more : (ms now next : Option (ℕ → ℕ)) (n t : ℕ) → Ahead ms n now → IfSome now (λ h. (t ≡ h 0) × (next ≡ Some (λ k. h (k + 1)))) → Ahead ms (n + 1) next
+pub ahead_more : (ms now next : Option (ℕ → ℕ)) (n t : ℕ) → Ahead ms n now
+    → IfSome now (λ h. (t ≡ h 0) × (next ≡ Some (λ k. h (k + 1)))) → Ahead ms (n + 1) next
 ahead_more None now next n t a c = tt
 ahead_more (Some f) now next n t a c =
-    let d = subst (λ (o : Option (ℕ → ℕ)). IfSome o (λ h. (t ≡ h 0) × (next ≡ Some (λ k. h (k + 1))))) a.1 c in
-    ((λ k. a.0 (k + 1)), d.1, λ k. a.2 (k + 1) ∙ ap f (let e : n + (k + 1) ≡ (n + 1) + k = omega arith in e))
+    let d = subst (λ (o : Option (ℕ → ℕ)). IfSome o
+    (λ h. (t ≡ h 0) × (next ≡ Some (λ k. h (k + 1))))) a.1 c in (
+      (λ k. a.0 (k + 1)),
+      d.1,
+      λ k. a.2 (k + 1) ∙ ap f
+          (let e : n + (k + 1) ≡ (n + 1) + k = omega arith in e),
+    )
 
-pub is_moment : (ms now next : Option (ℕ → ℕ)) (n t : ℕ) → Ahead ms n now → IfSome now (λ h. (t ≡ h 0) × (next ≡ Some (λ k. h (k + 1)))) → IsMoment ms n t
+pub is_moment : (ms now next : Option (ℕ → ℕ)) (n t : ℕ) → Ahead ms n now
+    → IfSome now (λ h. (t ≡ h 0) × (next ≡ Some (λ k. h (k + 1)))) → IsMoment ms n t
 is_moment None now next n t a c = tt
 is_moment (Some f) now next n t a c = moment_at f n t now next a c
 
-pub left_more : (s u v : Stream) (n w : ℕ) → u ≡ left_after n s → (w, v) ≡ next_u32 u → (v ≡ left_after (n + 1) s) × (w % 65536 ≡ word_of s n)
+pub left_more : (s u v : Stream) (n w : ℕ) → u ≡ left_after n s → (w, v) ≡ next_u32 u
+    → (v ≡ left_after (n + 1) s) × (w % 65536 ≡ word_of s n)
 left_more s u v n w e h =
     let p : v ≡ (next_u32 u).1 = ap (λ (q : ℕ × Stream). q.1) h in
-    let q : w ≡ (next_u32 u).0 = ap (λ (q : ℕ × Stream). q.0) h in
-    (p ∙ ap (λ x. (next_u32 x).1) e ∙ ap (λ k. left_after k s) (sym (add-one n)), ap (λ x. x % 65536) (q ∙ ap (λ x. (next_u32 x).0) e))
+    let q : w ≡ (next_u32 u).0 = ap (λ (q : ℕ × Stream). q.0) h in (
+      p ∙ ap (λ x. (next_u32 x).1) e ∙ ap (λ k. left_after k s) (sym (add-one n)),
+      ap (λ x. x % 65536) (q ∙ ap (λ x. (next_u32 x).0) e),
+    )
 
-pub serves_none : (old : PortState) (ms : Option (ℕ → ℕ)) (s : Stream) (every : ℕ) (site : SiteData) → Serves old old ms s 0 every site site None blank
-serves_none old ms s every site = record { end = start_of site; run = refl; made = made_none old; is_site = refl; is_swept = refl; is_report = refl }
+pub serves_none : (old : PortState) (ms : Option (ℕ → ℕ)) (s : Stream) (every : ℕ) (site : SiteData)
+    → Serves old old ms s 0 every site site None empty_report
+serves_none old ms s every site =
+    record {
+      end = start_of site;
+      run = refl;
+      made = made_none old;
+      is_site = refl;
+      is_swept = refl;
+      is_report = refl;
+    }
 
 -- a turn moved behind the calls so far
-later_turn : (t w every : ℕ) (s u : SiteData) (before calls : List PortCall) (since last : Option ℕ) (r q : Report)
-    → Turn t w every (record { site = s; calls = []; swept = since; report = r }) (record { site = u; calls = calls; swept = last; report = q })
-    → Turn t w every (record { site = s; calls = before; swept = since; report = r }) (record { site = u; calls = before ++ calls; swept = last; report = q })
+later_turn : (t w every : ℕ) (s u : SiteData) (before calls : List PortCall) (since last : Option ℕ)
+    (r q : Report)
+    → Turn t w every (record { site = s; calls = []; swept = since; report = r })
+    (record { site = u; calls = calls; swept = last; report = q })
+    → Turn t w every (record { site = s; calls = before; swept = since; report = r })
+    (record { site = u; calls = before ++ calls; swept = last; report = q })
 later_turn t w every s u before calls since last r q k = record {
   arrival = k.arrival;
   given = k.given;
@@ -61,7 +86,8 @@ later_turn t w every s u before calls since last r q k = record {
   report = k.report;
 }
 
-pub serves_more : (old mid new : PortState) (ms : Option (ℕ → ℕ)) (s : Stream) (n every t w last : ℕ) (a b c : SiteData) (swept : Option ℕ) (r q : Report)
+pub serves_more : (old mid new : PortState) (ms : Option (ℕ → ℕ)) (s : Stream)
+    (n every t w last : ℕ) (a b c : SiteData) (swept : Option ℕ) (r q : Report)
     → Serves old mid ms s n every a b swept r
     → IsMoment ms n t
     → w ≡ word_of s n
@@ -70,11 +96,25 @@ pub serves_more : (old mid new : PortState) (ms : Option (ℕ → ℕ)) (s : Str
 serves_more old mid new ms s n every t w last a b c swept r q k m e x =
     let start : Between = start_of a in
     let here : Between = record { site = b; calls = k.end.calls; swept = swept; report = r } in
-    let end : Between = record { site = c; calls = k.end.calls ++ x.calls; swept = Some last; report = q } in
-    let same : k.end ≡ here = λ i. record { site = sym k.is_site i; calls = k.end.calls; swept = sym k.is_swept i; report = sym k.is_report i } in
-    let turn : Turn t w every here end = later_turn t w every b c k.end.calls x.calls swept (Some last) r q x.turn in
-    let drawn : Turn t (word_of s n) every here end = subst (λ (y : ℕ). Turn t y every here end) e turn in
-    let from : Turn t (word_of s n) every k.end end = subst (λ (y : Between). Turn t (word_of s n) every y end) (sym same) drawn in
+    let end : Between = record {
+      site = c;
+      calls = k.end.calls ++ x.calls;
+      swept = Some last;
+      report = q;
+    } in
+    let same : k.end ≡ here =
+    λ i. record {
+      site = sym k.is_site i;
+      calls = k.end.calls;
+      swept = sym k.is_swept i;
+      report = sym k.is_report i;
+    } in
+    let turn : Turn t w every here end =
+    later_turn t w every b c k.end.calls x.calls swept (Some last) r q x.turn in
+    let drawn : Turn t (word_of s n) every here end =
+    subst (λ (y : ℕ). Turn t y every here end) e turn in
+    let from : Turn t (word_of s n) every k.end end =
+    subst (λ (y : Between). Turn t (word_of s n) every y end) (sym same) drawn in
     let all : Turns ms s every (suc n) start end = (k.end, t, k.run, m, from) in
     record {
       end = end;
@@ -85,58 +125,99 @@ serves_more old mid new ms s n every t w last a b c swept r q k m e x =
       is_report = refl;
     }
 
-pub serves_run : (old new : PortState) (ms : Option (ℕ → ℕ)) (s : Stream) (n every : ℕ) (a b : SiteData) (swept : Option ℕ) (r : Report)
+pub serves_run : (old new : PortState) (ms : Option (ℕ → ℕ)) (s : Stream) (n every : ℕ)
+    (a b : SiteData) (swept : Option ℕ) (r : Report)
     → Serves old new ms s n every a b swept r → Served old new ms s n every a b r
-serves_run old new ms s n every a b swept r k = record { end = k.end; run = k.run; made = k.made; is_site = k.is_site; is_report = k.is_report }
+serves_run old new ms s n every a b swept r k =
+    record { end = k.end; run = k.run; made = k.made; is_site = k.is_site; is_report = k.is_report }
 
 -- failures
-counts_more : (a b d : ℕ) (r s u : Report) → CountsFailures a b r s → CountsFailures b d s u → CountsFailures a d r u
+counts_more : (a b d : ℕ) (r s u : Report) → CountsFailures a b r s → CountsFailures b d s u
+    → CountsFailures a d r u
 counts_more a b d r s u h k = record {
-  lost = λ n. let y : s.lost ≤ u.lost = k.lost n in let x : r.lost ≤ s.lost = h.lost (omega arith) in omega arith;
-  faults = λ n. let y : s.faults ≤ u.faults = k.faults n in let x : r.faults ≤ s.faults = h.faults (omega arith) in omega arith;
+  lost = λ n. let y : s.lost ≤ u.lost = k.lost n in
+      let x : r.lost ≤ s.lost = h.lost (omega arith) in omega arith;
+  faults = λ n. let y : s.faults ≤ u.faults = k.faults n in
+      let x : r.faults ≤ s.faults = h.faults (omega arith) in omega arith;
   failed = λ n. let y : b ≤ d = k.failed n in let x : a ≤ b = h.failed (omega arith) in omega arith;
   sum = λ l f n.
       let y : b ≤ d = k.failed n in
       let v : s.lost ≤ u.lost = k.lost l in
       let w : s.faults ≤ u.faults = k.faults f in
-      let p : b + (r.lost + r.faults) ≡ a + (s.lost + s.faults) = h.sum (omega arith) (omega arith) (omega arith) in
+      let p : b + (r.lost + r.faults) ≡ a + (s.lost + s.faults) =
+      h.sum (omega arith) (omega arith) (omega arith) in
       let q : d + (s.lost + s.faults) ≡ b + (u.lost + u.faults) = k.sum l f n in
       omega arith;
 }
 
-counts_same : (a : ℕ) (r q : Report) → q.lost ≡ r.lost → q.faults ≡ r.faults → CountsFailures a a r q
-counts_same a r q l f = record { lost = λ n. omega arith; faults = λ n. omega arith; failed = λ n. omega arith; sum = λ x y n. omega arith }
+counts_same : (a : ℕ) (r q : Report) → q.lost ≡ r.lost → q.faults ≡ r.faults
+    → CountsFailures a a r q
+counts_same a r q l f = record {
+  lost = λ n. omega arith;
+  faults = λ n. omega arith;
+  failed = λ n. omega arith;
+  sum = λ x y n. omega arith;
+}
 
-counts_lost : (a : ℕ) (r : Report) → CountsFailures a (one_more a) r (record r { lost = one_more r.lost })
-counts_lost a r = record { lost = λ n. omega arith; faults = λ n. omega arith; failed = λ n. omega arith; sum = λ x y n. omega arith }
+counts_lost : (a : ℕ) (r : Report) → CountsFailures a (one_more a) r
+    (record r { lost = one_more r.lost })
+counts_lost a r = record {
+  lost = λ n. omega arith;
+  faults = λ n. omega arith;
+  failed = λ n. omega arith;
+  sum = λ x y n. omega arith;
+}
 
-counts_fault : (a : ℕ) (r : Report) → CountsFailures a (one_more a) r (record r { faults = one_more r.faults })
-counts_fault a r = record { lost = λ n. omega arith; faults = λ n. omega arith; failed = λ n. omega arith; sum = λ x y n. omega arith }
+counts_fault : (a : ℕ) (r : Report) → CountsFailures a (one_more a) r
+    (record r { faults = one_more r.faults })
+counts_fault a r = record {
+  lost = λ n. omega arith;
+  faults = λ n. omega arith;
+  failed = λ n. omega arith;
+  sum = λ x y n. omega arith;
+}
 
-counts_calls : (cs : List PortCall) (a : ℕ) (r : Report) → CountsFailures a (failures_of cs a) r (count_calls cs r)
+counts_calls : (cs : List PortCall) (a : ℕ) (r : Report)
+    → CountsFailures a (failures_of cs a) r (count_calls cs r)
 counts_calls [] a r = counts_same a r r refl refl
-counts_calls (Received from octets ∷ cs) a r = counts_more _ _ _ _ _ _ (counts_same a r (count_call (Received from octets) r) refl refl) (counts_calls cs a (count_call (Received from octets) r))
+counts_calls (Received from octets ∷ cs) a r =
+    counts_more _ _ _ _ _ _ (counts_same a r (count_call (Received from octets) r) refl refl)
+    (counts_calls cs a (count_call (Received from octets) r))
 counts_calls (NoDatagram ∷ cs) a r = counts_calls cs a r
-counts_calls (Fault ∷ cs) a r = counts_more _ _ _ _ _ _ (counts_fault a r) (counts_calls cs (one_more a) (count_call Fault r))
-counts_calls (PacketSent s ∷ cs) a r = counts_more _ _ _ _ _ _ (counts_same a r (count_call (PacketSent s) r) refl refl) (counts_calls cs a (count_call (PacketSent s) r))
-counts_calls (PacketLost s ∷ cs) a r = counts_more _ _ _ _ _ _ (counts_lost a r) (counts_calls cs (one_more a) (count_call (PacketLost s) r))
+counts_calls (Fault ∷ cs) a r =
+    counts_more _ _ _ _ _ _ (counts_fault a r) (counts_calls cs (one_more a) (count_call Fault r))
+counts_calls (PacketSent s ∷ cs) a r =
+    counts_more _ _ _ _ _ _ (counts_same a r (count_call (PacketSent s) r) refl refl)
+    (counts_calls cs a (count_call (PacketSent s) r))
+counts_calls (PacketLost s ∷ cs) a r =
+    counts_more _ _ _ _ _ _ (counts_lost a r) (counts_calls cs (one_more a)
+    (count_call (PacketLost s) r))
 
 counts_refusal : (b : Bool) (a : ℕ) (r : Report) → CountsFailures a a r (count_refusal_in b r)
 counts_refusal true a r = counts_same a r _ refl refl
 counts_refusal false a r = counts_same a r _ refl refl
 
-counts_step : (x : Result OutcomeData SiteFault) (a : ℕ) (r : Report) → CountsFailures a a r (count_step x r)
+counts_step : (x : Result OutcomeData SiteFault) (a : ℕ) (r : Report)
+    → CountsFailures a a r (count_step x r)
 counts_step (Ok e) a r = counts_refusal (is_some e.refused) a r
 counts_step (Err f) a r = counts_same a r _ refl refl
 
-counts_acts : (xs : List Act) (a : ℕ) (r : Report) → CountsFailures a (failures_of (calls_of xs) a) r (counting_acts xs r)
+counts_acts : (xs : List Act) (a : ℕ) (r : Report)
+    → CountsFailures a (failures_of (calls_of xs) a) r (count_acts xs r)
 counts_acts [] a r = counts_same a r r refl refl
 counts_acts (x ∷ xs) a r =
-    let one = counts_more a a (failures_of x.calls a) r (count_step x.answer r) (count_calls x.calls (count_step x.answer r)) (counts_step x.answer a r) (counts_calls x.calls a (count_step x.answer r)) in
-    let rest = counts_acts xs (failures_of x.calls a) (count_calls x.calls (count_step x.answer r)) in
-    rw (failures_of-append x.calls (calls_of xs) a) (counts_more a (failures_of x.calls a) (failures_of (calls_of xs) (failures_of x.calls a)) r (count_calls x.calls (count_step x.answer r)) (counting_acts xs (count_calls x.calls (count_step x.answer r))) one rest)
+    let one = counts_more a a (failures_of x.calls a) r (count_step x.answer r)
+    (count_calls x.calls (count_step x.answer r)) (counts_step x.answer a r)
+    (counts_calls x.calls a (count_step x.answer r)) in
+    let rest = counts_acts xs (failures_of x.calls a)
+    (count_calls x.calls (count_step x.answer r)) in
+    rw (failures_of-append x.calls (calls_of xs) a)
+    (counts_more a (failures_of x.calls a) (failures_of (calls_of xs) (failures_of x.calls a)) r
+    (count_calls x.calls (count_step x.answer r))
+    (count_acts xs (count_calls x.calls (count_step x.answer r))) one rest)
 
-counts_turn : (t w every : ℕ) (a b : Between) (n : ℕ) → Turn t w every a b → CountsFailures (failures_of a.calls n) (failures_of b.calls n) a.report b.report
+counts_turn : (t w every : ℕ) (a b : Between) (n : ℕ) → Turn t w every a b
+    → CountsFailures (failures_of a.calls n) (failures_of b.calls n) a.report b.report
 counts_turn t w every a b n k =
     let acts = k.given ++ (k.ticks ++ k.sweep) in
     let start : Report = record a.report { turns = one_more a.report.turns } in
@@ -144,35 +225,55 @@ counts_turn t w every a b n k =
     let one = counts_same x a.report start refl refl in
     let two = counts_calls (k.arrival ∷ []) x start in
     let three = counts_acts acts (failures_of (k.arrival ∷ []) x) (count_call k.arrival start) in
-    let all = counts_more _ _ _ a.report start (counting_acts acts (count_call k.arrival start)) one (counts_more _ _ _ start (count_call k.arrival start) (counting_acts acts (count_call k.arrival start)) two three) in
-    let e : failures_of b.calls n ≡ failures_of (calls_of acts) (failures_of (k.arrival ∷ []) x) = ap (λ (cs : List PortCall). failures_of cs n) k.calls ∙ failures_of-append a.calls (k.arrival ∷ calls_of acts) n ∙ failures_of-append (k.arrival ∷ []) (calls_of acts) x in
+    let all = counts_more _ _ _ a.report start (count_acts acts (count_call k.arrival start)) one
+    (counts_more _ _ _ start (count_call k.arrival start)
+    (count_acts acts (count_call k.arrival start)) two three) in
+    let e : failures_of b.calls n ≡ failures_of (calls_of acts) (failures_of (k.arrival ∷ []) x) =
+    ap (λ (cs : List PortCall). failures_of cs n) k.calls
+    ∙ failures_of-append a.calls (k.arrival ∷ calls_of acts) n
+    ∙ failures_of-append (k.arrival ∷ []) (calls_of acts) x in
     rw (e, k.report) all
 
-counts_turns : (ms : Option (ℕ → ℕ)) (s : Stream) (every m : ℕ) (a b : Between) (n : ℕ) → Turns ms s every m a b → CountsFailures (failures_of a.calls n) (failures_of b.calls n) a.report b.report
-counts_turns ms s every zero a b n h = rw h (counts_same (failures_of a.calls n) a.report a.report refl refl)
+counts_turns : (ms : Option (ℕ → ℕ)) (s : Stream) (every m : ℕ) (a b : Between) (n : ℕ)
+    → Turns ms s every m a b → CountsFailures (failures_of a.calls n) (failures_of b.calls n)
+    a.report b.report
+counts_turns ms s every zero a b n h =
+    rw h (counts_same (failures_of a.calls n) a.report a.report refl refl)
 counts_turns ms s every (suc m) a b n h =
-    counts_more _ _ _ a.report h.0.report b.report (counts_turns ms s every m a h.0 n h.2) (counts_turn h.1 (word_of s m) every h.0 b n h.4)
+    counts_more _ _ _ a.report h.0.report b.report (counts_turns ms s every m a h.0 n h.2)
+    (counts_turn h.1 (word_of s m) every h.0 b n h.4)
 
-pub serves_failures : (old new : PortState) (ms : Option (ℕ → ℕ)) (s : Stream) (n every : ℕ) (a b : SiteData) (swept : Option ℕ) (r : Report)
+pub serves_failures : (old new : PortState) (ms : Option (ℕ → ℕ)) (s : Stream) (n every : ℕ)
+    (a b : SiteData) (swept : Option ℕ) (r : Report)
     → Serves old new ms s n every a b swept r
-    → r.lost < 18446744073709551615 → r.faults < 18446744073709551615 → new.failed < 18446744073709551615 → new.failed ≡ old.failed + (r.lost + r.faults)
+    → r.lost < MOST_COUNTED → r.faults < MOST_COUNTED → new.failed < MOST_COUNTED
+    → new.failed ≡ old.failed + (r.lost + r.faults)
 serves_failures old new ms s n every a b swept r k l i j =
     let x = counts_turns ms s every n (start_of a) k.end old.failed k.run in
     let e : new.failed ≡ failures_of k.end.calls old.failed = k.made.failed in
     let p : r.lost ≡ k.end.report.lost = ap (λ (y : Report). y.lost) k.is_report in
     let q : r.faults ≡ k.end.report.faults = ap (λ (y : Report). y.faults) k.is_report in
-    let z : failures_of k.end.calls old.failed + (0 + 0) ≡ old.failed + (k.end.report.lost + k.end.report.faults) = x.sum (omega arith) (omega arith) (omega arith) in
+    let z : failures_of k.end.calls old.failed + (0 + 0) ≡ old.failed
+    + (k.end.report.lost + k.end.report.faults) = x.sum (omega arith) (omega arith) (omega arith) in
     omega arith
 
 -- over a whole run the site follows the steps
-run_follows : (ms : Option (ℕ → ℕ)) (s : Stream) (every n : ℕ) (a b : Between) → Turns ms s every n a b → (m : SiteModel) → StandsFor a.site m → (k : SiteModel) × (acts : List Act) × Acts m acts k × StandsFor b.site k
-run_follows ms s every zero a b h m i = (m, [], refl, subst (λ (x : Between). StandsFor x.site m) (sym h) i)
+run_follows : (ms : Option (ℕ → ℕ)) (s : Stream) (every n : ℕ) (a b : Between)
+    → Turns ms s every n a b → (m : SiteModel) → StandsFor a.site m
+    → (k : SiteModel) × (acts : List Act) × Acts m acts k × StandsFor b.site k
+run_follows ms s every zero a b h m i =
+    (m, [], refl, subst (λ (x : Between). StandsFor x.site m) (sym h) i)
 run_follows ms s every (suc n) a b h m i =
     let x = run_follows ms s every n a h.0 h.2 m i in
-    let y = h.4.acted.steps x.0 x.3 in
-    (y.0, x.1 ++ (h.4.given ++ (h.4.ticks ++ h.4.sweep)), acts_both m x.0 y.0 x.1 (h.4.given ++ (h.4.ticks ++ h.4.sweep)) x.2 y.1, y.2)
+    let y = h.4.acted.steps x.0 x.3 in (
+      y.0,
+      x.1 ++ (h.4.given ++ (h.4.ticks ++ h.4.sweep)),
+      acts_both m x.0 y.0 x.1 (h.4.given ++ (h.4.ticks ++ h.4.sweep)) x.2 y.1,
+      y.2,
+    )
 
-pub serves_follows : (old new : PortState) (ms : Option (ℕ → ℕ)) (s : Stream) (n every : ℕ) (a b : SiteData) (swept : Option ℕ) (r : Report)
+pub serves_follows : (old new : PortState) (ms : Option (ℕ → ℕ)) (s : Stream) (n every : ℕ)
+    (a b : SiteData) (swept : Option ℕ) (r : Report)
     → Serves old new ms s n every a b swept r → FollowsSteps a b
 serves_follows old new ms s n every a b swept r k = record {
   steps = λ m i.

@@ -1,8 +1,8 @@
 -- Steps, ticks and turns of a server.
-use Rattle.std.proofs.Common.{◌≡◌, IsTrue, IfOk, Vec, ℕ, suc, zero, ◌+◌, ◌%◌, ◌<◌, ◌≤◌, List, [], ◌∷◌, ◌++◌, Bool, true, false, max, Option, Some, None, Result, Ok, Err, IfSome, is_some, inl, inr, refl, sym, ap, subst, ◌∙◌, append_assoc, length, length-append, arith, add-one, add-zero}
+use Rattle.std.proofs.Common.{◌≡◌, IsTrue, IfOk, Vec, ℕ, ◌+◌, ◌<◌, ◌≤◌, List, [], ◌∷◌, ◌++◌, Bool, true, false, max, Option, Result, Ok, Err, inl, inr, refl, sym, ap, subst, ◌∙◌, append_assoc, length, length-append, arith}
 use Rattle.std.proofs.lemmas.List.{append-nil}
 use Rattle.std.specs.Option.{unwrap_or}
-use Rattle.rand_core.specs.Stream.{Stream, next_u32}
+use Rattle.fleet_pending.specs.declared.bounds.TheConstants.{MOST_ENTRIES}
 use Rattle.fleet_pending.specs.declared.waiter.Addr.{Addr}
 use Rattle.fleet_pending.specs.Due.{due_at}
 use Rattle.fleet_pending.specs.PendingData.{PendingData}
@@ -14,40 +14,49 @@ use Rattle.fleet_site.specs.StandsFor.{StandsFor, Follows}
 use Rattle.fleet_site.specs.Step.{Call, datagram, tick}
 use Rattle.fleet_site.specs.Sweep.{IsSweep}
 use Rattle.fleet_site.specs.Tick.{LeavesFewer}
-use Rattle.fleet_site.specs.PortRecord.{PortCall, Received, NoDatagram, Fault, PacketSent, PacketLost, NotesAll, PortState, Made, failures_of, one_more}
-use Rattle.fleet_site.specs.Sending.{AreSent, packets_of, count_call, count_calls, count_refusal_in, count_step, goes_on, sweep_outcome, CarriesOut}
-use Rattle.fleet_site.specs.Turn.{Deal, calling, sweeping, Deals, Act, calls_of, counting_acts, AllSent, Acts, Acted, Given, Ticks, no_tick, next_tick, IsSweepDue, Sweeps, Between, Turn, left_after, word_of, IsMoment, Turns, blank, start_of}
-use Rattle.fleet_site.specs.Served.{Served, FollowsSteps, Turned, Took, Heard, TickedAll, SweptOnce}
+use Rattle.fleet_site.specs.PortRecord.{PortCall, Received, NoDatagram, Fault, NotesAll, PortState, Made, one_more}
+use Rattle.fleet_site.specs.Sending.{AreSent, packets_of, count_call, count_calls, count_step, goes_on, sweep_outcome, CarriesOut}
+use Rattle.fleet_site.specs.Turn.{Deal, calling, sweeping, Act, calls_of, count_acts, AllSent, Acts, Acted, no_tick, next_tick, IsSweepDue}
+use Rattle.fleet_site.specs.Served.{Turned, Took, Heard, TickedAll, SweptOnce}
 use Rattle.fleet_site.specs.declared.outcome.Outcome.{Outcome}
 use Rattle.fleet_site.specs.declared.outcome.SiteFault.{SiteFault}
 use Rattle.fleet_site.specs.declared.report.Report.{Report}
-use Rattle.fleet_site.proofs.ServerLists.{made_none, made_both, counting-append, failures_of-append}
-use Rattle.fleet_site.proofs.Loops.{due_by, room, ticks_left, Ticking, Ahead, Serves, CountsFailures, Stepped}
+use Rattle.fleet_site.proofs.ServerLists.{made_none, made_both}
+use Rattle.fleet_site.proofs.Loops.{due_by, room, Ticking, Stepped}
 
 calls_of-append : (ys bs : List Act) → calls_of (ys ++ bs) ≡ calls_of ys ++ calls_of bs
 calls_of-append [] bs = refl
-calls_of-append (a ∷ ys) bs = ap (λ xs. a.calls ++ xs) (calls_of-append ys bs) ∙ sym (append_assoc a.calls (calls_of ys) (calls_of bs))
+calls_of-append (a ∷ ys) bs =
+    ap (λ xs. a.calls ++ xs) (calls_of-append ys bs)
+    ∙ sym (append_assoc a.calls (calls_of ys) (calls_of bs))
 
-counting_acts-append : (ys bs : List Act) (r : Report) → counting_acts (ys ++ bs) r ≡ counting_acts bs (counting_acts ys r)
-counting_acts-append [] bs r = refl
-counting_acts-append (a ∷ ys) bs r = counting_acts-append ys bs (count_calls a.calls (count_step a.answer r))
+count_acts-append : (ys bs : List Act) (r : Report)
+    → count_acts (ys ++ bs) r ≡ count_acts bs (count_acts ys r)
+count_acts-append [] bs r = refl
+count_acts-append (a ∷ ys) bs r =
+    count_acts-append ys bs (count_calls a.calls (count_step a.answer r))
 
-all_sent_both : (peers : List Addr) (ys bs : List Act) → AllSent peers ys → AllSent peers bs → AllSent peers (ys ++ bs)
+all_sent_both : (peers : List Addr) (ys bs : List Act) → AllSent peers ys → AllSent peers bs
+    → AllSent peers (ys ++ bs)
 all_sent_both peers [] bs h k = k
 all_sent_both peers (a ∷ ys) bs h k = (h.0, all_sent_both peers ys bs h.1 k)
 
-pub acts_both : (m k n : SiteModel) (ys bs : List Act) → Acts m ys k → Acts k bs n → Acts m (ys ++ bs) n
+pub acts_both : (m k n : SiteModel) (ys bs : List Act) → Acts m ys k → Acts k bs n
+    → Acts m (ys ++ bs) n
 acts_both m k n [] bs h i = subst (λ (x : SiteModel). Acts x bs n) h i
 acts_both m k n (a ∷ ys) bs h i = (h.0, h.1, acts_both h.0 k n ys bs h.2 i)
 
 acted_none : (s : SiteData) → Acted s s []
-acted_none s = record { steps = λ m h. (m, refl, h); setting = refl; sent = tt }
+acted_none s = record { steps = λ m h. (m, refl, h); config = refl; sent = tt }
 
-acted_both : (s t u : SiteData) (ys bs : List Act) → Acted s t ys → Acted t u bs → Acted s u (ys ++ bs)
+acted_both : (s t u : SiteData) (ys bs : List Act) → Acted s t ys → Acted t u bs
+    → Acted s u (ys ++ bs)
 acted_both s t u ys bs a b = record {
-  steps = λ m h. let x = a.steps m h in let y = b.steps x.0 x.2 in (y.0, acts_both m x.0 y.0 ys bs x.1 y.1, y.2);
-  setting = b.setting ∙ a.setting;
-  sent = all_sent_both s.setting.peers ys bs a.sent (subst (λ (x : _). AllSent x.peers bs) a.setting b.sent);
+  steps = λ m h. let x = a.steps m h in let y = b.steps x.0 x.2 in
+      (y.0, acts_both m x.0 y.0 ys bs x.1 y.1, y.2);
+  config = b.config ∙ a.config;
+  sent = all_sent_both s.config.peers ys bs a.sent
+      (subst (λ (x : _). AllSent x.peers bs) a.config b.sent);
 }
 
 pub took_none : (old : PortState) (s : SiteData) (r : Report) → Took old old s s r r []
@@ -57,8 +66,9 @@ took_both : (old mid new : PortState) (s t u : SiteData) (r q p : Report) (ys bs
     → Took old mid s t r q ys → Took mid new t u q p bs → Took old new s u r p (ys ++ bs)
 took_both old mid new s t u r q p ys bs a b = record {
   acted = acted_both s t u ys bs a.acted b.acted;
-  made = rw (calls_of-append ys bs) (made_both old mid new (calls_of ys) (calls_of bs) a.made b.made);
-  report = b.report ∙ ap (counting_acts bs) a.report ∙ sym (counting_acts-append ys bs r);
+  made = rw (calls_of-append ys bs) (made_both old mid new (calls_of ys) (calls_of bs) a.made
+      b.made);
+  report = b.report ∙ ap (count_acts bs) a.report ∙ sym (count_acts-append ys bs r);
 }
 
 -- one step that was carried out
@@ -66,114 +76,169 @@ abbrev pub act_of : Deal → Result OutcomeData SiteFault → List PortCall → 
 act_of x a calls = record { deal = x; answer = a; calls = calls }
 
 acted_one : (s t : SiteData) (x : Deal) (a : Result OutcomeData SiteFault) (calls : List PortCall)
-    → Stepped x a s t → AreSent (packets_of t.setting.peers a) calls → Acted s t (act_of x a calls ∷ [])
+    → Stepped x a s t → AreSent (packets_of t.config.peers a) calls
+    → Acted s t (act_of x a calls ∷ [])
 acted_one s t x a calls h k = record {
   steps = λ m i. let y = h.step m i in (y.0, (y.0, y.1, refl), y.2);
-  setting = h.setting;
-  sent = (subst (λ (z : _). AreSent (packets_of z.peers a) calls) h.setting k, tt);
+  config = h.config;
+  sent = (subst (λ (z : _). AreSent (packets_of z.peers a) calls) h.config k, tt);
 }
 
-took_one : (old new : PortState) (s t : SiteData) (x : Deal) (a : Result OutcomeData SiteFault) (r q : Report)
-    → Stepped x a s t → (c : CarriesOut old new t.setting.peers a r q) → Took old new s t r q (act_of x a c.calls ∷ [])
+took_one : (old new : PortState) (s t : SiteData) (x : Deal) (a : Result OutcomeData SiteFault)
+    (r q : Report)
+    → Stepped x a s t → (c : CarriesOut old new t.config.peers a r q)
+    → Took old new s t r q (act_of x a c.calls ∷ [])
 took_one old new s t x a r q h c = record {
   acted = acted_one s t x a c.calls h c.sent;
   made = rw (append-nil c.calls) c.made;
   report = c.report;
 }
 
-pub heard_one : (old mid new : PortState) (t w : ℕ) (s u : SiteData) (r q p : Report) (from : Addr) (octets : List ℕ) (a : Result OutcomeData SiteFault)
-    → NotesAll old.told (Received from octets ∷ []) mid.told → mid.failed ≡ old.failed → q ≡ count_call (Received from octets) r
-    → Stepped (calling (datagram t from octets w)) a s u → CarriesOut mid new u.setting.peers a q p → Heard old new t w s u r p
+pub heard_one : (old mid new : PortState) (t w : ℕ) (s u : SiteData) (r q p : Report) (from : Addr)
+    (octets : List ℕ) (a : Result OutcomeData SiteFault)
+    → NotesAll old.told (Received from octets ∷ []) mid.told → mid.failed ≡ old.failed
+    → q ≡ count_call (Received from octets) r
+    → Stepped (calling (datagram t from octets w)) a s u → CarriesOut mid new u.config.peers a q p
+    → Heard old new t w s u r p
 heard_one old mid new t w s u r q p from octets a n i e k c = record {
   arrival = Received from octets;
   acts = act_of (calling (datagram t from octets w)) a c.calls ∷ [];
   given = (act_of (calling (datagram t from octets w)) a c.calls, refl, refl);
   acted = acted_one s u (calling (datagram t from octets w)) a c.calls k c.sent;
-  made = rw (append-nil c.calls) (made_both old mid new (Received from octets ∷ []) c.calls (record { told = n; failed = i }) c.made);
+  made = rw (append-nil c.calls) (made_both old mid new (Received from octets ∷ []) c.calls
+      (record { told = n; failed = i }) c.made);
   report = c.report ∙ ap (λ (y : Report). count_calls c.calls (count_step a y)) e;
 }
 
-pub heard_none : (old new : PortState) (t w : ℕ) (s : SiteData) (r q : Report) → NotesAll old.told (NoDatagram ∷ []) new.told → new.failed ≡ old.failed → q ≡ r → Heard old new t w s s r q
-heard_none old new t w s r q n i e = record { arrival = NoDatagram; acts = []; given = refl; acted = acted_none s; made = record { told = n; failed = i }; report = e }
+pub heard_none : (old new : PortState) (t w : ℕ) (s : SiteData) (r q : Report)
+    → NotesAll old.told (NoDatagram ∷ []) new.told → new.failed ≡ old.failed → q ≡ r
+    → Heard old new t w s s r q
+heard_none old new t w s r q n i e =
+    record {
+      arrival = NoDatagram;
+      acts = [];
+      given = refl;
+      acted = acted_none s;
+      made = record { told = n; failed = i };
+      report = e;
+    }
 
-pub heard_fault : (old new : PortState) (t w : ℕ) (s : SiteData) (r q : Report) → NotesAll old.told (Fault ∷ []) new.told → new.failed ≡ one_more old.failed → q ≡ count_call Fault r → Heard old new t w s s r q
-heard_fault old new t w s r q n i e = record { arrival = Fault; acts = []; given = refl; acted = acted_none s; made = record { told = n; failed = i }; report = e }
+pub heard_fault : (old new : PortState) (t w : ℕ) (s : SiteData) (r q : Report)
+    → NotesAll old.told (Fault ∷ []) new.told → new.failed ≡ one_more old.failed
+    → q ≡ count_call Fault r → Heard old new t w s s r q
+heard_fault old new t w s r q n i e =
+    record {
+      arrival = Fault;
+      acts = [];
+      given = refl;
+      acted = acted_none s;
+      made = record { told = n; failed = i };
+      report = e;
+    }
 
-pub swept_now : (old new : PortState) (every since t : ℕ) (s : SiteData) (r q : Report) (peers : List Addr) (a : Result OutcomeData SiteFault)
-    → IsSweepDue every since t → peers ≡ s.setting.peers → Stepped sweeping a s s → CarriesOut old new peers a r q → SweptOnce old new every since t t s s r q
+pub swept_now : (old new : PortState) (every since t : ℕ) (s : SiteData) (r q : Report)
+    (peers : List Addr) (a : Result OutcomeData SiteFault)
+    → IsSweepDue every since t → peers ≡ s.config.peers → Stepped sweeping a s s
+    → CarriesOut old new peers a r q → SweptOnce old new every since t t s s r q
 swept_now old new every since t s r q peers a due i k c =
-    let y : CarriesOut old new s.setting.peers a r q = subst (λ (ps : List Addr). CarriesOut old new ps a r q) i c in
+    let y : CarriesOut old new s.config.peers a r q =
+    subst (λ (ps : List Addr). CarriesOut old new ps a r q) i c in
     record {
       acts = act_of sweeping a y.calls ∷ [];
       swept = inl (due, (act_of sweeping a y.calls, refl, refl, refl));
       took = took_one old new s s sweeping a r q k y;
     }
 
-pub swept_not : (old : PortState) (every since t : ℕ) (s : SiteData) (r : Report) → (¬ IsSweepDue every since t) → SweptOnce old old every since t since s s r r
-swept_not old every since t s r not_due = record { acts = []; swept = inr (not_due, (refl, refl)); took = took_none old s r }
+pub swept_not : (old : PortState) (every since t : ℕ) (s : SiteData) (r : Report)
+    → (¬ IsSweepDue every since t) → SweptOnce old old every since t since s s r r
+swept_not old every since t s r not_due =
+    record { acts = []; swept = inr (not_due, (refl, refl)); took = took_none old s r }
 
 -- ticks
-few_more : (b : Bool) (n d e : ℕ) → n + room true d ≤ 256 → (b ≡ true → (0 < e) × (e < d)) → (n + 1) + room b e ≤ 256
-few_more true n d e h f = let x = f refl in let p : 0 < e = x.0 in let q : e < d = x.1 in omega arith
+few_more : (b : Bool) (n d e : ℕ) → n + room true d ≤ MOST_ENTRIES → (b ≡ true → (0 < e) × (e < d))
+    → (n + 1) + room b e ≤ MOST_ENTRIES
+few_more true n d e h f = let x = f refl in let p : 0 < e = x.0 in let q : e < d = x.1 in
+    omega arith
 few_more false n d e h f = omega arith
 
-pub ticking_none : (old : PortState) (t : ℕ) (s : SiteData) (r : Report) → due_by s t ≤ 256 → Ticking old old t true s s r r
-ticking_none old t s r few = record { acts = []; ticks = no_tick; few = omega arith; took = took_none old s r }
+pub ticking_none : (old : PortState) (t : ℕ) (s : SiteData) (r : Report) → due_by s t ≤ MOST_ENTRIES
+    → Ticking old old t true s s r r
+ticking_none old t s r few =
+    record { acts = []; ticks = no_tick; few = omega arith; took = took_none old s r }
 
-pub ticking_more : (old mid new : PortState) (t : ℕ) (s u v : SiteData) (r q p : Report) (a : Result OutcomeData SiteFault)
-    → Ticking old mid t true s u r q → Stepped (calling (tick t)) a u v → CarriesOut mid new v.setting.peers a q p
-    → v.clock ≡ max u.clock t → (goes_on a ≡ true → LeavesFewer u.outstanding v.outstanding v.clock)
+pub ticking_more : (old mid new : PortState) (t : ℕ) (s u v : SiteData) (r q p : Report)
+    (a : Result OutcomeData SiteFault)
+    → Ticking old mid t true s u r q → Stepped (calling (tick t)) a u v
+    → CarriesOut mid new v.config.peers a q p
+    → v.clock ≡ max u.clock t → (goes_on a ≡ true → LeavesFewer u.pending v.pending v.clock)
     → Ticking old new t (goes_on a) s v r p
 ticking_more old mid new t s u v r q p a k h c e fewer =
     let act = act_of (calling (tick t)) a c.calls in
     let n : length (k.acts ++ act ∷ []) ≡ length k.acts + 1 = length-append k.acts (act ∷ []) in
     let same : max v.clock t ≡ v.clock = omega arith in
-    let later : due_at v.outstanding v.clock ≡ due_by v t = ap (due_at v.outstanding) (sym same) in
-    let before : due_at u.outstanding v.clock ≡ due_by u t = ap (due_at u.outstanding) e in
+    let later : due_at v.pending v.clock ≡ due_by v t = ap (due_at v.pending) (sym same) in
+    let before : due_at u.pending v.clock ≡ due_by u t = ap (due_at u.pending) e in
     let less : goes_on a ≡ true → (0 < due_by v t) × (due_by v t < due_by u t) =
     λ i. (let z = fewer i in let x = z.some in let y = z.fewer in (omega arith, omega arith)) in
     record {
       acts = k.acts ++ act ∷ [];
       ticks = next_tick act k.ticks refl;
       few = rw n (few_more (goes_on a) (length k.acts) (due_by u t) (due_by v t) k.few less);
-      took = took_both old mid new s u v r q p k.acts (act ∷ []) k.took (took_one mid new u v (calling (tick t)) a q p h c);
+      took = took_both old mid new s u v r q p k.acts (act ∷ []) k.took
+          (took_one mid new u v (calling (tick t)) a q p h c);
     }
 
 -- a tick that says more leaves fewer
-pub fewer_where_more : {A : Type 0} (r : Result (Outcome A) SiteFault) (old new : PendingData) (t : ℕ)
-    → IfOk r (λ o. IsTrue o.more → LeavesFewer old new t) → goes_on (result_data r) ≡ true → LeavesFewer old new t
+pub fewer_where_more : {A : Type 0} (r : Result (Outcome A) SiteFault) (old new : PendingData)
+    (t : ℕ)
+    → IfOk r (λ o. IsTrue o.more → LeavesFewer old new t) → goes_on (result_data r) ≡ true
+    → LeavesFewer old new t
 fewer_where_more (Ok o) old new t h e = h e
 fewer_where_more (Err f) old new t h e = cc
 
 -- the clauses of a call as a step of a turn
 pub stepped_call : {A : Type 0} (c : Call) (r : Result (Outcome A) SiteFault) (s u : SiteData)
-    → ((m : SiteModel) → StandsFor s m → Follows m c r u) → u.setting ≡ s.setting → Stepped (calling c) (result_data r) s u
-stepped_call c r s u h e = record { step = λ m i. let f = h m i in (f.next, f.step, f.stands); setting = e }
+    → ((m : SiteModel) → StandsFor s m → Follows m c r u) → u.config ≡ s.config
+    → Stepped (calling c) (result_data r) s u
+stepped_call c r s u h e =
+    record { step = λ m i. let f = h m i in (f.next, f.step, f.stands); config = e }
 
 -- those of a sweep
 pub stepped_sweep : {A : Type 0} (r : Result (Vec (List ℕ) A) AllocError) (s : SiteData)
-    → ((m : SiteModel) → StandsFor s m → IfOk r (λ frames. IsSweep m frames.items)) → Stepped sweeping (sweep_outcome r) s s
-stepped_sweep (Ok frames) s h = record { step = λ m i. (m, (frames.items, h m i, refl, refl), i); setting = refl }
-stepped_sweep (Err e) s h = record { step = λ m i. (m, (refl, refl), i); setting = refl }
+    → ((m : SiteModel) → StandsFor s m → IfOk r (λ frames. IsSweep m frames.items))
+    → Stepped sweeping (sweep_outcome r) s s
+stepped_sweep (Ok frames) s h =
+    record { step = λ m i. (m, (frames.items, h m i, refl, refl), i); config = refl }
+stepped_sweep (Err e) s h = record { step = λ m i. (m, (refl, refl), i); config = refl }
 
-pub ticks_all : (old new : PortState) (t : ℕ) (b : Bool) (s u : SiteData) (r q : Report) → b ≡ false → Ticking old new t b s u r q → TickedAll old new t s u r q
+pub ticks_all : (old new : PortState) (t : ℕ) (b : Bool) (s u : SiteData) (r q : Report) → b ≡ false
+    → Ticking old new t b s u r q → TickedAll old new t s u r q
 ticks_all old new t b s u r q e k =
-    let j : Ticking old new t false s u r q = subst (λ (x : Bool). Ticking old new t x s u r q) e k in
-    let n : length j.acts + 0 ≤ 256 = j.few in
+    let j : Ticking old new t false s u r q =
+    subst (λ (x : Bool). Ticking old new t x s u r q) e k in
+    let n : length j.acts + 0 ≤ MOST_ENTRIES = j.few in
     record { acts = j.acts; ticks = j.ticks; few = omega arith; took = j.took }
 
 -- a turn
-turns_parts : (old one two new : PortState) (t w every last : ℕ) (since : Option ℕ) (s u v : SiteData) (r q p z : Report)
+turns_parts : (old one two new : PortState) (t w every last : ℕ) (since : Option ℕ)
+    (s u v : SiteData) (r q p z : Report)
     → Heard old one t w s u (record r { turns = one_more r.turns }) q
     → TickedAll one two t u v q p
     → SweptOnce two new every (unwrap_or since t) t last v v p z
     → Turned old new t w every s v since last r z
 turns_parts old one two new t w every last since s u v r q p z a b c =
     let acts = a.acts ++ (b.acts ++ c.acts) in
-    let made = made_both old one new (a.arrival ∷ calls_of a.acts) (calls_of b.acts ++ calls_of c.acts) a.made (made_both one two new (calls_of b.acts) (calls_of c.acts) b.took.made c.took.made) in
-    let e : calls_of acts ≡ calls_of a.acts ++ (calls_of b.acts ++ calls_of c.acts) = calls_of-append a.acts (b.acts ++ c.acts) ∙ ap (λ (x : List PortCall). calls_of a.acts ++ x) (calls_of-append b.acts c.acts) in
+    let made = made_both old one new (a.arrival ∷ calls_of a.acts)
+    (calls_of b.acts ++ calls_of c.acts) a.made (made_both one two new (calls_of b.acts)
+    (calls_of c.acts) b.took.made c.took.made) in
+    let e : calls_of acts ≡ calls_of a.acts ++ (calls_of b.acts ++ calls_of c.acts) =
+    calls_of-append a.acts (b.acts ++ c.acts) ∙ ap (λ (x : List PortCall). calls_of a.acts ++ x)
+    (calls_of-append b.acts c.acts) in
     let first : Report = count_call a.arrival (record r { turns = one_more r.turns }) in
-    let n : counting_acts acts first ≡ counting_acts c.acts (counting_acts b.acts (counting_acts a.acts first)) = counting_acts-append a.acts (b.acts ++ c.acts) first ∙ counting_acts-append b.acts c.acts (counting_acts a.acts first) in
+    let n : count_acts acts first ≡ count_acts c.acts
+    (count_acts b.acts (count_acts a.acts first)) =
+    count_acts-append a.acts (b.acts ++ c.acts) first
+    ∙ count_acts-append b.acts c.acts (count_acts a.acts first) in
     record {
       calls = a.arrival ∷ calls_of acts;
       made = subst (λ (x : List PortCall). Made old new (a.arrival ∷ x)) (sym e) made;
@@ -186,16 +251,20 @@ turns_parts old one two new t w every last since s u v r q p z a b c =
         are_ticks = b.ticks;
         few = b.few;
         is_swept = (last, c.swept, refl);
-        acted = acted_both s u v a.acts (b.acts ++ c.acts) a.acted (acted_both u v v b.acts c.acts b.took.acted c.took.acted);
+        acted = acted_both s u v a.acts (b.acts ++ c.acts) a.acted
+            (acted_both u v v b.acts c.acts b.took.acted c.took.acted);
         calls = refl;
-        report = c.took.report ∙ ap (counting_acts c.acts) (b.took.report ∙ ap (counting_acts b.acts) a.report) ∙ sym n;
+        report = c.took.report ∙ ap (count_acts c.acts)
+            (b.took.report ∙ ap (count_acts b.acts) a.report) ∙ sym n;
       };
     }
 
 -- the turn of these parts
-pub turned_at : (old one two new : PortState) (t w every last from : ℕ) (since : Option ℕ) (s u v : SiteData) (r k q p z : Report)
+pub turned_at : (old one two new : PortState) (t w every last from : ℕ) (since : Option ℕ)
+    (s u v : SiteData) (r k q p z : Report)
     → k ≡ record r { turns = one_more r.turns } → from ≡ unwrap_or since t
-    → Heard old one t w s u k q → TickedAll one two t u v q p → SweptOnce two new every from t last v v p z
+    → Heard old one t w s u k q → TickedAll one two t u v q p
+    → SweptOnce two new every from t last v v p z
     → Turned old new t w every s v since last r z
 turned_at old one two new t w every last from since s u v r k q p z d e a b c =
     turns_parts old one two new t w every last since s u v r q p z

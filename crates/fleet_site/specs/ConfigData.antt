@@ -1,6 +1,8 @@
 -- Which addresses a site may have for upstreams and peers.
 use Rattle.std.specs.Prelude.{◌≡◌, ℕ, ◌≤◌, List, ◌++◌, length}
+use Rattle.fleet_pending.specs.declared.bounds.TheConstants.{MOST_UPSTREAMS}
 use Rattle.fleet_pending.specs.declared.waiter.Addr.{Addr}
+use Rattle.fleet_site.specs.declared.bounds.TheConstants.{MOST_PEERS}
 use Rattle.fleet_name.specs.Places.{At, NoTwo}
 
 -- one of them
@@ -12,13 +14,13 @@ pub record ConfigData : Type 0 where
   pub upstreams : List Addr
   pub peers : List Addr
 
--- 1 to 4 upstreams
+-- 1 to MOST_UPSTREAMS upstreams
 abbrev pub HasUpstreams : List Addr → Type 0
-HasUpstreams xs = (1 ≤ length xs) × (length xs ≤ 4)
+HasUpstreams xs = (1 ≤ length xs) × (length xs ≤ MOST_UPSTREAMS)
 
--- and at most 16 peers
+-- and at most MOST_PEERS peers
 abbrev pub HasPeers : List Addr → List Addr → Type 0
-HasPeers xs ys = HasUpstreams xs × (length ys ≤ 16)
+HasPeers xs ys = HasUpstreams xs × (length ys ≤ MOST_PEERS)
 
 -- no address stands twice in both lists together
 abbrev pub AreApart : List Addr → List Addr → Type 0

@@ -18,10 +18,10 @@ call_of (note.Sent to octets) = PacketSent (record { to = to; octets = octets })
 call_of (note.Lost to octets) = PacketLost (record { to = to; octets = octets })
 
 -- what is told of these notes
-abbrev pub told_of : {A : Type 0} → Bool → List (Note A) → Option (List PortCall)
-told_of true notes = Some (map call_of notes)
-told_of false notes = None
+abbrev pub record_of_notes : {A : Type 0} → Bool → List (Note A) → Option (List PortCall)
+record_of_notes true notes = Some (map call_of notes)
+record_of_notes false notes = None
 
 -- the record of a port over memory
 abbrev pub record_of : {A : Type 0} → MemoryPort A → Option (List PortCall)
-record_of p = told_of p.tells p.notes.items
+record_of p = record_of_notes p.tells p.notes.items

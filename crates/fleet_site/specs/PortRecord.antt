@@ -1,6 +1,7 @@
 -- The record of a port: what it was asked, and how each call ended.
 use Rattle.std.specs.Prelude.{◌≡◌, ℕ, ◌+◌, min, List, [], ◌∷◌, ◌++◌, Option, Some, None, Result, Ok, Err, take}
 use Rattle.fleet_pending.specs.declared.waiter.Addr.{Addr}
+use Rattle.fleet_site.specs.declared.bounds.TheConstants.{MOST_COUNTED}
 use Rattle.fleet_site.specs.PacketData.{PacketData}
 use Rattle.fleet_site.specs.declared.port.PortFault.{PortFault}
 
@@ -29,9 +30,9 @@ abbrev pub send_of : Result (Unit {0}) PortFault → PacketData → PortCall
 send_of (Ok u) s = PacketSent s
 send_of (Err e) s = PacketLost s
 
--- a count stays at the greatest number of 64 bits
+-- a count stays at MOST_COUNTED
 abbrev pub one_more : ℕ → ℕ
-one_more n = min (n + 1) 18446744073709551615
+one_more n = min (n + 1) MOST_COUNTED
 
 -- a call that failed is counted
 abbrev pub failures_after : {T : Type 0} → Result T PortFault → ℕ → ℕ

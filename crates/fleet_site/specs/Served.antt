@@ -1,12 +1,13 @@
 -- What the loop of a server did, part by part.
 use Rattle.std.specs.Prelude.{◌≡◌, ℕ, ◌≤◌, false, List, [], ◌∷◌, Option, Some, length}
 use Rattle.rand_core.specs.Stream.{Stream}
+use Rattle.fleet_pending.specs.declared.bounds.TheConstants.{MOST_ENTRIES}
 use Rattle.fleet_site.specs.SiteData.{SiteData}
 use Rattle.fleet_site.specs.SiteModel.{SiteModel}
 use Rattle.fleet_site.specs.StandsFor.{StandsFor}
 use Rattle.fleet_site.specs.PortRecord.{PortCall, PortState, Made}
 use Rattle.fleet_site.specs.Sending.{count_call}
-use Rattle.fleet_site.specs.Turn.{Act, Acts, Acted, calls_of, counting_acts, Given, Ticks, Sweeps, Between, Turn, Turns, start_of}
+use Rattle.fleet_site.specs.Turn.{Act, Acts, Acted, calls_of, count_acts, Given, Ticks, Sweeps, Between, Turn, Turns, start_of}
 use Rattle.fleet_site.specs.declared.report.Report.{Report}
 
 -- the run of a server: these turns were made, and where the port tells its record, their calls are
@@ -38,7 +39,7 @@ pub record Took (old new : PortState) (site after : SiteData) (r q : Report) (ac
     : Type 0 where
   pub acted : Acted site after acts
   pub made : Made old new (calls_of acts)
-  pub report : q ≡ counting_acts acts r
+  pub report : q ≡ count_acts acts r
 
 -- what was received was given to the site
 pub record Heard (old new : PortState) (t word : ℕ) (site after : SiteData) (r q : Report)
@@ -48,14 +49,14 @@ pub record Heard (old new : PortState) (t word : ℕ) (site after : SiteData) (r
   pub given : Given t word arrival acts
   pub acted : Acted site after acts
   pub made : Made old new (arrival ∷ calls_of acts)
-  pub report : q ≡ counting_acts acts (count_call arrival r)
+  pub report : q ≡ count_acts acts (count_call arrival r)
 
--- the site ticked until no other entry was due
+-- the site ticked until no other entry was due, or a tick found no memory
 pub record TickedAll (old new : PortState) (t : ℕ) (site after : SiteData) (r q : Report)
     : Type 0 where
   pub acts : List Act
   pub ticks : Ticks t acts false
-  pub few : length acts ≤ 256
+  pub few : length acts ≤ MOST_ENTRIES
   pub took : Took old new site after r q acts
 
 -- it swept where it was time

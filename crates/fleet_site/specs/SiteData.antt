@@ -7,17 +7,17 @@ use Rattle.fleet_site.specs.Table.{IsTableOf}
 
 -- what a site holds: what it took in only as the items of its cache
 pub record SiteData : Type 0 where
-  pub setting : ConfigData
+  pub config : ConfigData
   pub cache : CacheData
   pub clock : ℕ
-  pub outstanding : PendingData
+  pub pending : PendingData
 
 abbrev pub site_data : ConfigData → CacheData → ℕ → PendingData → SiteData
-site_data setting cache clock outstanding =
-    record { setting = setting; cache = cache; clock = clock; outstanding = outstanding }
+site_data config cache clock pending =
+    record { config = config; cache = cache; clock = clock; pending = pending }
 
 -- what each site of a program meets
 pub record IsSiteData (s : SiteData) : Type 0 where
-  pub setting : IsConfigData s.setting
+  pub config : IsConfigData s.config
   pub reached : s.cache.floor ≤ s.clock
-  pub questions : IsTableOf s.setting.upstreams s.outstanding
+  pub questions : IsTableOf s.config.upstreams s.pending

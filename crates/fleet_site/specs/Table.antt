@@ -1,6 +1,6 @@
 -- The open questions of a site.
 use Rattle.std.specs.Prelude.{◌≡◌, ℕ, List, length}
-use Rattle.fleet_site.specs.declared.class.TheConstants.{IN}
+use Rattle.fleet_wire.specs.declared.class.TheConstants.{IN}
 use Rattle.fleet_pending.specs.Waiter.{WaiterData}
 use Rattle.fleet_pending.specs.PendingData.{EntryData, PendingData, IsPendingData}
 use Rattle.fleet_name.specs.Places.{At}
@@ -17,7 +17,7 @@ AskClassOne o = (w : WaiterData) → IsWaiting o w → w.question.class ≡ IN
 
 -- open questions that go to these upstreams one after the other, each of class IN
 pub record IsTableOf (upstreams : List Addr) (o : PendingData) : Type 0 where
-  pub outstanding : IsPendingData o
+  pub pending : IsPendingData o
   pub counted : o.upstreams ≡ length upstreams
   pub class : AskClassOne o
 

@@ -2,6 +2,7 @@
 use Rattle.std.specs.Prelude.{◌≡◌, ℕ, suc, zero, ◌+◌, ◌%◌, ◌<◌, ◌≤◌, Bool, true, false, List, [], ◌∷◌, ◌++◌, Option, Some, None, Result, Ok, Err, length}
 use Rattle.std.specs.Option.{unwrap_or}
 use Rattle.rand_core.specs.Stream.{Stream, next_u32}
+use Rattle.fleet_pending.specs.declared.bounds.TheConstants.{MOST_ENTRIES}
 use Rattle.fleet_pending.specs.declared.waiter.Addr.{Addr}
 use Rattle.fleet_site.specs.Choice.{when◌then◌otherwise◌}
 use Rattle.fleet_site.specs.OutcomeData.{OutcomeData, nothing}
@@ -10,7 +11,7 @@ use Rattle.fleet_site.specs.SiteData.{SiteData}
 use Rattle.fleet_site.specs.StandsFor.{StandsFor}
 use Rattle.fleet_site.specs.Sweep.{IsSweep}
 use Rattle.fleet_site.specs.Step.{Call, datagram, tick, Says}
-use Rattle.fleet_site.specs.PortRecord.{PortCall, Received, NoDatagram, Fault, PacketSent, PacketLost, PortState, Made, one_more}
+use Rattle.fleet_site.specs.PortRecord.{PortCall, Received, NoDatagram, Fault, PacketSent, PacketLost, one_more}
 use Rattle.fleet_site.specs.Sending.{AreSent, packets_of, count_call, count_calls, count_step, goes_on}
 use Rattle.fleet_site.specs.declared.outcome.SiteFault.{SiteFault}
 use Rattle.fleet_site.specs.declared.outcome.SiteFault.TheVariants.{OutOfMemory}
@@ -44,9 +45,9 @@ calls_of [] = []
 calls_of (a ∷ acts) = a.calls ++ calls_of acts
 
 -- a report counts these steps and their calls
-abbrev pub counting_acts : List Act → Report → Report
-counting_acts [] r = r
-counting_acts (a ∷ acts) r = counting_acts acts (count_calls a.calls (count_step a.answer r))
+abbrev pub count_acts : List Act → Report → Report
+count_acts [] r = r
+count_acts (a ∷ acts) r = count_acts acts (count_calls a.calls (count_step a.answer r))
 
 -- of each step all that it gave was sent or lost
 abbrev pub AllSent : List Addr → List Act → Type 0
@@ -61,8 +62,8 @@ Acts m (a ∷ acts) n = (mid : SiteModel) × Deals m a.deal a.answer mid × Acts
 -- the site took these steps, and what they gave was sent or lost
 pub record Acted (old new : SiteData) (acts : List Act) : Type 0 where
   pub steps : (m : SiteModel) → StandsFor old m → (n : SiteModel) × Acts m acts n × StandsFor new n
-  pub setting : new.setting ≡ old.setting
-  pub sent : AllSent old.setting.peers acts
+  pub config : new.config ≡ old.config
+  pub sent : AllSent old.config.peers acts
 
 -- what was received is given to the site, and nothing where nothing was
 abbrev pub Given : ℕ → ℕ → PortCall → List Act → Type 0
@@ -108,14 +109,14 @@ pub record Turn (t word every : ℕ) (a b : Between) : Type 0 where
   pub sweep : List Act
   pub is_given : Given t word arrival given
   pub are_ticks : Ticks t ticks false
-  pub few : length ticks ≤ 256
+  pub few : length ticks ≤ MOST_ENTRIES
   pub is_swept : (last : ℕ)
       × Sweeps every (unwrap_or a.swept t) t sweep last
       × (b.swept ≡ Some last)
   pub acted : Acted a.site b.site (given ++ (ticks ++ sweep))
   pub calls : b.calls ≡ a.calls ++ arrival ∷ calls_of (given ++ (ticks ++ sweep))
   pub report : b.report
-      ≡ counting_acts (given ++ (ticks ++ sweep))
+      ≡ count_acts (given ++ (ticks ++ sweep))
       (count_call arrival (record a.report { turns = one_more a.report.turns }))
 
 -- what a generator has left after n words
@@ -139,9 +140,17 @@ Turns moments s every (suc n) a b = (mid : Between) × (t : ℕ) × Turns moment
     × IsMoment moments n t × Turn t (word_of s n) every mid b
 
 -- nothing was counted yet
-abbrev pub blank : Report
-blank = record { turns = 0; received = 0; sent = 0; lost = 0; faults = 0; refused = 0; short = 0 }
+abbrev pub empty_report : Report
+empty_report = record {
+  turns = 0;
+  received = 0;
+  sent = 0;
+  lost = 0;
+  faults = 0;
+  refused = 0;
+  short = 0;
+}
 
 -- where a run begins
 abbrev pub start_of : SiteData → Between
-start_of site = record { site = site; calls = []; swept = None; report = blank }
+start_of site = record { site = site; calls = []; swept = None; report = empty_report }

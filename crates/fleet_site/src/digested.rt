@@ -1,8 +1,7 @@
 //! Replies that are read, and what they mean.
 
-ghost use Rattle.std.specs.Prelude.{◌≡◌, ℕ, IfOk, IfErr};
+ghost use Rattle.std.specs.Prelude.{◌≡◌, IfOk, IfErr};
 ghost use Rattle.fleet_wire.specs.Message.{IsReply};
-ghost use Rattle.fleet_observe.specs.Digest.{DigestData};
 ghost use Rattle.fleet_observe.specs.Meaning.{IsMeaning, IsSound};
 ghost use Rattle.fleet_site.specs.declared.digested.Unheard.TheVariants.{NoMemory};
 ghost use Rattle.fleet_site.specs.Unheard.{IsUnread, IsUndigested};

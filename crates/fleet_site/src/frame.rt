@@ -6,7 +6,6 @@ ghost use Rattle.fleet_cache.specs.Cached.{IsCached};
 ghost use Rattle.fleet_gossip.specs.Frame.{HasEntries};
 ghost use Rattle.fleet_pending.specs.PendingData.{PendingData};
 ghost use Rattle.fleet_site.specs.Carried.{Carries, Takes};
-ghost use Rattle.fleet_site.specs.OutcomeData.{outcome_data, nothing};
 ghost use Rattle.fleet_site.specs.Frame.{Framed};
 
 use crate::outcome::{Outcome, Refusal, SiteFault};

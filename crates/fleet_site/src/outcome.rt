@@ -1,6 +1,6 @@
 //! What a step of a site gives.
 
-ghost use Rattle.std.specs.Prelude.{◌≡◌, [], ◌∷◌, ◌++◌, IfOk, OnOk, OnErr, map, length};
+ghost use Rattle.std.specs.Prelude.{◌≡◌, [], ◌∷◌, IfOk, map, length};
 ghost use Rattle.fleet_site.specs.Packet.{packet_data};
 ghost use Rattle.fleet_site.specs.OutcomeData.{outcome_data, nothing, sends};
 ghost use Rattle.fleet_site.specs.declared.outcome.SiteFault.TheVariants.{OutOfMemory};

@@ -1,16 +1,14 @@
 //! What a miss makes of the table of open questions.
 
 ghost use Rattle.std.specs.Prelude.{◌≡◌, ◌<◌, ◌≤◌, ℕ, ⊤, List, IfOk, IfErr, OnErr};
-ghost use Rattle.fleet_wire.specs.Question.{question_data};
-ghost use Rattle.fleet_site.specs.declared.class.TheConstants.{IN};
+ghost use Rattle.fleet_wire.specs.declared.class.TheConstants.{IN};
 ghost use Rattle.fleet_observe.specs.Observation.{ObservationData};
 ghost use Rattle.fleet_cache.specs.Cached.{IsCached};
-ghost use Rattle.fleet_pending.specs.Asking.{Asks, asked_or_fault};
-ghost use Rattle.fleet_pending.specs.PendingData.{EntryData, IsEntryData, UsesId};
+ghost use Rattle.fleet_pending.specs.Asking.{Asks, ask_result};
+ghost use Rattle.fleet_pending.specs.PendingData.{EntryData, UsesId};
 ghost use Rattle.fleet_name.specs.Places.{At};
-ghost use Rattle.fleet_pending.specs.declared.answer.PendingFault.TheVariants.{OutOfMemory as NoRoom};
 ghost use Rattle.fleet_site.specs.Carried.{Keeps, IsAskable, IsAnswered, TurnsAway, IsQueryOf};
-ghost use Rattle.fleet_site.specs.OutcomeData.{outcome_data, sends};
+ghost use Rattle.fleet_site.specs.OutcomeData.{outcome_data};
 ghost use Rattle.fleet_site.specs.Question.{Reacts, Forwards, Questioned, turns_away};
 ghost use Rattle.fleet_site.specs.Table.{IsTableOf, KeepsTable, AskClassOne};
 ghost use Rattle.fleet_site.specs.Verdict.{IsAsking, verdict};
@@ -18,7 +16,6 @@ ghost use Rattle.fleet_site.specs.Verdict.{IsAsking, verdict};
 use crate::config::addr_of;
 use crate::outcome::{Outcome, Refusal, SiteFault};
 use crate::query::entry_query;
-use crate::rcode::{REFUSED, SERVER_FAILURE};
 use crate::verdict::{Decision, decide};
 use crate::writing::reply_without;
 use fleet_cache::Cache;
@@ -27,6 +24,7 @@ use fleet_pending::{
     Addr, Asked, Pending, PendingFault, Unasked, Waiter, new_entry_is_last, settling_undoes_asking,
     waiters_stay,
 };
+use fleet_wire::rcode::{REFUSED, SERVER_FAILURE};
 use fleet_wire::{Header, Question};
 use std::alloc::{AllocError, Allocator};
 
@@ -109,7 +107,7 @@ fn forward<A: Allocator + Copy>(
     requires class { question.class ≡ IN }
     requires table { IsTableOf upstreams.now pending.old }
     ensures forwards { Keeps (Forwards upstreams.now pending.old arrival.clock arrival.from
-        arrival.word header (question_data question)) ⊤ pending.old result pending.new }
+        arrival.word header question) ⊤ pending.old result pending.new }
     ensures table { KeepsTable pending.old pending.new }
 {
     let from = arrival.from;
@@ -145,7 +143,7 @@ fn enter<A: Allocator + Copy>(
 ) -> Result<Asked, Unasked<A>>
     requires { waiter.question.class ≡ IN }
     ensures asks { Asks pending.old waiter arrival.clock arrival.word
-        (asked_or_fault result) pending.new }
+        (ask_result result) pending.new }
     ensures back { IfErr result (λ u. u.waiter ≡ waiter) }
     ensures unchanged { OnErr result (pending.new ≡ pending.old) }
     ensures table { KeepsTable pending.old pending.new }
@@ -200,8 +198,7 @@ fn say_full<A: Allocator + Copy>(
     question: &Question<A>,
 ) -> Result<Outcome<A>, AllocError>
     requires { header.opcode < 16 }
-    ensures { IfOk result (λ o. outcome_data o
-        ≡ turns_away from header (question_data question.now)) }
+    ensures { IfOk result (λ o. outcome_data o ≡ turns_away from header question.now) }
 {
     let octets = reply_without(alloc, header, SERVER_FAILURE, question)?;
     Outcome::with_packet(alloc, from, octets, Some(Refusal::Full))

@@ -1,18 +1,15 @@
 //! What a site does with a reply: one from an upstream is relayed to those who wait for it, one
 //! that it is handed is learnt.
 
-ghost use Rattle.std.specs.Prelude.{◌≡◌, ◌<◌, ◌≤◌, ◌++◌, ℕ, List, IfOk, IfErr, OnOk, map, length, take};
-ghost use Rattle.fleet_wire.specs.Message.{MessageData, HasReply};
+ghost use Rattle.std.specs.Prelude.{◌≡◌, ◌<◌, List, IfOk, IfErr, map};
+ghost use Rattle.fleet_wire.specs.Message.{HasReply};
 ghost use Rattle.fleet_observe.specs.Observation.{ObservationData};
-ghost use Rattle.fleet_observe.specs.Digest.{DigestData};
-ghost use Rattle.fleet_observe.specs.Meaning.{IsMeaning};
-ghost use Rattle.fleet_observe.specs.Observed.{reply_observations};
-ghost use Rattle.fleet_gossip.specs.Packed.{IsPacked};
+ghost use Rattle.fleet_observe.specs.Observations.{reply_observations};
 ghost use Rattle.fleet_cache.specs.Cached.{IsCached};
 ghost use Rattle.fleet_pending.specs.PendingData.{PendingData};
 ghost use Rattle.fleet_site.specs.Carried.{Carries};
 ghost use Rattle.fleet_site.specs.Learn.{Learnt};
-ghost use Rattle.fleet_site.specs.Relayed.{Hears, IsMade, IsRelayFor, SaysRefusal, Unlearns};
+ghost use Rattle.fleet_site.specs.Relayed.{IsRelayOf, IsMade, IsRelayFor, SaysRefusal, Unlearns};
 ghost use Rattle.fleet_site.specs.Reply.{IsAnswering, IsReplying, Replied, relay_to};
 ghost use Rattle.fleet_site.specs.SiteModel.{takes};
 ghost use Rattle.fleet_site.specs.Table.{KeepsTable};
@@ -100,7 +97,7 @@ fn hear<A: Allocator + Copy>(
     clock: Moment,
     octets: &[u8],
 ) -> Result<Relay<A>, Unheard>
-    ensures relayed { IfOk result (λ r. Hears pending.now clock upstream octets.now r) }
+    ensures relayed { IfOk result (λ r. IsRelayOf pending.now clock upstream octets.now r) }
     ensures refused { IfErr result (λ e. Unlearns (Replied pending.now clock upstream octets.now)
         (IsReplying octets.now) pending.now e) }
 {
@@ -124,7 +121,7 @@ fn hear_reply<A: Allocator + Copy>(
     octets: &[u8],
 ) -> Result<Relay<A>, Unheard>
     requires { IsAnswering octets.now }
-    ensures relayed { IfOk result (λ r. Hears pending.now clock upstream octets.now r) }
+    ensures relayed { IfOk result (λ r. IsRelayOf pending.now clock upstream octets.now r) }
     ensures refused { IfErr result (λ e. Unlearns (Replied pending.now clock upstream octets.now)
         (IsReplying octets.now) pending.now e) }
 {

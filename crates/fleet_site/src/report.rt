@@ -23,11 +23,11 @@ pub struct Report {
 }
 
 impl Report {
-    ghost use Rattle.fleet_site.specs.Turn.{blank};
+    ghost use Rattle.fleet_site.specs.Turn.{empty_report};
 
     /// Nothing was counted yet.
     pub(crate) fn new() -> Report
-        ensures { result ≡ blank }
+        ensures { result ≡ empty_report }
     {
         Report {
             turns: 0,

@@ -1,6 +1,7 @@
 //! The loop of a server.
 
 ghost use Rattle.std.specs.Prelude.{◌≡◌, ◌↔◌, IsTrue, ◌<◌, ◌+◌, ◌∷◌, [], map, is_some};
+ghost use Rattle.fleet_site.specs.declared.bounds.TheConstants.{MOST_COUNTED};
 ghost use Rattle.fleet_site.specs.Packet.{packet_data};
 ghost use Rattle.fleet_site.specs.OutcomeData.{result_data};
 ghost use Rattle.fleet_site.specs.Sending.{Sends, CarriesOut, to_each, to_peers, sweep_outcome, count_refusal_in, goes_on};
@@ -11,6 +12,7 @@ use crate::outcome::{Outcome, Packet, Refusal, SiteFault};
 use crate::port::{Clock, Port};
 use crate::report::Report;
 use crate::site::Site;
+use fleet_gossip::bounds::LONGEST_FRAME;
 use fleet_name::Octets;
 use fleet_observe::Moment;
 use fleet_pending::{Addr, serving_leaves_fewer_due};
@@ -18,7 +20,7 @@ use rand_core::Rng;
 use std::alloc::{AllocError, Allocator};
 
 /// The octets of the longest frame, and one more.
-const BUFFER: usize = 16385;
+const BUFFER: usize = LONGEST_FRAME + 1;
 
 /// Sends octets, and counts them.
 fn send<P: Port>(port: &mut P, to: Addr, bytes: &[u8], report: &mut Report)
@@ -149,7 +151,7 @@ fn tick_all<P: Port, A: Allocator + Copy>(
     ensures { TickedAll (P.tells port.old) (P.tells port.new) now site.old site.new report.old
         report.new }
 {
-    // At most 256 are due, so there is an end.
+    // At most `MOST_ENTRIES` are due, so there is an end.
     serving_leaves_fewer_due();
     prove!(site.cache().floor().value() <= site.clock().value());
     let mut more = true;
@@ -225,8 +227,8 @@ pub fn serve<P: Port, C: Clock, R: Rng, A: Allocator + Copy>(
     ensures run { Served (P.tells port.old) (P.tells port.new) (C.moments clock.old)
         (R.stream rng.old) turns sweep_every site.old site.new result }
     ensures follows { FollowsSteps site.old site.new }
-    ensures failures { result.lost < 18446744073709551615 → result.faults < 18446744073709551615
-        → (P.tells port.new).failed < 18446744073709551615
+    ensures failures { result.lost < MOST_COUNTED → result.faults < MOST_COUNTED
+        → (P.tells port.new).failed < MOST_COUNTED
         → (P.tells port.new).failed ≡ (P.tells port.old).failed + (result.lost + result.faults) }
 {
     let mut report = Report::new();

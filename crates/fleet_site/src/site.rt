@@ -1,10 +1,6 @@
 //! A site.
 
-ghost use Rattle.std.specs.Prelude.{◌≡◌, ◌≢◌, ℕ, ◌≤◌, max, List, IsTrue, IfOk, IfErr, OnErr, [], length};
-ghost use Rattle.fleet_observe.specs.Observation.{ObservationData};
-ghost use Rattle.fleet_cache.specs.Cached.{IsCached};
-ghost use Rattle.fleet_gossip.specs.Packed.{IsPacked};
-ghost use Rattle.fleet_site.specs.Looking.{Looks};
+ghost use Rattle.std.specs.Prelude.{◌≡◌, ◌≢◌, max, IsTrue, IfOk, IfErr, OnErr, []};
 ghost use Rattle.fleet_site.specs.SiteModel.{SiteModel};
 ghost use Rattle.fleet_site.specs.StandsFor.{StandsFor, Follows, Answers, Gathers, opening};
 ghost use Rattle.fleet_site.specs.Sender.{IsSender};
@@ -12,7 +8,7 @@ ghost use Rattle.fleet_site.specs.SiteData.{IsSiteData};
 ghost use Rattle.fleet_site.specs.Step.{datagram as a_datagram, tick as a_tick, frame as a_frame, learn as a_reply};
 ghost use Rattle.fleet_site.specs.Sweep.{IsSweep};
 ghost use Rattle.fleet_site.specs.Tick.{LeavesFewer};
-ghost use Rattle.fleet_site.specs.Verdict.{IsAsking, verdict};
+ghost use Rattle.fleet_site.specs.Verdict.{IsAsking};
 ghost use Rattle.fleet_site.specs.declared.outcome.SiteFault.TheVariants.{OutOfMemory};
 
 use crate::config::{Config, place_of};
@@ -111,7 +107,7 @@ impl<A: Allocator + Copy> Site<A> {
     pub fn restart(&mut self)
         ensures opens { (m : SiteModel) → StandsFor self.old m
             → StandsFor self.new (opening m.upstreams m.peers) }
-        ensures setting { self.new.setting ≡ self.old.setting }
+        ensures config { self.new.config ≡ self.old.config }
     {
         self.cache.clear();
         self.pending.clear();
@@ -136,7 +132,7 @@ impl<A: Allocator + Copy> Site<A> {
 
     /// Whom it tells, in this order.
     pub(crate) fn peers(&self) -> &[Addr]
-        ensures { result.now ≡ self.now.setting.peers }
+        ensures { result.now ≡ self.now.config.peers }
     {
         self.config.peers()
     }
@@ -168,7 +164,7 @@ impl<A: Allocator + Copy> Site<A> {
     ) -> Result<Outcome<A>, SiteFault>
         ensures follows { (m : SiteModel) → StandsFor self.old m
             → Follows m (a_datagram now from bytes.now word) result self.new }
-        ensures setting { self.new.setting ≡ self.old.setting }
+        ensures config { self.new.config ≡ self.old.config }
     {
         self.clock = later_moment(self.clock, now);
         match sender_of(&self.config, from) {
@@ -207,10 +203,10 @@ impl<A: Allocator + Copy> Site<A> {
     pub fn tick(&mut self, now: Moment) -> Result<Outcome<A>, SiteFault>
         ensures follows { (m : SiteModel) → StandsFor self.old m
             → Follows m (a_tick now) result self.new }
-        ensures setting { self.new.setting ≡ self.old.setting }
+        ensures config { self.new.config ≡ self.old.config }
         ensures clock { self.new.clock ≡ max self.old.clock now }
         ensures fewer { IfOk result (λ o.
-            IsTrue o.more → LeavesFewer self.old.outstanding self.new.outstanding self.new.clock) }
+            IsTrue o.more → LeavesFewer self.old.pending self.new.pending self.new.clock) }
     {
         self.clock = later_moment(self.clock, now);
         self.cache.purge(self.clock);
@@ -226,7 +222,7 @@ impl<A: Allocator + Copy> Site<A> {
     pub fn frame(&mut self, now: Moment, bytes: &[u8]) -> Result<Outcome<A>, SiteFault>
         ensures follows { (m : SiteModel) → StandsFor self.old m
             → Follows m (a_frame now bytes.now) result self.new }
-        ensures setting { self.new.setting ≡ self.old.setting }
+        ensures config { self.new.config ≡ self.old.config }
     {
         self.clock = later_moment(self.clock, now);
         take_frame(self.alloc, &mut self.cache, bytes)
@@ -237,7 +233,7 @@ impl<A: Allocator + Copy> Site<A> {
     pub fn learn(&mut self, now: Moment, bytes: &[u8]) -> Result<Outcome<A>, SiteFault>
         ensures follows { (m : SiteModel) → StandsFor self.old m
             → Follows m (a_reply now bytes.now) result self.new }
-        ensures setting { self.new.setting ≡ self.old.setting }
+        ensures config { self.new.config ≡ self.old.config }
     {
         self.clock = later_moment(self.clock, now);
         learn_reply(self.alloc, &mut self.cache, self.clock, bytes)
@@ -250,7 +246,7 @@ impl<A: Allocator + Copy> Site<A> {
             → Answers m now bytes.now result self.new }
         ensures stopped { IfErr result (λ f. f ≡ OutOfMemory 0) }
         ensures memory { IfErr result (λ _. IsAsking bytes.now) }
-        ensures setting { self.new.setting ≡ self.old.setting }
+        ensures config { self.new.config ≡ self.old.config }
     {
         self.clock = later_moment(self.clock, now);
         match decide(self.alloc, &self.cache, self.clock, bytes)? {
@@ -276,7 +272,7 @@ impl<A: Allocator + Copy> Site<A> {
     pub fn merge(&mut self, other: &Site<A>) -> Result<usize, SiteFault>
         ensures gathers { (m : SiteModel) → StandsFor self.old m
             → (from : SiteModel) → StandsFor other.now from → Gathers m from result self.new }
-        ensures setting { self.new.setting ≡ self.old.setting }
+        ensures config { self.new.config ≡ self.old.config }
     {
         let count = other.cache.len();
         match self.cache.merge(&other.cache) {

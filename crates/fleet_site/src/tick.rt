@@ -1,25 +1,24 @@
 //! What a site does as time passes.
 
-ghost use Rattle.std.specs.Prelude.{◌≡◌, ◌<◌, ◌≤◌, ◌+◌, ◌↔◌, ℕ, IsTrue, IfOk, IfErr, Some, map, length};
+ghost use Rattle.std.specs.Prelude.{◌≡◌, ◌<◌, ◌+◌, IsTrue, IfOk, IfErr, Some, map};
 ghost use Rattle.fleet_pending.specs.Due.{NoneDue, Dues, due_entry};
 ghost use Rattle.fleet_pending.specs.PendingData.{IsEntryData};
 ghost use Rattle.fleet_site.specs.Carried.{Keeps};
 ghost use Rattle.fleet_site.specs.OutcomeData.{outcome_data};
-ghost use Rattle.fleet_site.specs.Packet.{packet_data};
 ghost use Rattle.fleet_site.specs.Serving.{IsPlan, SaysMore};
 ghost use Rattle.fleet_site.specs.Table.{IsTableOf, KeepsTable};
-ghost use Rattle.fleet_site.specs.Tick.{Ticked, LeavesFewer, failure, failure_to};
+ghost use Rattle.fleet_site.specs.Tick.{Ticked, LeavesFewer, failure_to};
 
 use crate::config::addr_of;
 use crate::outcome::{Outcome, Packet, Packets, SiteFault};
 use crate::query::entry_query;
-use crate::rcode::SERVER_FAILURE;
 use fleet_name::Octets;
 use fleet_observe::Moment;
 use fleet_pending::{
     Addr, Due, Entry, Pending, Waiter, serving_leaves_fewer_due, settling_gives_its_entry,
     waiters_stay,
 };
+use fleet_wire::rcode::SERVER_FAILURE;
 use fleet_wire::{Outline, write_reply};
 use std::alloc::{AllocError, Allocator};
 

@@ -1,21 +1,20 @@
 //! What is made of octets that are asked, before the table of open questions is looked at.
 
 ghost use Rattle.std.specs.Prelude.{◌≡◌, ◌≤◌, ◌<◌, ◌↔◌, List, IsTrue, IfOk, IfErr};
-ghost use Rattle.fleet_wire.specs.Question.{question_data};
-ghost use Rattle.fleet_site.specs.declared.class.TheConstants.{IN};
+ghost use Rattle.fleet_wire.specs.declared.class.TheConstants.{IN};
 ghost use Rattle.fleet_observe.specs.Observation.{ObservationData};
 ghost use Rattle.fleet_cache.specs.Cached.{IsCached};
 ghost use Rattle.fleet_cache.specs.Kinds.{HasKinds};
 ghost use Rattle.fleet_cache.specs.AnswerData.{answer_data};
-ghost use Rattle.fleet_site.specs.Carried.{IsAskable, IsAnswered, IsUnread};
+ghost use Rattle.fleet_site.specs.Carried.{IsAskable, IsAnswered, SaysUnread};
 ghost use Rattle.fleet_site.specs.Verdict.{IsAsking, verdict, IsServedQuestion, DecidesAnswer, DecidesQuestion, Decides};
 
-use crate::class::IN;
-use crate::rcode::{FORMAT_ERROR, NAME_ERROR, NO_ERROR, NOT_IMPLEMENTED};
 use crate::writing::{bare_reply, deny, reply_without, tell};
 use fleet_cache::{Answer, Cache};
 use fleet_name::Octets;
 use fleet_observe::{Moment, is_data_type};
+use fleet_wire::class::IN;
+use fleet_wire::rcode::{FORMAT_ERROR, NAME_ERROR, NO_ERROR, NOT_IMPLEMENTED};
 use fleet_wire::{Header, Question, ReadFault, read_header, read_query};
 use std::alloc::{AllocError, Allocator};
 
@@ -74,7 +73,7 @@ fn decide_unread<A: Allocator + Copy>(
     fault: ReadFault,
 ) -> Result<Decision<A>, AllocError>
     requires { header.opcode < 16 }
-    ensures told { IfOk result (λ d. IsUnread header fault (verdict d)) }
+    ensures told { IfOk result (λ d. SaysUnread header fault (verdict d)) }
     ensures askable { IfOk result (λ d. IsAskable d) }
 {
     if fault == ReadFault::OutOfMemory {
@@ -95,7 +94,7 @@ fn decide_question<A: Allocator + Copy>(
     requires opcode { header.opcode < 16 }
     requires reached { cache.now.floor ≤ clock }
     ensures decides { (s : List ObservationData) → IsCached s cache.now.floor cache.now.items
-        → IfOk result (λ d. DecidesQuestion s clock header (question_data question) (verdict d)) }
+        → IfOk result (λ d. DecidesQuestion s clock header question (verdict d)) }
     ensures askable { IfOk result (λ d. IsAskable d) }
 {
     if !is_served(&question) {
@@ -108,7 +107,7 @@ fn decide_question<A: Allocator + Copy>(
 
 /// Whether a question is answered: of class 1, and of a type that data can have.
 fn is_served<A: Allocator>(question: &Question<A>) -> bool
-    ensures { IsTrue result ↔ IsServedQuestion (question_data question.now) }
+    ensures { IsTrue result ↔ IsServedQuestion question.now }
 {
     question.class == IN && is_data_type(question.rtype)
 }
@@ -124,21 +123,21 @@ fn decide_answer<A: Allocator + Copy>(
     requires served { question.class ≡ IN }
     requires kinds { HasKinds (answer_data answer.now) }
     ensures decides { IfOk result (λ d.
-        DecidesAnswer header (question_data question) (answer_data answer.now) (verdict d)) }
+        DecidesAnswer header question (answer_data answer.now) (verdict d)) }
     ensures askable { IfOk result (λ d. IsAskable d) }
 {
     match answer {
         Answer::Miss => Ok(Decision::Miss(header, question)),
         Answer::Found { chain, set } => {
-            let reply = tell(alloc, header, &question, chain, *set)?;
+            let reply = tell(alloc, header, &question, chain, set)?;
             Ok(Decision::Reply(reply))
         }
         Answer::NoData { chain, soa } => {
-            let reply = deny(alloc, header, NO_ERROR, &question, chain, *soa)?;
+            let reply = deny(alloc, header, NO_ERROR, &question, chain, soa)?;
             Ok(Decision::Reply(reply))
         }
         Answer::NxDomain { chain, soa } => {
-            let reply = deny(alloc, header, NAME_ERROR, &question, chain, *soa)?;
+            let reply = deny(alloc, header, NAME_ERROR, &question, chain, soa)?;
             Ok(Decision::Reply(reply))
         }
     }

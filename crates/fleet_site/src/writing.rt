@@ -2,15 +2,14 @@
 
 ghost use Rattle.std.specs.Prelude.{◌≡◌, ◌<◌, IfOk, OnOk, Some, None, MatchOption};
 ghost use Rattle.fleet_wire.specs.Outline.{octets_of_outline};
-ghost use Rattle.fleet_wire.specs.Question.{question_data};
 ghost use Rattle.fleet_cache.specs.Kinds.{IsPositivePart, ArePositiveParts};
-ghost use Rattle.fleet_cache.specs.Shown.{shown_data, all_shown_data};
+ghost use Rattle.fleet_cache.specs.Shown.{shown_parts};
 ghost use Rattle.fleet_site.specs.Rows.{bare_outline, bare_octets, AddsRows, AddsChainRows, AddsSoaRow, IsNegativePart, WritesRecords, WritesDenial};
 
-use crate::rcode::NO_ERROR;
 use fleet_cache::{Chain, Shown};
 use fleet_name::Octets;
 use fleet_observe::{Rows, add_rows, add_soa};
+use fleet_wire::rcode::NO_ERROR;
 use fleet_wire::{Header, Outline, Question, write_reply};
 use std::alloc::{AllocError, Allocator};
 
@@ -20,14 +19,13 @@ pub(crate) fn tell<A: Allocator + Copy>(
     header: Header,
     question: &Question<A>,
     chain: &Chain<'_, A>,
-    set: Shown<'_, A>,
+    set: &Shown<'_, A>,
 ) -> Result<Octets<A>, AllocError>
     requires opcode { header.opcode < 16 }
-    requires links { ArePositiveParts (all_shown_data chain.now.items) }
-    requires positive { IsPositivePart (shown_data set) }
-    ensures { IfOk result (WritesRecords header (question_data question.now)
-        (all_shown_data chain.now.items)
-        (shown_data set.entry)) }
+    requires links { ArePositiveParts (shown_parts chain.now.items) }
+    requires positive { IsPositivePart set.now }
+    ensures { IfOk result
+        (WritesRecords header question.now (shown_parts chain.now.items) set.now) }
 {
     let mut outline = begin(alloc, header, NO_ERROR, Some(question));
     add_chain(&mut outline, chain.as_slice())?;
@@ -42,15 +40,14 @@ pub(crate) fn deny<A: Allocator + Copy>(
     rcode: u8,
     question: &Question<A>,
     chain: &Chain<'_, A>,
-    soa: Shown<'_, A>,
+    soa: &Shown<'_, A>,
 ) -> Result<Octets<A>, AllocError>
     requires opcode { header.opcode < 16 }
     requires rcode { rcode < 16 }
-    requires links { ArePositiveParts (all_shown_data chain.now.items) }
-    requires negative { IsNegativePart (shown_data soa) }
-    ensures { IfOk result (WritesDenial header rcode (question_data question.now)
-        (all_shown_data chain.now.items)
-        (shown_data soa.entry)) }
+    requires links { ArePositiveParts (shown_parts chain.now.items) }
+    requires negative { IsNegativePart soa.now }
+    ensures { IfOk result
+        (WritesDenial header rcode question.now (shown_parts chain.now.items) soa.now) }
 {
     let mut outline = begin(alloc, header, rcode, Some(question));
     add_chain(&mut outline, chain.as_slice())?;
@@ -63,12 +60,12 @@ fn add_chain<'a, A: Allocator + Copy>(
     outline: &mut Outline<'a, A>,
     chain: &[Option<Shown<'a, A>>],
 ) -> Result<(), AllocError>
-    ensures { ArePositiveParts (all_shown_data chain.now)
-        → OnOk result (AddsChainRows (all_shown_data chain.now) outline.old outline.new) }
+    ensures { ArePositiveParts (shown_parts chain.now)
+        → OnOk result (AddsChainRows (shown_parts chain.now) outline.old outline.new) }
 {
     for link in chain {
         if let Some(part) = link {
-            add_set(outline, *part)?;
+            add_set(outline, part)?;
         }
     }
     Ok(())
@@ -77,10 +74,10 @@ fn add_chain<'a, A: Allocator + Copy>(
 /// Adds the records of a positive observation.
 fn add_set<'a, A: Allocator + Copy>(
     outline: &mut Outline<'a, A>,
-    part: Shown<'a, A>,
+    part: &Shown<'a, A>,
 ) -> Result<(), AllocError>
-    ensures { IsPositivePart (shown_data part.entry)
-        → OnOk result (AddsRows (shown_data part.entry) outline.old outline.new) }
+    ensures { IsPositivePart part.now
+        → OnOk result (AddsRows part.now outline.old outline.new) }
 {
     let observation = part.observation;
     let rows = Rows {
@@ -95,10 +92,10 @@ fn add_set<'a, A: Allocator + Copy>(
 /// Adds the SOA record of a negative observation.
 fn add_denial<'a, A: Allocator + Copy>(
     outline: &mut Outline<'a, A>,
-    part: Shown<'a, A>,
+    part: &Shown<'a, A>,
 ) -> Result<(), AllocError>
-    ensures { IsNegativePart (shown_data part.entry)
-        → OnOk result (AddsSoaRow (shown_data part.entry) outline.old outline.new) }
+    ensures { IsNegativePart part.now
+        → OnOk result (AddsSoaRow part.now outline.old outline.new) }
 {
     match part.observation.soa() {
         Some((owner, rdata)) => add_soa(outline, owner, part.ttl, rdata),
@@ -116,7 +113,7 @@ fn begin<'a, A: Allocator + Copy>(
     requires opcode { header.opcode < 16 }
     requires rcode { rcode < 16 }
     ensures { MatchOption question.entry (result ≡ bare_outline header rcode None)
-        (λ q. result ≡ bare_outline header rcode (Some (question_data q.now))) }
+        (λ q. result ≡ bare_outline header rcode (Some q.now)) }
 {
     Outline::new(
         alloc,
@@ -161,8 +158,7 @@ pub(crate) fn reply_without<A: Allocator + Copy>(
 ) -> Result<Octets<A>, AllocError>
     requires opcode { header.opcode < 16 }
     requires rcode { rcode < 16 }
-    ensures { IfOk result (λ octets.
-        octets ≡ bare_octets header rcode (Some (question_data question.now))) }
+    ensures { IfOk result (λ octets. octets ≡ bare_octets header rcode (Some question.now)) }
 {
     let outline = begin(alloc, header, rcode, Some(question));
     finish(alloc, &outline)

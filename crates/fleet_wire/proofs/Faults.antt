@@ -2,9 +2,10 @@
 use Rattle.std.proofs.Common.{◌≡◌, ℕ, ◌+◌, ◌-◌, ◌*◌, ◌<◌, ◌≤◌, List, length, refl, sym, ◌∙◌, arith, Option, Some, None, if◌then◌else◌, nat_le}
 use Rattle.std.proofs.lemmas.Bool.{le-leb, lt-leb}
 use Rattle.std.specs.Prelude.{slice_index}
+use Rattle.fleet_name.specs.declared.bounds.TheConstants.{LONGEST_NAME}
 use Rattle.fleet_wire.specs.declared.bounds.TheConstants.{LONGEST_MESSAGE}
 use Rattle.fleet_wire.specs.NameAt.{LabelAt, EndAt, PointerAt}
-use Rattle.fleet_wire.specs.Fault.{FaultAt, no_octet, half_pointer, no_label, not_back, long_name, cut_label}
+use Rattle.fleet_wire.specs.Fault.{FaultAt, no_octet, half_pointer, bad_bits, not_back, long_name, cut_label}
 use Rattle.fleet_wire.specs.Message.{HasOneQuestion, HeaderFails, no_header, long_message, not_one}
 use Rattle.fleet_wire.specs.declared.fault.ReadFault.{ReadFault}
 use Rattle.fleet_wire.specs.declared.fault.ReadFault.TheVariants.{TooShort, TooLong, Truncated, BadLabel, BadPointer, LongName, QuestionCount, OutOfMemory}
@@ -42,7 +43,7 @@ module _ (m : List ℕ) (p s k : ℕ) where
         le-leb 192 c mark,
         le-leb (length m) (p + 1) (omega (arith, end)),
       ) refl
-  fault_is f (no_label at low high is) =
+  fault_is f (bad_bits at low high is) =
       rw (is, lt-leb (length m) p at, lt-leb 192 c high, le-leb 64 c low) refl
   fault_is f (not_back q at back is) =
       rw (
@@ -89,7 +90,7 @@ module _ (m : List ℕ) (p s k : ℕ) where
       some_or_none f (fault_at m p s k) (fault_is f h) none
 
   pub fault_or_label : (f : ReadFault) (label : List ℕ) → FaultAt m p s k f → LabelAt m p label
-      → k + length label + 1 ≤ 255 → ⊥
+      → k + length label + 1 ≤ LONGEST_NAME → ⊥
   unfolding fault_at c
   fault_or_label f label h at room =
       let none : fault_at m p s k ≡ None =
@@ -118,7 +119,7 @@ module _ (m : List ℕ) (p s k : ℕ) where
   pub no_memory_here : (f : ReadFault) → FaultAt m p s k f → f ≡ OutOfMemory → ⊥
   no_memory_here f (no_octet out is) e = cc
   no_memory_here f (half_pointer end mark is) e = cc
-  no_memory_here f (no_label at low high is) e = cc
+  no_memory_here f (bad_bits at low high is) e = cc
   no_memory_here f (not_back q at back is) e = cc
   no_memory_here f (long_name count over is) e = cc
   no_memory_here f (cut_label count fits cut is) e = cc

@@ -8,7 +8,7 @@ use Rattle.fleet_wire.specs.Number.{u16_at}
 use Rattle.fleet_wire.specs.Question.{QuestionData, IsQuestionData, IsQuestion}
 use Rattle.fleet_wire.specs.Shape.{shape_of, PartsAt, ShapeAt, ArePlain, HasShape}
 use Rattle.fleet_wire.specs.Record.{RecordData, RecordAt, RecordsAt, IsPlainRecord}
-use Rattle.fleet_wire.specs.Message.{IsHeader, IsRead, HasOneQuestion, IsQuery, IsReply, SectionsAt, header_of, reply_with}
+use Rattle.fleet_wire.specs.Message.{IsHeader, IsRead, HasOneQuestion, IsQuery, IsReply, SectionsAt, header_of, message_data}
 use Rattle.fleet_wire.specs.declared.header.Header.{Header}
 use Rattle.fleet_wire.specs.declared.shape.Part.{Part}
 use Rattle.fleet_wire.specs.declared.shape.Part.TheVariants.{Plain, Name}
@@ -27,7 +27,8 @@ header_lawful m h is =
     let lawful : IsHeader (header_of m) = record { opcode = omega arith; rcode = omega arith } in
     subst (λ (x : Header). IsHeader x) (sym is) lawful
 
-pub question_asked : (m : List ℕ) (p : ℕ) (q : QuestionData) (e : ℕ) → IsQuestion m p q e → IsQuestionData q
+pub question_asked : (m : List ℕ) (p : ℕ) (q : QuestionData) (e : ℕ) → IsQuestion m p q e
+    → IsQuestionData q
 question_asked m p q e is =
     record {
       spelled = spells_name q.spelled is.labels q.name is.spelled is.name is.named;
@@ -77,7 +78,8 @@ IsClear false = Unit {0}
 
 -- A header, a question and the records that were read behind them.
 module _ (m : List ℕ) (h : Header) (q : QuestionData) (past : ℕ) (is : IsQuery m h q past) where
-  pub cut_read : IsTrue h.tc → (a b : List RecordData) → a ≡ [] → b ≡ [] → IsRead (reply_with h q a b)
+  pub cut_read : IsTrue h.tc → (a b : List RecordData) → a ≡ [] → b ≡ []
+      → IsRead (message_data h q a b)
   cut_read cut a b none none' =
       record {
         header = header_lawful m h is.header;
@@ -89,7 +91,8 @@ module _ (m : List ℕ) (h : Header) (q : QuestionData) (past : ℕ) (is : IsQue
             λ _. (none, none');
       }
 
-  pub cut_reply : IsTrue h.tc → (a b : List RecordData) → a ≡ [] → b ≡ [] → IsReply m (reply_with h q a b)
+  pub cut_reply : IsTrue h.tc → (a b : List RecordData) → a ≡ [] → b ≡ []
+      → IsReply m (message_data h q a b)
   cut_reply cut a b none none' =
       record {
         past = past;
@@ -98,8 +101,9 @@ module _ (m : List ℕ) (h : Header) (q : QuestionData) (past : ℕ) (is : IsQue
             subst (λ (x : Bool). SectionsAt m past x a b) (sym cut) (none, none');
       }
 
-  pub whole_read : h.tc ≡ false → (a b : List RecordData) (middle end : ℕ) → RecordsAt m past a middle
-      → RecordsAt m middle b end → IsRead (reply_with h q a b)
+  pub whole_read : h.tc ≡ false → (a b : List RecordData) (middle end : ℕ)
+      → RecordsAt m past a middle
+      → RecordsAt m middle b end → IsRead (message_data h q a b)
   unfolding IsClear
   whole_read whole a b middle end at at' =
       let never : IsTrue h.tc → ⊥ = λ cut. subst (λ (x : Bool). IsClear x) (sym whole ∙ cut) tt in
@@ -113,9 +117,10 @@ module _ (m : List ℕ) (h : Header) (q : QuestionData) (past : ℕ) (is : IsQue
         cut = λ cut. absurd (never cut);
       }
 
-  pub whole_reply : h.tc ≡ false → (a b : List RecordData) (middle end : ℕ) → RecordsAt m past a middle
+  pub whole_reply : h.tc ≡ false → (a b : List RecordData) (middle end : ℕ)
+      → RecordsAt m past a middle
       → length a ≡ get_or h.counts 1 0 → RecordsAt m middle b end → length b ≡ get_or h.counts 2 0
-      → IsReply m (reply_with h q a b)
+      → IsReply m (message_data h q a b)
   whole_reply whole a b middle end at n at' n' =
       let count : length a ≡ u16_at m 6 = n ∙ ap (λ (x : Header). get_or x.counts 1 0) is.header in
       let count' : length b ≡ u16_at m 8 =

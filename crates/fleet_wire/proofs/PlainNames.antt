@@ -4,6 +4,7 @@ use Rattle.std.proofs.Math.Seq.{drop-append_seam}
 use Rattle.std.proofs.lemmas.List.{append-nil, take-append-drop, length-take-le, drop-drop}
 use Rattle.std.proofs.lemmas.Grind.{flat_map-append}
 use Rattle.std.specs.List.{flat_map, AllByRecursion}
+use Rattle.fleet_name.specs.declared.bounds.TheConstants.{LONGEST_NAME}
 use Rattle.fleet_name.specs.Name.{wire, label_octets, lower, IsLabel, IsName}
 use Rattle.fleet_name.proofs.Lemmas.{label_among, named_push, any_case-from_lower, lower_all-same}
 use Rattle.fleet_wire.specs.NameAt.{LabelAt, EndAt, NameAt, ends, goes_on, points}
@@ -48,11 +49,12 @@ stands_label m p s label t e at (points q past at' lt r is) = absurd (omega (ari
 
 -- The labels read so far, and what any name at the front goes on with.
 module _ (m : List ℕ) (at : ℕ) (before : List (List ℕ))
-    (whole : m ≡ flat_map label_octets before ++ drop at m) (size : at ≡ length (flat_map label_octets before))
+    (whole : m ≡ flat_map label_octets before ++ drop at m)
+    (size : at ≡ length (flat_map label_octets before))
     (named : IsName before)
     (only : (n : List (List ℕ)) (e : ℕ) → NameAt m 0 0 n e
     → (t : List (List ℕ)) × (n ≡ before ++ t) × NameAt m 0 at t e) where
-  pub room : at + 1 ≤ 255
+  pub room : at + 1 ≤ LONGEST_NAME
   room = omega (arith, named.fits, length-append (flat_map label_octets before) (0 ∷ []), size)
 
   pub name_ends : EndAt m at → m ≡ wire before ++ drop (at + 1) m
@@ -67,9 +69,11 @@ module _ (m : List ℕ) (at : ℕ) (before : List (List ℕ))
   no_name f fault n others is e =
       let stands = stands_first m n others is e in
       let o = only n (0 + length (wire n)) stands in
-      let parted : length (flat_map label_octets n) ≡ length (flat_map label_octets before) + octets o.0 =
+      let parted : length (flat_map label_octets n)
+      ≡ length (flat_map label_octets before) + octets o.0 =
       ap (λ (x : List (List ℕ)). length (flat_map label_octets x)) o.1
-      ∙ rw (flat_map-append) (length-append (flat_map label_octets before) (flat_map label_octets o.0)) in
+      ∙ rw (flat_map-append)
+      (length-append (flat_map label_octets before) (flat_map label_octets o.0)) in
       none_read m at 0 (at + 1) f o.0 (0 + length (wire n)) (here fault) o.2
       (omega (arith, parted, is.fits, size, length-append (flat_map label_octets n) (0 ∷ [])))
 
@@ -84,8 +88,9 @@ module _ (m : List ℕ) (at : ℕ) (before : List (List ℕ))
         capital (label_among before label next.0
         (subst (λ (x : List (List ℕ)). AllByRecursion IsLabel x) split is.labels)).lowered
 
-    module _ (low : lower label ≡ label) (fits : at + 1 + length label + 1 ≤ 255) where
-      pub more_whole : m ≡ flat_map label_octets (before ++ label ∷ []) ++ drop (at + (1 + length label)) m
+    module _ (low : lower label ≡ label) (fits : at + 1 + length label + 1 ≤ LONGEST_NAME) where
+      pub more_whole : m
+          ≡ flat_map label_octets (before ++ label ∷ []) ++ drop (at + (1 + length label)) m
       more_whole =
           let rest : drop at m ≡ length label ∷ drop (at + 1) m =
           rw (add-one, drop-cons m at 0 found.begins, found.counted) refl in
@@ -97,14 +102,16 @@ module _ (m : List ℕ) (at : ℕ) (before : List (List ℕ))
           ∙ (ap (λ (x : List ℕ). x ++ drop (length label) (drop (at + 1) m)) (sym found.octets)
           ∙ ap (λ (x : List ℕ). label ++ x) back) in
           let frames : flat_map label_octets (before ++ label ∷ [])
-          ≡ flat_map label_octets before ++ label_octets label = rw (flat_map-append, append-nil) refl in
+          ≡ flat_map label_octets before ++ label_octets label =
+          rw (flat_map-append, append-nil) refl in
           whole ∙ (ap (λ (x : List ℕ). flat_map label_octets before ++ x)
           (rest ∙ ap (λ (x : List ℕ). length label ∷ x) inner)
           ∙ (sym (append_assoc (flat_map label_octets before) (label_octets label)
           (drop (at + (1 + length label)) m))
           ∙ ap (λ (x : List ℕ). x ++ drop (at + (1 + length label)) m) (sym frames)))
 
-      pub more_size : at + (1 + length label) ≡ length (flat_map label_octets (before ++ label ∷ []))
+      pub more_size : at + (1 + length label)
+          ≡ length (flat_map label_octets (before ++ label ∷ []))
       more_size = rw (flat_map-append, append-nil, length-append) (omega (arith, size))
 
       pub more_named : IsName (before ++ label ∷ [])

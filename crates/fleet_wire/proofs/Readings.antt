@@ -2,6 +2,7 @@
 use Rattle.std.proofs.Common.{◌≡◌, ℕ, ◌+◌, ◌<◌, ◌≤◌, List, [], ◌∷◌, ◌++◌, length, refl, sym, ap, ◌∙◌, subst, arith, length-append, append_assoc, Option}
 use Rattle.std.proofs.lemmas.List.{length-map, map-append, append-nil}
 use Rattle.std.specs.Option.{unwrap_or}
+use Rattle.fleet_name.specs.declared.bounds.TheConstants.{LONGEST_NAME}
 use Rattle.fleet_name.proofs.Lemmas.{labels_of-wire_any, any_case-from_lower, named_push, label_lower}
 use Rattle.std.proofs.lemmas.Grind.{flat_map-append}
 use Rattle.std.specs.List.{flat_map}
@@ -29,7 +30,7 @@ label_same m p a b one two =
 
 -- where a fault shows, no name of so few octets is read
 none_here : (m : List ℕ) (p s k : ℕ) (f : ReadFault) (n : List (List ℕ)) (e : ℕ) → FaultAt m p s k f
-    → NameAt m s p n e → k + octets n ≤ 255 → ⊥
+    → NameAt m s p n e → k + octets n ≤ LONGEST_NAME → ⊥
 none_here m p s k f n e fault (ends at is past) room = fault_or_end m p s k f fault at
 none_here m p s k f n e fault (goes_on label rest at r is) room =
     fault_or_label m p s k f label fault at (omega (arith, octets_first label rest n is))
@@ -38,7 +39,7 @@ none_here m p s k f n e fault (points q past at lt r is) room =
 
 -- what fails on the way is no name of so few octets
 pub none_read : (m : List ℕ) (p s k : ℕ) (f : ReadFault) (n : List (List ℕ)) (e : ℕ)
-    → Fails m p s k f → NameAt m s p n e → k + octets n ≤ 255 → ⊥
+    → Fails m p s k f → NameAt m s p n e → k + octets n ≤ LONGEST_NAME → ⊥
 none_read m p s k f n e (here fault) r room = none_here m p s k f n e fault r room
 none_read m p s k f n e (later label at short rest) (ends ended is past) room =
     omega (arith, at, ended)
@@ -70,7 +71,7 @@ length-lower_all (l ∷ n) =
     octets_first (lower l) (lower_all n) (lower_all (l ∷ n)) refl
     ∙ (rw (length-map, length-lower_all n) (sym (octets_first l n (l ∷ n) refl)))
 
-octets_fit : (n : List (List ℕ)) → IsName (lower_all n) → octets n + 1 ≤ 255
+octets_fit : (n : List (List ℕ)) → IsName (lower_all n) → octets n + 1 ≤ LONGEST_NAME
 octets_fit n named =
     omega (
       arith,
@@ -86,13 +87,15 @@ none_from_fails m p f n e fails named r =
     none_read m p p 1 f n e fails r (omega (arith, octets_fit n named))
 
 -- the labels of what was read, and a zero octet
-pub labels_read : (before : List (List ℕ)) (items new : List ℕ) → items ≡ flat_map label_octets before
+pub labels_read : (before : List (List ℕ)) (items new : List ℕ)
+    → items ≡ flat_map label_octets before
     → IsName (lower_all before) → new ≡ items ++ 0 ∷ [] → labels_of new ≡ before
 labels_read before items new is named e =
     let whole : new ≡ wire before = e ∙ ap (λ (x : List ℕ). x ++ 0 ∷ []) is in
     ap labels_of whole ∙ labels_of-wire_any before (any_case-from_lower before named.labels)
 
-pub spelling_read : (before : List (List ℕ)) (items new : List ℕ) → items ≡ flat_map label_octets before
+pub spelling_read : (before : List (List ℕ)) (items new : List ℕ)
+    → items ≡ flat_map label_octets before
     → IsName (lower_all before) → new ≡ items ++ 0 ∷ [] → IsSpelling new
 spelling_read before items new is named e =
     let l = labels_read before items new is named e in
@@ -108,7 +111,7 @@ module _ (m : List ℕ) (p : ℕ) (before : List (List ℕ)) (items : List ℕ) 
   read_whole ended = rw append-nil at (reads [] (at + 1) (ends ended refl refl))
 
   module _ (label new : List ℕ) (found : LabelAt m at label) (e : new ≡ items ++ label_octets label)
-      (room : length items + 1 + length label + 1 ≤ 255) where
+      (room : length items + 1 + length label + 1 ≤ LONGEST_NAME) where
     pub more_octets : new ≡ flat_map label_octets (before ++ label ∷ [])
     more_octets = e ∙ rw (is, flat_map-append, append-nil) refl
 

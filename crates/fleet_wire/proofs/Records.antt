@@ -26,14 +26,16 @@ told_of : List (List ℕ) → ℕ → ℕ → ℕ → List ℕ → RecordData
 told_of name rtype class ttl rdata =
     record { name = name; rtype = rtype; class = class; ttl = ttl; rdata = rdata }
 
-told_same : (a b : RecordData) → a.name ≡ b.name → a.rtype ≡ b.rtype → a.class ≡ b.class → a.ttl ≡ b.ttl
+told_same : (a b : RecordData) → a.name ≡ b.name → a.rtype ≡ b.rtype → a.class ≡ b.class
+    → a.ttl ≡ b.ttl
     → a.rdata ≡ b.rdata → a ≡ b
 unfolding told_of
 told_same a b name rtype class ttl rdata =
     let h : told_of a.name a.rtype a.class a.ttl a.rdata
     ≡ told_of b.name b.rtype b.class b.ttl b.rdata = cc in h
 
-pub one_record : (m : List ℕ) (p : ℕ) (a b : RecordData) (x y : ℕ) → RecordAt m p a x → RecordAt m p b y
+pub one_record : (m : List ℕ) (p : ℕ) (a b : RecordData) (x y : ℕ) → RecordAt m p a x
+    → RecordAt m p b y
     → (a ≡ b) × (x ≡ y)
 one_record m p a b x y one two =
     let same = one_reads m p a.name b.name one.past two.past one.name two.name in
@@ -51,7 +53,8 @@ one_record m p a b x y one two =
           ∙ (ap (λ (q : ℕ). q + 10 + u16_at m (q + 8)) same.1 ∙ sym two.end_is),
     )
 
-fixed_or_fault : (m : List ℕ) (p : ℕ) (r : RecordData) (e : ℕ) (f : ReadFault) (at : RecordAt m p r e)
+fixed_or_fault : (m : List ℕ) (p : ℕ) (r : RecordData) (e : ℕ) (f : ReadFault)
+    (at : RecordAt m p r e)
     → FixedFails m at.past f → ⊥
 fixed_or_fault m p r e f at (inl h) = omega (arith, h.0, at.room)
 fixed_or_fault m p r e f at (inr h) =
@@ -59,7 +62,8 @@ fixed_or_fault m p r e f at (inr h) =
     (subst (λ (t : ℕ). ShapeFails m (at.past + 10) (u16_at m (at.past + 8)) (shape_of t) f)
     (sym at.rtype) h.1)
 
-pub record_or_fault : (m : List ℕ) (p : ℕ) (r : RecordData) (e : ℕ) (f : ReadFault) → RecordAt m p r e
+pub record_or_fault : (m : List ℕ) (p : ℕ) (r : RecordData) (e : ℕ) (f : ReadFault)
+    → RecordAt m p r e
     → RecordFails m p f → ⊥
 record_or_fault m p r e f at (inl h) = name_or_fault m p r.name at.past f at.name h
 record_or_fault m p r e f at (inr h) =
@@ -75,8 +79,10 @@ one_row m p (r ∷ rs) (r' ∷ rs') x y one two n =
     let first = one_record m p r r' one.0 two.0 one.1 two.1 in
     let others =
     one_row m one.0 rs rs' x y one.2 (subst (λ (q : ℕ). RecordsAt m q rs' y) (sym first.1) two.2)
-    (omega (arith, n)) in
-    (ap (λ (z : RecordData). z ∷ rs) first.0 ∙ ap (λ (z : List RecordData). r' ∷ z) others.0, others.1)
+    (omega (arith, n)) in (
+      ap (λ (z : RecordData). z ∷ rs) first.0 ∙ ap (λ (z : List RecordData). r' ∷ z) others.0,
+      others.1,
+    )
 
 -- behind fewer records than stand there no record fails
 row_or_fault : (m : List ℕ) (p middle e : ℕ) (rs all : List RecordData) (f : ReadFault)
@@ -108,7 +114,8 @@ pub first_stands : (m : List ℕ) (p count : ℕ) (f : ReadFault) → HasRecords
 first_stands m p count f ([], e, at, n) some h = omega (arith, n, some)
 first_stands m p count f (r ∷ rs, e, at, n) some h = record_or_fault m p r at.0 f at.1 h
 
-pub others_stand : (m : List ℕ) (p count left : ℕ) (r : RecordData) (past : ℕ) → HasRecords m p count
+pub others_stand : (m : List ℕ) (p count left : ℕ) (r : RecordData) (past : ℕ)
+    → HasRecords m p count
     → count ≡ left + 1 → RecordAt m p r past → HasRecords m past left
 others_stand m p count left r past ([], e, at, n) some one = absurd (omega (arith, n, some))
 others_stand m p count left r past (r' ∷ rs, e, at, n) some one =
@@ -120,7 +127,8 @@ reads_question : (m : List ℕ) (p : ℕ) (q : QuestionData) (e : ℕ) → (at :
 reads_question m p q e at =
     record { spelled = at.labels; stands = at.stands; lowered = at.name; named = at.named }
 
-question_or_fault : (m : List ℕ) (p : ℕ) (q : QuestionData) (e : ℕ) (f : ReadFault) → IsQuestion m p q e
+question_or_fault : (m : List ℕ) (p : ℕ) (q : QuestionData) (e : ℕ) (f : ReadFault)
+    → IsQuestion m p q e
     → QuestionFails m p f → ⊥
 question_or_fault m p q e f at (inl h) =
     name_or_fault m p q.name at.past f (reads_question m p q e at) h
@@ -204,7 +212,8 @@ sections_or_fault m past false a b f at (inr h) =
     records_or_fault m at.0 (u16_at m 8) at.1 b f at.4 at.5
     (subst (λ (q : ℕ). RecordsFail m q (u16_at m 8) f) same.1 h.4)
 
-pub reply_or_fault : (m : List ℕ) (r : MessageData) (f : ReadFault) → IsReply m r → ReplyFails m f → ⊥
+pub reply_or_fault : (m : List ℕ) (r : MessageData) (f : ReadFault) → IsReply m r → ReplyFails m f
+    → ⊥
 reply_or_fault m r f is (inl h) = query_or_fault m r.header r.question is.past f is.query h
 reply_or_fault m r f is (inr h) =
     let same = one_question m 12 h.0 r.question h.1 is.past h.2.question is.query.question in
@@ -227,7 +236,8 @@ one_sections m past false a b a' b' one two =
 reply_with : Header → QuestionData → List RecordData → List RecordData → MessageData
 reply_with h q a b = record { header = h; question = q; answer = a; authority = b }
 
-reply_same : (a b : MessageData) → a.header ≡ b.header → a.question ≡ b.question → a.answer ≡ b.answer
+reply_same : (a b : MessageData) → a.header ≡ b.header → a.question ≡ b.question
+    → a.answer ≡ b.answer
     → a.authority ≡ b.authority → a ≡ b
 unfolding reply_with
 reply_same a b h q x y =
@@ -250,7 +260,8 @@ one_reply m a b one two =
     reply_same a b header same.0 sections.0 sections.1
 
 -- where the header says that nothing was cut off, a fault of a section is one of the reply
-module _ (m : List ℕ) (h : Header) (q : QuestionData) (past : ℕ) (f : ReadFault) (is : IsQuery m h q past)
+module _ (m : List ℕ) (h : Header) (q : QuestionData) (past : ℕ) (f : ReadFault)
+    (is : IsQuery m h q past)
     (whole : h.tc ≡ false) where
   own : IsQuery m (header_of m) q past
   own = record { counted = is.counted; header = refl; question = is.question }
@@ -278,7 +289,8 @@ module _ (m : List ℕ) (h : Header) (q : QuestionData) (past : ℕ) (f : ReadFa
 -- and the sections of a reply stand behind the question
 module _ (m : List ℕ) (h : Header) (q : QuestionData) (past : ℕ) (is : IsQuery m h q past)
     (whole : h.tc ≡ false) where
-  sections_stand : HasReply m → (a : List RecordData) × (b : List RecordData) × SectionsAt m past false a b
+  sections_stand : HasReply m
+      → (a : List RecordData) × (b : List RecordData) × SectionsAt m past false a b
   sections_stand (r, reply) =
       let same = one_question m 12 r.question q reply.past past reply.query.question is.question in
       let tc : r.header.tc ≡ false =
@@ -286,7 +298,8 @@ module _ (m : List ℕ) (h : Header) (q : QuestionData) (past : ℕ) (is : IsQue
         r.answer,
         r.authority,
         subst (λ (b : Bool). SectionsAt m past b r.answer r.authority) tc
-            (subst (λ (p : ℕ). SectionsAt m p r.header.tc r.answer r.authority) same.1 reply.sections),
+            (subst (λ (p : ℕ). SectionsAt m p r.header.tc r.answer r.authority) same.1
+            reply.sections),
       )
 
   pub answer_stands : (k : ℕ) → k ≡ get_or h.counts 1 0 → HasReply m → HasRecords m past k

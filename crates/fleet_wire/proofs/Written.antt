@@ -17,7 +17,7 @@ use Rattle.fleet_wire.specs.Message.{header_of, IsQuery, SectionsAt, IsReply}
 use Rattle.fleet_wire.specs.Query.{lowercase_question, query_head, query_octets, query_header}
 use Rattle.fleet_wire.specs.declared.bounds.TheConstants.{LONGEST_MESSAGE}
 use Rattle.fleet_wire.specs.declared.header.Header.{Header}
-use Rattle.fleet_wire.specs.Outline.{flag, record_octets, spelled_octets, OutlineData, IsLine, IsQuestionIfAny, IsOutlineData, HasPlainRdata, IsWhole, whole_octets, cut_octets, octets_of_outline, message_of_outline}
+use Rattle.fleet_wire.specs.Outline.{flag, record_octets, question_octets, OutlineData, IsLine, IsQuestionIfAny, IsOutlineData, HasPlainRdata, IsWhole, whole_octets, cut_octets, octets_of_outline, message_of_outline}
 use Rattle.fleet_name.proofs.Lemmas.{IsAnyCase, any_case-from_lower, lower_all-same, lower-wire}
 use Rattle.fleet_wire.proofs.Spelled.{labels_spelled}
 
@@ -125,7 +125,8 @@ stands_written m p s (l ∷ n) all at =
       octets = sits_take m (p + 1) l inside;
     } in
     let rest =
-    sits_moved m (p + length (label_octets l)) (p + 1 + length l) (wire n) (wire n) (omega arith) refl
+    sits_moved m (p + length (label_octets l)) (p + 1 + length l) (wire n) (wire n)
+    (omega arith) refl
     (sits_rest m p (label_octets l) (wire n) at') in
     let others = stands_written m (p + 1 + length l) s n all.1 rest in
     let size = ap length is ∙ length-append (label_octets l) (wire n) in
@@ -145,8 +146,9 @@ reads_written m p n named at =
       named = named;
     }
 
-pub question_written : (m : List ℕ) (p : ℕ) (q : QuestionData) → IsQuestionData q → SitsAt m p (spelled_octets q)
-    → IsQuestion m p q (p + length (spelled_octets q))
+pub question_written : (m : List ℕ) (p : ℕ) (q : QuestionData) → IsQuestionData q
+    → SitsAt m p (question_octets q)
+    → IsQuestion m p q (p + length (question_octets q))
 question_written m p q is at =
     let found = labels_spelled q.name q.spelled is.named.labels is.spelled in
     let labels = found.0 in
@@ -387,7 +389,8 @@ header_written m id opcode rd rcode an ns small small' at =
 abbrev plain_octets : OutlineData → QuestionData → List ℕ
 plain_octets o q =
     head_octets o.id o.opcode o.rd o.rcode (length o.answer) (length o.authority)
-    ++ (spelled_octets q ++ (flat_map record_octets o.answer ++ flat_map record_octets o.authority))
+    ++ (question_octets q ++ (flat_map record_octets o.answer ++ flat_map record_octets
+    o.authority))
 
 whole_is : (o : OutlineData) (q : QuestionData) → o.tc ≡ false → o.question ≡ Some q
     → whole_octets o ≡ plain_octets o q
@@ -432,7 +435,8 @@ plain_records [] lines plain = tt
 plain_records (r ∷ rs) lines plain =
     (record { name = lines.0.name; rdata = plain.0 }, plain_records rs lines.1 plain.1)
 
-asked_lawful : (a : Option QuestionData) (q : QuestionData) → a ≡ Some q → IsQuestionIfAny a → IsQuestionData q
+asked_lawful : (a : Option QuestionData) (q : QuestionData) → a ≡ Some q → IsQuestionIfAny a
+    → IsQuestionData q
 asked_lawful a q e is = let is' : IsQuestionIfAny (Some q) =
     subst (λ (x : Option QuestionData). IsQuestionIfAny x) e is in is'
 
@@ -448,23 +452,24 @@ whole_back o q lawful is = record {
   fits = is.fits;
 }
 
-plain_written : (m : List ℕ) (o : OutlineData) (q : QuestionData) → ReadsBack o q → m ≡ plain_octets o q
+plain_written : (m : List ℕ) (o : OutlineData) (q : QuestionData) → ReadsBack o q
+    → m ≡ plain_octets o q
     → length m ≤ LONGEST_MESSAGE → IsReply m (message_of_outline o q)
 plain_written m o q is e fits =
     let h = head_octets o.id o.opcode o.rd o.rcode (length o.answer) (length o.authority) in
     let rows = flat_map record_octets o.answer ++ flat_map record_octets o.authority in
-    let at = sits_moved m 0 0 m (h ++ (spelled_octets q ++ rows)) refl e (sits_whole m) in
+    let at = sits_moved m 0 0 m (h ++ (question_octets q ++ rows)) refl e (sits_whole m) in
     let header =
     header_written m o.id o.opcode o.rd o.rcode (length o.answer) (length o.authority) is.opcode
-    is.rcode (sits_first m 0 h (spelled_octets q ++ rows) at) in
-    let body = sits_rest m 0 h (spelled_octets q ++ rows) at in
-    let asked = question_written m 12 q is.asked (sits_first m 12 (spelled_octets q) rows body) in
-    let past = 12 + length (spelled_octets q) in
+    is.rcode (sits_first m 0 h (question_octets q ++ rows) at) in
+    let body = sits_rest m 0 h (question_octets q ++ rows) at in
+    let asked = question_written m 12 q is.asked (sits_first m 12 (question_octets q) rows body) in
+    let past = 12 + length (question_octets q) in
     record {
       past = past;
       query = record {
         counted = record {
-          long = omega (arith, sits_within m 0 h (sits_first m 0 h (spelled_octets q ++ rows) at));
+          long = omega (arith, sits_within m 0 h (sits_first m 0 h (question_octets q ++ rows) at));
           short = fits;
           one = sym (ap (λ (x : Header). get_or x.counts 0 0) header);
         };
@@ -476,7 +481,7 @@ plain_written m o q is e fits =
           is.answer is.authority
           (ap (λ (x : Header). get_or x.counts 1 0) header)
           (ap (λ (x : Header). get_or x.counts 2 0) header) refl refl
-          (sits_rest m 12 (spelled_octets q) rows body);
+          (sits_rest m 12 (question_octets q) rows body);
     }
 
 -- an outline of plain records that fits is read as it is
@@ -517,12 +522,14 @@ query_header_written m id at =
 
 -- a query is read as it is
 pub query_back : (id : ℕ) (q : QuestionData) → IsName q.name
-    → IsQuery (query_octets id q) (query_header id) (lowercase_question q) (length (query_octets id q))
+    → IsQuery (query_octets id q) (query_header id) (lowercase_question q)
+    (length (query_octets id q))
 query_back id q named =
     let m = query_octets id q in
     let at = sits_whole m in
     let header =
-    query_header_written m id (sits_first m 0 (query_head id) (spelled_octets (lowercase_question q)) at) in
+    query_header_written m id
+    (sits_first m 0 (query_head id) (question_octets (lowercase_question q)) at) in
     let same = sym (lower_all-same q.name named.labels) in
     let lower_is =
     lower-wire q.name
@@ -532,8 +539,8 @@ query_back id q named =
     record { spelled = lower_is ∙ ap wire (sym same); named = named } in
     let question =
     question_written m 12 (lowercase_question q) asked
-    (sits_rest m 0 (query_head id) (spelled_octets (lowercase_question q)) at) in
-    let size = length-append (query_head id) (spelled_octets (lowercase_question q)) in
+    (sits_rest m 0 (query_head id) (question_octets (lowercase_question q)) at) in
+    let size = length-append (query_head id) (question_octets (lowercase_question q)) in
     let inner = length-append (wire q.name) (u16_octets q.rtype ++ u16_octets q.class) in
     record {
       counted =
@@ -548,16 +555,9 @@ query_back id q named =
     }
 
 -- the octets of a query, piece by piece
-pub query_pieces : (id : ℕ) (q : QuestionData) (a b d e f : List ℕ) → a ≡ [] → b ≡ a ++ query_head id
-    → d ≡ b ++ wire q.name → e ≡ d ++ u16_octets q.rtype → f ≡ e ++ u16_octets q.class
-    → f ≡ query_octets id q
-query_pieces id q a b d e f is_a is_b is_d is_e is_f =
-    let h = query_head id in
-    let w = wire q.name in
-    let t = u16_octets q.rtype in
-    let k = u16_octets q.class in
-    let b_is : b ≡ h = is_b ∙ ap (λ (x : List ℕ). x ++ h) is_a in
-    let d_is : d ≡ h ++ w = is_d ∙ ap (λ (x : List ℕ). x ++ w) b_is in
-    let e_is : e ≡ (h ++ w) ++ t = is_e ∙ ap (λ (x : List ℕ). x ++ t) d_is in
-    is_f ∙ (ap (λ (x : List ℕ). x ++ k) e_is
-    ∙ (append_assoc (h ++ w) t k ∙ append_assoc h w (t ++ k)))
+pub query_pieces : (id : ℕ) (w t k a b d e f : List ℕ) → a ≡ [] → b ≡ a ++ query_head id
+    → d ≡ b ++ w
+    → e ≡ d ++ t → f ≡ e ++ k → f ≡ query_head id ++ (w ++ (t ++ k))
+query_pieces id w t k a b d e f is_a is_b is_d is_e is_f =
+    rw (is_f, is_e, is_d, is_b, is_a)
+    (append_assoc (query_head id ++ w) t k ∙ append_assoc (query_head id) w (t ++ k))

@@ -16,7 +16,7 @@ LengthAt m p = (p < length m) × (0 < slice_index m p) × (slice_index m p ≤ L
 pub data FaultAt (m : List ℕ) (p s k : ℕ) (f : ReadFault) : Type 0 where
   no_octet : length m ≤ p → f ≡ Truncated → FaultAt m p s k f
   half_pointer : length m ≡ p + 1 → 192 ≤ slice_index m p → f ≡ Truncated → FaultAt m p s k f
-  no_label : p < length m → 64 ≤ slice_index m p → slice_index m p < 192 → f ≡ BadLabel
+  bad_bits : p < length m → 64 ≤ slice_index m p → slice_index m p < 192 → f ≡ BadLabel
       → FaultAt m p s k f
   not_back : (q : ℕ) → PointerAt m p q → s ≤ q → f ≡ BadPointer → FaultAt m p s k f
   long_name : LengthAt m p → LONGEST_NAME < k + slice_index m p + 1 → f ≡ LongName

@@ -27,7 +27,7 @@ pub record IsHeader (h : Header) : Type 0 where
   pub opcode : h.opcode < 16
   pub rcode : h.rcode < 16
 
--- m has 12 octets to the most of a message, and counts one question
+-- m has 12 to LONGEST_MESSAGE octets, and counts one question
 pub record HasOneQuestion (m : List ℕ) : Type 0 where
   pub long : 12 ≤ length m
   pub short : length m ≤ LONGEST_MESSAGE
@@ -62,8 +62,8 @@ pub record MessageData : Type 0 where
   pub answer : List RecordData
   pub authority : List RecordData
 
-abbrev pub reply_with : Header → QuestionData → List RecordData → List RecordData → MessageData
-reply_with header question answer authority =
+abbrev pub message_data : Header → QuestionData → List RecordData → List RecordData → MessageData
+message_data header question answer authority =
     record { header = header; question = question; answer = answer; authority = authority }
 
 -- What every reply that was read meets: a lawful header and question, plain records whatever their

@@ -8,6 +8,7 @@ use Rattle.fleet_wire.specs.Record.{RecordData}
 use Rattle.fleet_wire.specs.Shape.{IsPlain}
 use Rattle.fleet_wire.specs.Message.{MessageData}
 use Rattle.fleet_wire.specs.declared.bounds.TheConstants.{LONGEST_MESSAGE}
+use Rattle.fleet_wire.specs.declared.class.TheConstants.{IN}
 
 -- the header fields, the question if any, and the records of two sections
 pub record OutlineData : Type 0 where
@@ -44,12 +45,12 @@ record_octets r = wire r.name
     ++ (u16_octets r.class ++ (u32_octets r.ttl ++ (u16_octets (length r.rdata) ++ r.rdata))))
 
 -- a question in its own spelling
-abbrev pub spelled_octets : QuestionData → List ℕ
-spelled_octets q = q.spelled ++ (u16_octets q.rtype ++ u16_octets q.class)
+abbrev pub question_octets : QuestionData → List ℕ
+question_octets q = q.spelled ++ (u16_octets q.rtype ++ u16_octets q.class)
 
-abbrev pub question_octets : Option QuestionData → List ℕ
-question_octets None = []
-question_octets (Some q) = spelled_octets q
+abbrev pub question_octets_if_any : Option QuestionData → List ℕ
+question_octets_if_any None = []
+question_octets_if_any (Some q) = question_octets q
 
 abbrev pub question_count : Option QuestionData → ℕ
 question_count None = 0
@@ -65,26 +66,26 @@ header_octets o tc an ns =
 -- all of it
 abbrev pub whole_octets : OutlineData → List ℕ
 whole_octets o = header_octets o o.tc (length o.answer) (length o.authority)
-    ++ (question_octets o.question
+    ++ (question_octets_if_any o.question
     ++ (flat_map record_octets o.answer ++ flat_map record_octets o.authority))
 
 -- header and question alone, cut off
 abbrev pub cut_octets : OutlineData → List ℕ
-cut_octets o = header_octets o true 0 0 ++ question_octets o.question
+cut_octets o = header_octets o true 0 0 ++ question_octets_if_any o.question
 
 -- the records of a section, one after the other
-abbrev pub records_octets : List RecordData → List ℕ
-records_octets rs = flat_map record_octets rs
+abbrev pub section_octets : List RecordData → List ℕ
+section_octets rs = flat_map record_octets rs
 
 -- how many octets a reply has behind its header
 abbrev pub body_size : Option QuestionData → List RecordData → List RecordData → ℕ
-body_size q a b = length (question_octets q)
-    + (length (records_octets a) + length (records_octets b))
+body_size q a b = length (question_octets_if_any q)
+    + (length (section_octets a) + length (section_octets b))
 
 -- a record of the class IN
 abbrev pub line : List (List ℕ) → ℕ → ℕ → List ℕ → RecordData
 line name rtype ttl rdata =
-    record { name = name; rtype = rtype; class = 1; ttl = ttl; rdata = rdata }
+    record { name = name; rtype = rtype; class = IN; ttl = ttl; rdata = rdata }
 
 -- one more record at the end of a section
 abbrev pub with_answer : OutlineData → RecordData → OutlineData
@@ -101,7 +102,7 @@ octets_of_outline o =
 -- a line: its owner is a name
 pub record IsLine (r : RecordData) : Type 0 where
   pub name : IsName r.name
-  pub class : r.class ≡ 1
+  pub class : r.class ≡ IN
 
 abbrev pub IsQuestionIfAny : Option QuestionData → Type 0
 IsQuestionIfAny None = Unit {0}

@@ -3,7 +3,7 @@ use Rattle.std.specs.Prelude.{ℕ, List, [], ◌∷◌, ◌++◌, true, false}
 use Rattle.fleet_name.specs.Name.{wire}
 use Rattle.fleet_wire.specs.Question.{QuestionData}
 use Rattle.fleet_wire.specs.Number.{u16_octets}
-use Rattle.fleet_wire.specs.Outline.{spelled_octets}
+use Rattle.fleet_wire.specs.Outline.{question_octets}
 use Rattle.fleet_wire.specs.declared.header.Header.{Header}
 
 -- the question with its name in lower case
@@ -18,7 +18,7 @@ query_head id = u16_octets id
 
 -- the query's octets
 abbrev pub query_octets : ℕ → QuestionData → List ℕ
-query_octets id q = query_head id ++ spelled_octets (lowercase_question q)
+query_octets id q = query_head id ++ question_octets (lowercase_question q)
 
 -- the header that is read again
 abbrev pub query_header : ℕ → Header

@@ -7,7 +7,6 @@ use Rattle.fleet_wire.specs.NameAt.{NameAt, ReadsName}
 use Rattle.fleet_wire.specs.Fault.{NameFails}
 use Rattle.fleet_wire.specs.declared.fault.ReadFault.{ReadFault}
 use Rattle.fleet_wire.specs.declared.fault.ReadFault.TheVariants.{Truncated}
-use Rattle.fleet_wire.specs.declared.question.Question.{Question}
 use Rattle.fleet_wire.specs.declared.query.SpelledQuestion.{SpelledQuestion}
 
 -- a question: its name in its own spelling, as octets, and as labels in lower case
@@ -16,9 +15,6 @@ pub record QuestionData : Type 0 where
   pub name : List (List ℕ)
   pub rtype : ℕ
   pub class : ℕ
-
-abbrev pub question_data : {A : Type 0} → Question A → QuestionData
-question_data q = record { spelled = q.spelled; name = q.name; rtype = q.rtype; class = q.class }
 
 -- a question that has taken no memory yet
 abbrev pub spelled_question_data : SpelledQuestion → QuestionData
@@ -30,9 +26,9 @@ spelled_question_data q = record {
 }
 
 -- a question that is lent, if there is one
-abbrev pub question_data_lent : {A : Type 0} → Option (Bor (Question A)) → Option QuestionData
-question_data_lent None = None
-question_data_lent (Some q) = Some (question_data q.now)
+abbrev pub question_if_any : Option (Bor QuestionData) → Option QuestionData
+question_if_any None = None
+question_if_any (Some q) = Some q.now
 
 -- the question q stands at p, and ends before e
 pub record IsQuestion (m : List ℕ) (p : ℕ) (q : QuestionData) (e : ℕ) : Type 0 where

@@ -1,6 +1,6 @@
 -- What a record is, without where it lies in memory, and what records stand at a place of a message
 -- (RFC 1035 4.1.3).
-use Rattle.std.specs.Prelude.{◌≡◌, ℕ, ◌+◌, ◌<◌, ◌≤◌, ◌⊎◌, List, [], ◌∷◌, length, map}
+use Rattle.std.specs.Prelude.{◌≡◌, ℕ, ◌+◌, ◌<◌, ◌≤◌, ◌⊎◌, List, [], ◌∷◌, length}
 use Rattle.fleet_name.specs.Name.{lower_all, labels_of, IsName}
 use Rattle.fleet_wire.specs.Number.{u16_at, u32_at}
 use Rattle.fleet_wire.specs.NameAt.{ReadsName}
@@ -8,7 +8,6 @@ use Rattle.fleet_wire.specs.Fault.{NameFails}
 use Rattle.fleet_wire.specs.Shape.{shape_of, ShapeAt, ShapeFails, IsPlain}
 use Rattle.fleet_wire.specs.declared.fault.ReadFault.{ReadFault}
 use Rattle.fleet_wire.specs.declared.fault.ReadFault.TheVariants.{Truncated}
-use Rattle.fleet_wire.specs.declared.record.Record.{Record}
 use Rattle.fleet_wire.specs.declared.record.SpelledRecord.{SpelledRecord}
 
 -- a record: its owner as labels, the TTL as it was read, and its RDATA
@@ -18,19 +17,6 @@ pub record RecordData : Type 0 where
   pub class : ℕ
   pub ttl : ℕ
   pub rdata : List ℕ
-
-abbrev pub record_data : {A : Type 0} → Record A → RecordData
-record_data r = record {
-  name = r.name;
-  rtype = r.rtype;
-  class = r.class;
-  ttl = r.ttl;
-  rdata =
-      r.rdata;
-}
-
-abbrev pub all_record_data : {A : Type 0} → List (Record A) → List RecordData
-all_record_data rs = map record_data rs
 
 -- a record that has taken no memory yet
 abbrev pub spelled_record_data : SpelledRecord → RecordData

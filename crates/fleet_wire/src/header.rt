@@ -1,6 +1,6 @@
 //! The header of a message (RFC 1035 4.1.1).
 
-ghost use Rattle.std.specs.Prelude.{◌≡◌, ℕ, ◌<◌, ◌≤◌, length, IfSome, MatchOption};
+ghost use Rattle.std.specs.Prelude.{◌≡◌, ◌<◌, ◌≤◌, length, IfSome, MatchOption};
 ghost use Rattle.fleet_wire.specs.Message.{header_of, IsHeader};
 
 use crate::number::short_at;

@@ -1,9 +1,7 @@
 //! Replies that were read.
 
 ghost use Rattle.std.specs.Prelude.{◌≡◌};
-ghost use Rattle.fleet_wire.specs.Question.{question_data};
-ghost use Rattle.fleet_wire.specs.Record.{all_record_data};
-ghost use Rattle.fleet_wire.specs.Message.{IsRead, reply_with};
+ghost use Rattle.fleet_wire.specs.Message.{IsRead, message_data};
 
 use crate::header::Header;
 use crate::question::Question;
@@ -22,18 +20,14 @@ pub struct Message<A: Allocator = Global> {
 }
 
 impl<A: Allocator> Model for Message<A> {
-    ghost use Rattle.fleet_wire.specs.Question.{question_data};
-    ghost use Rattle.fleet_wire.specs.Record.{all_record_data};
-    ghost use Rattle.fleet_wire.specs.Message.{MessageData, IsRead, reply_with};
+    ghost use Rattle.fleet_wire.specs.Message.{MessageData, IsRead, message_data};
 
     ghost Value = { MessageData };
 
-    ghost view = { λ m. reply_with m.header (question_data m.question)
-        (all_record_data m.answer.items)
-        (all_record_data m.authority.items) };
+    ghost view = { λ m. message_data m.header m.question m.answer.items m.authority.items };
 
-    ghost invariant = { λ m. IsRead (reply_with m.header (question_data m.question)
-        (all_record_data m.answer.items) (all_record_data m.authority.items)) };
+    ghost invariant = { λ m. IsRead
+        (message_data m.header m.question m.answer.items m.authority.items) };
 }
 
 impl<A: Allocator> Message<A> {
@@ -44,11 +38,8 @@ impl<A: Allocator> Message<A> {
         answer: Vec<Record<A>, A>,
         authority: Vec<Record<A>, A>,
     ) -> Message<A>
-        requires { IsRead (reply_with header (question_data question) (all_record_data answer.items)
-            (all_record_data authority.items)) }
-        ensures { result
-            ≡ reply_with header (question_data question) (all_record_data answer.items)
-            (all_record_data authority.items) }
+        requires { IsRead (message_data header question answer.items authority.items) }
+        ensures { result ≡ message_data header question answer.items authority.items }
     {
         Message {
             header,
@@ -68,7 +59,7 @@ impl<A: Allocator> Message<A> {
 
     /// The question.
     pub fn question(&self) -> &Question<A>
-        ensures question { question_data result.now ≡ self.now.question }
+        ensures question { result.now ≡ self.now.question }
         ensures read { IsRead self.now }
     {
         &self.question
@@ -76,7 +67,7 @@ impl<A: Allocator> Message<A> {
 
     /// The records of the answer section, in their order.
     pub fn answer(&self) -> &[Record<A>]
-        ensures answer { all_record_data result.now ≡ self.now.answer }
+        ensures answer { result.now ≡ self.now.answer }
         ensures read { IsRead self.now }
     {
         &self.answer
@@ -84,7 +75,7 @@ impl<A: Allocator> Message<A> {
 
     /// The records of the authority section, in their order.
     pub fn authority(&self) -> &[Record<A>]
-        ensures authority { all_record_data result.now ≡ self.now.authority }
+        ensures authority { result.now ≡ self.now.authority }
         ensures read { IsRead self.now }
     {
         &self.authority

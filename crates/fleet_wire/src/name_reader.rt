@@ -1,8 +1,8 @@
 //! Reading a name (RFC 1035 3.1, 4.1.4).
 
-ghost use Rattle.std.specs.Prelude.{◌≡◌, ℕ, ◌+◌, ◌-◌, ◌<◌, ◌≤◌, List, ◌++◌, length, slice_index, IfOk, IfErr, MatchResult};
+ghost use Rattle.std.specs.Prelude.{◌≡◌, ℕ, ◌+◌, ◌-◌, ◌<◌, ◌≤◌, ◌++◌, length, slice_index, IfOk, IfErr, MatchResult};
 ghost use Rattle.fleet_name.specs.Name.{label_octets, lower_all, labels_of, IsSpelling};
-ghost use Rattle.fleet_name.specs.declared.bounds.TheConstants.{LONGEST_NAME};
+ghost use Rattle.fleet_name.specs.declared.bounds.TheConstants.{LONGEST_LABEL, LONGEST_NAME};
 ghost use Rattle.fleet_wire.specs.NameAt.{NameAt};
 ghost use Rattle.fleet_wire.specs.Fault.{FaultAt, NameFails};
 ghost use Rattle.fleet_wire.specs.Step.{IsStep};
@@ -24,7 +24,7 @@ pub(crate) enum Step<'a> {
 #[derive(Drop)]
 pub(crate) struct Spelled {
     /// The name in full, without pointers, in its own case.
-    pub(crate) octets: ArrayVec<u8, 255>,
+    pub(crate) octets: ArrayVec<u8, LONGEST_NAME>,
     /// How many labels it has.
     pub(crate) labels: usize,
     /// Where it ends in the message.
@@ -71,7 +71,7 @@ fn label_at(message: &[u8], at: usize, count: usize, used: usize) -> Result<Step
     requires begins { at < length message.now }
     requires counted { slice_index message.now at ≡ count }
     requires some { 0 < count }
-    requires short { count < 64 }
+    requires short { count ≤ LONGEST_LABEL }
     requires used { used ≤ LONGEST_NAME }
     ensures { (s : ℕ)
         → MatchResult result (IsStep message.now at s used) (FaultAt message.now at s used) }
@@ -88,8 +88,8 @@ fn label_at(message: &[u8], at: usize, count: usize, used: usize) -> Result<Step
 }
 
 /// Adds a label in its own case.
-fn append_label(octets: &mut ArrayVec<u8, 255>, label: &[u8])
-    requires short { length label.now < 64 }
+fn append_label(octets: &mut ArrayVec<u8, LONGEST_NAME>, label: &[u8])
+    requires short { length label.now ≤ LONGEST_LABEL }
     requires room { length octets.old.items + length label.now < LONGEST_NAME }
     ensures { octets.new.items ≡ octets.old.items ++ label_octets label.now }
 {

@@ -1,6 +1,6 @@
 //! Numbers in a message, the high octet first (RFC 1035 2.3.2).
 
-ghost use Rattle.std.specs.Prelude.{◌≡◌, ℕ, ◌+◌, ◌≤◌, length, ◌++◌, OnOk};
+ghost use Rattle.std.specs.Prelude.{◌≡◌, ◌+◌, ◌≤◌, length, ◌++◌, OnOk};
 ghost use Rattle.fleet_wire.specs.Number.{u16_at, u32_at, u16_octets, u32_octets};
 
 use std::alloc::{AllocError, Allocator};

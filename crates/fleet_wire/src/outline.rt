@@ -1,7 +1,7 @@
 //! Replies that are to be written.
 
 ghost use Rattle.std.specs.Prelude.{◌≡◌, ◌<◌, [], Some, None, OnOk, OnErr, IsTrue, MatchOption};
-ghost use Rattle.fleet_wire.specs.Question.{question_data, question_data_lent};
+ghost use Rattle.fleet_wire.specs.Question.{question_if_any};
 ghost use Rattle.fleet_wire.specs.Outline.{line, with_answer, with_authority, IsQuestionIfAny};
 
 use crate::question::Question;
@@ -27,18 +27,17 @@ pub struct Outline<'a, A: Allocator = Global> {
 }
 
 impl<'a, A: Allocator> Model for Outline<'a, A> {
-    ghost use Rattle.std.specs.Prelude.{ℕ, ◌<◌};
-    ghost use Rattle.fleet_wire.specs.Question.{question_data_lent};
+    ghost use Rattle.fleet_wire.specs.Question.{question_if_any};
     ghost use Rattle.fleet_wire.specs.Outline.{OutlineData, outline_data, IsOutlineData};
 
     ghost Value = { OutlineData };
 
     ghost view = { λ o.
-        outline_data o.id o.opcode o.rd o.rcode o.tc (question_data_lent o.question) o.answer
+        outline_data o.id o.opcode o.rd o.rcode o.tc (question_if_any o.question) o.answer
         o.authority };
 
     ghost invariant = { λ o. IsOutlineData
-        (outline_data o.id o.opcode o.rd o.rcode o.tc (question_data_lent o.question) o.answer
+        (outline_data o.id o.opcode o.rd o.rcode o.tc (question_if_any o.question) o.answer
         o.authority) };
 }
 
@@ -59,7 +58,7 @@ impl<'a, A: Allocator + Copy> Outline<'a, A> {
         ensures header { (result.id ≡ id) × (result.opcode ≡ opcode) × (result.rd ≡ rd)
             × (result.rcode ≡ rcode) × (result.tc ≡ tc) }
         ensures question { MatchOption question.entry (result.question ≡ None)
-            (λ q. result.question ≡ Some (question_data q.now)) }
+            (λ q. result.question ≡ Some q.now) }
         ensures empty { (result.answer ≡ []) × (result.authority ≡ []) }
     {
         // What the proof needs to know of the question.
@@ -114,7 +113,7 @@ impl<'a, A: Allocator + Copy> Outline<'a, A> {
 /// The name of a question, if there is one, is a name: it has octets.
 fn is_named<A: Allocator>(question: Option<&Question<A>>) -> bool
     ensures always { IsTrue result }
-    ensures lawful { IsQuestionIfAny (question_data_lent question.entry) }
+    ensures lawful { IsQuestionIfAny (question_if_any question.entry) }
 {
     match question {
         None => true,

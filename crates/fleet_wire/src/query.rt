@@ -1,9 +1,9 @@
 //! Queries: the header and the question of a message (RFC 1035 4.1.1, 4.1.2).
 
-ghost use Rattle.std.specs.Prelude.{◌≡◌, ℕ, ◌+◌, ◌≤◌, ◌++◌, length, IfOk, OnOk, IfErr, MatchResult};
+ghost use Rattle.std.specs.Prelude.{◌≡◌, ℕ, ◌+◌, ◌++◌, length, IfOk, OnOk, IfErr, MatchResult};
 ghost use Rattle.fleet_name.specs.Fault.{OrMemory};
 ghost use Rattle.fleet_name.specs.Name.{labels_of, IsSpelling};
-ghost use Rattle.fleet_wire.specs.Question.{QuestionData, question_data, spelled_question_data, IsQuestion, QuestionFails};
+ghost use Rattle.fleet_wire.specs.Question.{QuestionData, spelled_question_data, IsQuestion, QuestionFails};
 ghost use Rattle.fleet_wire.specs.Message.{header_of, IsHeader, HasOneQuestion, HeaderFails, IsQuery, QueryFails, HasQuery};
 ghost use Rattle.fleet_wire.specs.Query.{query_head, query_octets, query_header, lowercase_question};
 ghost use Rattle.fleet_wire.specs.declared.header.Header.{Header};
@@ -74,7 +74,7 @@ pub(crate) fn question_of<A: Allocator + Copy>(
 ) -> Result<Question<A>, AllocError>
     requires spelled { IsSpelling spelled.now.name.octets.items }
     requires counted { spelled.now.name.labels ≡ length (labels_of spelled.now.name.octets.items) }
-    ensures { IfOk result (λ q. question_data q ≡ spelled_question_data spelled.now) }
+    ensures { IfOk result (λ q. q ≡ spelled_question_data spelled.now) }
 {
     let name = name_of(alloc, &spelled.name)?;
     let octets = Octets::copy_of(alloc, spelled.name.octets.as_slice())?;
@@ -96,8 +96,7 @@ pub fn read_query<A: Allocator + Copy>(
     alloc: A,
     message: &[u8],
 ) -> Result<(Header, Question<A>), ReadFault>
-    ensures found { IfOk result (λ r. (past : ℕ)
-        × IsQuery message.now r.0 (question_data r.1) past) }
+    ensures found { IfOk result (λ r. (past : ℕ) × IsQuery message.now r.0 r.1 past) }
     ensures lawful { IfOk result (λ r. IsHeader r.0) }
     ensures fault { IfErr result (λ f. OrMemory OutOfMemory f (QueryFails message.now f)) }
     ensures only { (h : Header) (q : QuestionData) (past : ℕ) → IsQuery message.now h q past
@@ -129,11 +128,10 @@ pub fn write_query<A: Allocator, B: Allocator>(
     id: u16,
     question: &Question<B>,
 ) -> Result<Vec<u8, A>, AllocError>
-    ensures octets { IfOk result (λ v. v.items ≡ query_octets id (question_data question.now)) }
+    ensures octets { IfOk result (λ v. v.items ≡ query_octets id question.now) }
     // It is read again.
     ensures reads_back { IfOk result (λ v.
-        IsQuery v.items (query_header id) (lowercase_question (question_data question.now))
-        (length v.items)) }
+        IsQuery v.items (query_header id) (lowercase_question question.now) (length v.items)) }
 {
     let name = question.name.octets();
     let mut octets = Vec::new(alloc);

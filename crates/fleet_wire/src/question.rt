@@ -1,10 +1,8 @@
 //! Questions.
 
-ghost use Rattle.std.specs.Prelude.{◌≡◌};
-ghost use Rattle.fleet_name.specs.Name.{lower, wire};
-
 use fleet_name::{Name, Octets};
 use std::alloc::{AllocError, Allocator, Global};
+use std::marker::Model;
 
 /// A question of a message (RFC 1035 4.1.2).
 #[derive(Drop)]
@@ -17,19 +15,34 @@ pub struct Question<A: Allocator = Global> {
     pub rtype: u16,
     /// The class that is asked for.
     pub class: u16,
-    /// The spelling is the name's, whatever the case of its letters.
-    pub ghost spells: { lower spelled ≡ wire name },
+}
+
+impl<A: Allocator> Model for Question<A> {
+    ghost use Rattle.std.specs.Prelude.{◌≡◌};
+    ghost use Rattle.fleet_name.specs.Name.{lower, wire};
+    ghost use Rattle.fleet_wire.specs.Question.{QuestionData};
+
+    ghost Value = { QuestionData };
+
+    ghost view = { λ q. record {
+      spelled = q.spelled;
+      name = q.name;
+      rtype = q.rtype;
+      class = q.class;
+    } };
+
+    // The spelling is the name's, whatever the case of its letters.
+    ghost invariant = { λ q. lower q.spelled ≡ wire q.name };
 }
 
 impl<A: Allocator> Question<A> {
     ghost use Rattle.std.specs.Prelude.{◌≡◌, IfOk};
-    ghost use Rattle.fleet_wire.specs.Question.{question_data};
 
     /// A copy of the question, or `Err` where there is no memory for it.
     pub fn try_clone(&self) -> Result<Question<A>, AllocError>
     where
         A: Copy,
-        ensures { IfOk result (λ q. question_data q ≡ question_data self.now) }
+        ensures { IfOk result (λ q. q ≡ self.now) }
     {
         let spelled = self.spelled.try_clone()?;
         let name = self.name.try_clone()?;

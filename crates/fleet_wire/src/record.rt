@@ -1,8 +1,8 @@
 //! Records (RFC 1035 4.1.3).
 
-ghost use Rattle.std.specs.Prelude.{◌≡◌, ℕ, ◌≤◌, List, length, IfOk, IfErr};
+ghost use Rattle.std.specs.Prelude.{◌≡◌, ◌≤◌, List, length, IfOk, IfErr};
 ghost use Rattle.fleet_name.specs.Name.{labels_of, IsSpelling};
-ghost use Rattle.fleet_wire.specs.Record.{RecordData, record_data, spelled_record_data, all_record_data, RecordAt, RecordFails, RecordsAt, HasRecords, RecordsFail};
+ghost use Rattle.fleet_wire.specs.Record.{RecordData, spelled_record_data, RecordAt, RecordFails, RecordsAt, HasRecords, RecordsFail};
 ghost use Rattle.fleet_wire.specs.declared.bounds.TheConstants.{LONGEST_MESSAGE};
 
 use crate::fault::ReadFault;
@@ -11,6 +11,7 @@ use crate::number::{long_at, short_at};
 use crate::shape::{Rdata, rdata_at};
 use fleet_name::{Name, Octets};
 use std::alloc::{AllocError, Allocator, Global};
+use std::marker::Model;
 
 /// A record of a message (RFC 1035 4.1.3).
 #[derive(Drop)]
@@ -25,6 +26,20 @@ pub struct Record<A: Allocator = Global> {
     pub ttl: u32,
     /// The RDATA. For the types with names in it, each name is in full and in lower case.
     pub rdata: Octets<A>,
+}
+
+impl<A: Allocator> Model for Record<A> {
+    ghost use Rattle.fleet_wire.specs.Record.{RecordData};
+
+    ghost Value = { RecordData };
+
+    ghost view = { λ r. record {
+      name = r.name;
+      rtype = r.rtype;
+      class = r.class;
+      ttl = r.ttl;
+      rdata = r.rdata;
+    } };
 }
 
 /// A record that has taken no memory yet.
@@ -90,7 +105,7 @@ fn record_of<A: Allocator + Copy>(
     requires spelled { IsSpelling spelled.now.owner.octets.items }
     requires counted { spelled.now.owner.labels
         ≡ length (labels_of spelled.now.owner.octets.items) }
-    ensures { IfOk result (λ r. record_data r ≡ spelled_record_data spelled.now) }
+    ensures { IfOk result (λ r. r ≡ spelled_record_data spelled.now) }
 {
     let name = name_of(alloc, &spelled.owner)?;
     let rdata = Octets::copy_of(alloc, spelled.rdata.as_slice())?;
@@ -112,9 +127,8 @@ pub(crate) fn records_of<A: Allocator + Copy>(
 ) -> Result<(Vec<Record<A>, A>, usize), AllocError>
     requires short { length message.now ≤ LONGEST_MESSAGE }
     requires stand { HasRecords message.now offset count }
-    ensures found { IfOk result (λ r. RecordsAt message.now offset (all_record_data r.0.items)
-        r.1) }
-    ensures counted { IfOk result (λ r. length (all_record_data r.0.items) ≡ count) }
+    ensures found { IfOk result (λ r. RecordsAt message.now offset r.0.items r.1) }
+    ensures counted { IfOk result (λ r. length r.0.items ≡ count) }
 {
     let mut records = Vec::new(alloc);
     let mut at = offset;

@@ -13,6 +13,7 @@ use crate::fault::ReadFault;
 use crate::name_reader::spelling_at;
 use crate::rtype::{CNAME, MB, MD, MF, MG, MINFO, MR, MX, NS, PTR, SOA, SRV};
 use arrayvec::ArrayVec;
+use fleet_name::bounds::LONGEST_NAME;
 
 /// A part of RDATA.
 #[derive(Clone, Copy, Debug, PartialEq, Eq)]
@@ -22,8 +23,9 @@ pub(crate) enum Part {
     Name,
 }
 
-/// The most octets that the RDATA of a message of 512 octets has with each name in full: an SOA's.
-pub(crate) const LONGEST_RDATA: usize = 530;
+/// The most octets that RDATA with names has with each name in full: an SOA's, of two names and
+/// five numbers.
+pub(crate) const LONGEST_RDATA: usize = 2 * LONGEST_NAME + 20;
 
 /// RDATA that has taken no memory yet.
 pub(crate) type Rdata = ArrayVec<u8, LONGEST_RDATA>;

@@ -1,14 +1,16 @@
 //! Writing a reply (RFC 1035 4.1).
 
-ghost use Rattle.std.specs.Prelude.{◌≡◌, ℕ, ◌+◌, ◌<◌, ◌≤◌, ◌++◌, List, length, IfOk, OnOk, IfSome, MatchOption};
+ghost use Rattle.std.specs.Prelude.{◌≡◌, ◌+◌, ◌<◌, ◌≤◌, ◌++◌, length, IfOk, OnOk, IfSome, MatchOption};
+ghost use Rattle.fleet_name.specs.declared.bounds.TheConstants.{LONGEST_NAME};
 ghost use Rattle.fleet_wire.specs.Number.{u16_octets, u32_octets};
-ghost use Rattle.fleet_wire.specs.Question.{QuestionData, question_data_lent};
+ghost use Rattle.fleet_wire.specs.Question.{QuestionData, question_if_any};
 ghost use Rattle.fleet_wire.specs.Line.{record_of_line, records_of_lines};
 ghost use Rattle.fleet_wire.specs.Message.{IsReply};
-ghost use Rattle.fleet_wire.specs.Outline.{record_octets, question_octets, records_octets, body_size, header_octets, octets_of_outline, IsWhole, message_of_outline};
+ghost use Rattle.fleet_wire.specs.Outline.{record_octets, question_octets_if_any, section_octets, body_size, header_octets, octets_of_outline, IsWhole, message_of_outline};
 ghost use Rattle.fleet_wire.specs.declared.bounds.TheConstants.{LONGEST_MESSAGE};
 
 use crate::bounds::LONGEST_MESSAGE;
+use crate::class::IN;
 use crate::line::Line;
 use crate::number::{push_long, push_short};
 use crate::outline::Outline;
@@ -22,7 +24,7 @@ fn push_question<A: Allocator, B: Allocator>(
     question: Option<&Question<B>>,
 ) -> Result<(), AllocError>
     ensures { OnOk result (out.new.items
-        ≡ out.old.items ++ question_octets (question_data_lent question.entry)) }
+        ≡ out.old.items ++ question_octets_if_any (question_if_any question.entry)) }
 {
     match question {
         None => Ok(()),
@@ -34,10 +36,10 @@ fn push_question<A: Allocator, B: Allocator>(
     }
 }
 
-/// How many octets a question has: its name in full, which has 255 at most, and four.
+/// How many octets a question has: its name in full, which has `LONGEST_NAME` at most, and four.
 fn question_size<A: Allocator>(question: Option<&Question<A>>) -> usize
-    ensures size { result ≡ length (question_octets (question_data_lent question.entry)) }
-    ensures short { result ≤ 259 }
+    ensures size { result ≡ length (question_octets_if_any (question_if_any question.entry)) }
+    ensures short { result ≤ LONGEST_NAME + 4 }
 {
     match question {
         None => 0,
@@ -71,15 +73,15 @@ fn push_record<A: Allocator>(out: &mut Vec<u8, A>, line: &Line) -> Result<(), Al
 {
     out.extend_from_slice(line.owner)?;
     let count = line.rdata.len() as u16;
-    push_fixed(out, line.rtype, 1, line.ttl, count)?;
+    push_fixed(out, line.rtype, IN, line.ttl, count)?;
     out.extend_from_slice(line.rdata)
 }
 
 /// Adds the records of lines.
 fn push_lines<A: Allocator>(out: &mut Vec<u8, A>, lines: &[Line]) -> Result<(), AllocError>
-    requires { length (records_octets (records_of_lines lines.now)) ≤ LONGEST_MESSAGE }
+    requires { length (section_octets (records_of_lines lines.now)) ≤ LONGEST_MESSAGE }
     ensures { OnOk result (out.new.items
-        ≡ out.old.items ++ records_octets (records_of_lines lines.now)) }
+        ≡ out.old.items ++ section_octets (records_of_lines lines.now)) }
 {
     for line in lines {
         push_record(out, line)?;
@@ -92,8 +94,8 @@ fn push_section<A: Allocator, B: Allocator>(
     out: &mut Vec<u8, A>,
     section: &Section<B>,
 ) -> Result<(), AllocError>
-    requires { length (records_octets section.now) ≤ LONGEST_MESSAGE }
-    ensures { OnOk result (out.new.items ≡ out.old.items ++ records_octets section.now) }
+    requires { length (section_octets section.now) ≤ LONGEST_MESSAGE }
+    ensures { OnOk result (out.new.items ≡ out.old.items ++ section_octets section.now) }
 {
     let (first, more) = section.parts();
     push_lines(out, first)?;
@@ -102,8 +104,8 @@ fn push_section<A: Allocator, B: Allocator>(
 
 /// How much of the room is left behind the octets of the lines' records, if they fit.
 fn room_after(lines: &[Line], room: usize) -> Option<usize>
-    ensures { MatchOption result (room < length (records_octets (records_of_lines lines.now)))
-        (λ left. left + length (records_octets (records_of_lines lines.now)) ≡ room) }
+    ensures { MatchOption result (room < length (section_octets (records_of_lines lines.now)))
+        (λ left. left + length (section_octets (records_of_lines lines.now)) ≡ room) }
 {
     let mut left = room;
     for line in lines {
@@ -123,8 +125,8 @@ fn room_after(lines: &[Line], room: usize) -> Option<usize>
 
 /// How much of the room is left behind the octets of a section, if they fit.
 fn room_behind<A: Allocator>(section: &Section<A>, room: usize) -> Option<usize>
-    ensures { MatchOption result (room < length (records_octets section.now))
-        (λ left. left + length (records_octets section.now) ≡ room) }
+    ensures { MatchOption result (room < length (section_octets section.now))
+        (λ left. left + length (section_octets section.now) ≡ room) }
 {
     let (first, more) = section.parts();
     let left = room_after(first, room)?;
@@ -138,9 +140,9 @@ fn size_within<A: Allocator>(
     authority: &Section<A>,
 ) -> Option<usize>
     ensures size { MatchOption result
-        (LONGEST_MESSAGE < 12 + body_size (question_data_lent question.entry) answer.now
+        (LONGEST_MESSAGE < 12 + body_size (question_if_any question.entry) answer.now
         authority.now)
-        (λ size. size ≡ 12 + body_size (question_data_lent question.entry) answer.now
+        (λ size. size ≡ 12 + body_size (question_if_any question.entry) answer.now
         authority.now) }
     ensures short { IfSome result (λ size. size ≤ LONGEST_MESSAGE) }
 {

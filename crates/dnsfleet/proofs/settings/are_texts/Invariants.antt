@@ -1,7 +1,8 @@
-use Rattle.std.proofs.Common.{◌≡◌, drop}
+use Rattle.std.proofs.Common.{◌↔◌, drop}
 use Rattle.toml.specs.View.{items_view}
-use Rattle.dnsfleet.specs.Configuration.{are_texts}
+use Rattle.dnsfleet.specs.Configuration.{AreTexts}
 use Rattle.dnsfleet.proofs.settings.are_texts.Given as goal
 
 abbrev pub invariant-loop-item : goal.invariant-loop-item
-invariant-loop-item l = are_texts (items_view (drop l.item-index l.items)) ≡ are_texts (items_view l.items)
+invariant-loop-item l =
+    AreTexts (items_view (drop l.item-index l.items)) ↔ AreTexts (items_view l.items)

@@ -4,4 +4,5 @@ use Rattle.dnsfleet.proofs.Configurations.{Remains}
 use Rattle.dnsfleet.proofs.settings.read_addresses.Given as goal
 
 abbrev pub invariant-loop-item : goal.invariant-loop-item
-invariant-loop-item l = Remains (items_view l.fn.items) (items_view (drop l.item-index l.items)) l.addrs.items
+invariant-loop-item l = Remains (items_view l.fn.items) (items_view (drop l.item-index l.items))
+    l.addrs.items

@@ -35,7 +35,7 @@ const LENT: &str = "\
 ";
 
 /// The records of a part.
-fn rows_of<'a, A: Allocator>(part: Shown<'a, A>) -> Rows<'a, A> {
+fn rows_of<'a, A: Allocator>(part: &Shown<'a, A>) -> Rows<'a, A> {
     let records = part.observation;
     Rows {
         name: records.name(),
@@ -48,10 +48,10 @@ fn rows_of<'a, A: Allocator>(part: Shown<'a, A>) -> Rows<'a, A> {
 /// Adds the records of links.
 fn add_links<'a, A: Allocator + Copy>(
     outline: &mut Outline<'a, A>,
-    chain: &Chain<'a, A>,
+    chain: &[Option<Shown<'a, A>>],
 ) -> Result<(), Fail> {
-    for link in chain.as_slice() {
-        let link = link.ok_or("an empty link")?;
+    for link in chain {
+        let link = link.as_ref().ok_or("an empty link")?;
         add_rows(outline, rows_of(link))?;
     }
     Ok(())
@@ -63,10 +63,10 @@ fn found_reply<A: Allocator + Copy>(
     header: Header,
     question: &Question<A>,
     chain: &Chain<'_, A>,
-    set: Shown<'_, A>,
+    set: &Shown<'_, A>,
 ) -> Result<Vec<u8, A>, Fail> {
     let mut outline = Outline::new(alloc, header.id, 0, header.rd, 0, false, Some(question));
-    add_links(&mut outline, chain)?;
+    add_links(&mut outline, chain.as_slice())?;
     add_rows(&mut outline, rows_of(set))?;
     Ok(write_reply(alloc, &outline)?)
 }
@@ -78,12 +78,12 @@ fn denial_reply<A: Allocator + Copy>(
     rcode: u8,
     question: &Question<A>,
     chain: &Chain<'_, A>,
-    soa: Shown<'_, A>,
+    soa: &Shown<'_, A>,
 ) -> Result<Vec<u8, A>, Fail>
     requires { rcode < 16 }
 {
     let mut outline = Outline::new(alloc, header.id, 0, header.rd, rcode, false, Some(question));
-    add_links(&mut outline, chain)?;
+    add_links(&mut outline, chain.as_slice())?;
     let (owner, rdata) = soa.observation.soa().ok_or("no SOA")?;
     add_soa(&mut outline, owner, soa.ttl, rdata)?;
     Ok(write_reply(alloc, &outline)?)
@@ -97,9 +97,9 @@ fn look_at<A: Allocator + Copy>(
     answer: &Answer<'_, A>,
 ) -> Result<Looked<A>, Fail> {
     let reply = match answer {
-        Answer::Found { chain, set } => found_reply(alloc, header, question, chain, *set)?,
-        Answer::NoData { chain, soa } => denial_reply(alloc, header, 0, question, chain, *soa)?,
-        Answer::NxDomain { chain, soa } => denial_reply(alloc, header, 3, question, chain, *soa)?,
+        Answer::Found { chain, set } => found_reply(alloc, header, question, chain, set)?,
+        Answer::NoData { chain, soa } => denial_reply(alloc, header, 0, question, chain, soa)?,
+        Answer::NxDomain { chain, soa } => denial_reply(alloc, header, 3, question, chain, soa)?,
         Answer::Miss => return Ok(Looked::Miss),
     };
     Ok(Looked::Reply(Octets::new(reply)))

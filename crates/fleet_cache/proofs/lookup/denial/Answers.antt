@@ -7,13 +7,16 @@ use Rattle.fleet_cache.proofs.Names.{more_read}
 use Rattle.fleet_cache.proofs.lookup.denial.Goals as goal
 
 pub loop-at-init : goal.loop-at-init
-loop-at-init g c = starts c.args.moment (items_of c.args.fronts.now.entries) c.args.name.now c.requires.named
+loop-at-init g c = starts c.args.moment (items_of c.args.fronts.now.entries) c.args.name.now
+    c.requires.named
 
 pub returns-then-first-eq0 : goal.returns-then-first-eq0
 returns-then-first-eq0 g c n e =
     let items = items_of c.args.fronts.now.entries in
     subst (λ v. IsBest (DeniesName c.args.moment n) items v) (sym c.better_of-best.ensures)
-    (ends c.args.moment items c.args.name.now c.loop-at.at.now (referent c.loop-at.best) (referent c.denial_at.result) c.loop-at.invariant c.denial_at.ensures c.if-first-eq0.true n e)
+    (ends c.args.moment items c.args.name.now c.loop-at.at.now (referent c.loop-at.best)
+    (referent c.denial_at.result) c.loop-at.invariant c.denial_at.ensures c.if-first-eq0.true n
+    e)
 
 pub split_at-requires : goal.split_at-requires
 split_at-requires g c =
@@ -25,6 +28,10 @@ loop-at-preserved g c =
     let items = items_of c.args.fronts.now.entries in
     let at = c.loop-at.at.now in
     let b = more_read at c.loop-at.invariant.wired c.if-first-eq0.false in
-    let above : c.split_at.result.1.now ≡ wire b.rest = c.split_at.ensures.back ∙ (ap (λ v. drop (v + 1) at) b.first ∙ b.above) in
-    subst (λ v. IsClimbed c.args.moment items c.args.name.now c.split_at.result.1.now v) (sym c.better_of-best.ensures)
-    (goes_up c.args.moment items c.args.name.now at (referent c.loop-at.best) (referent c.denial_at.result) c.loop-at.invariant c.denial_at.ensures c.split_at.result.1.now b above)
+    let above : c.split_at.result.1.now ≡ wire b.rest = c.split_at.ensures.back
+    ∙ (ap (λ v. drop (v + 1) at) b.first ∙ b.above) in
+    subst (λ v. IsClimbed c.args.moment items c.args.name.now c.split_at.result.1.now v)
+    (sym c.better_of-best.ensures)
+    (goes_up c.args.moment items c.args.name.now at (referent c.loop-at.best)
+    (referent c.denial_at.result) c.loop-at.invariant c.denial_at.ensures
+    c.split_at.result.1.now b above)

@@ -6,8 +6,11 @@ use Rattle.fleet_cache.proofs.Slots.{nil_front}
 use Rattle.fleet_cache.proofs.store.front_of.Goals as goal
 
 pub returns-clause-front : goal.returns-clause-front
-returns-clause-front g c = subst (λ v. IsFrontOf preference dominates (v ∷ []) c.take.new.self) c.new.ensures
-    (c.in_ok-take.ensures.taken [] (subst (IsFrontOf preference dominates []) (sym c.new-front.ensures) (nil_front preference dominates)))
+returns-clause-front g c = subst (λ v. IsFrontOf preference dominates (v ∷ []) c.take.new.self)
+    c.new.ensures
+    (c.in_ok-take.ensures.taken [] (subst (IsFrontOf preference dominates [])
+    (sym c.new-front.ensures) (nil_front preference dominates)))
 
 pub returns-clause-size : goal.returns-clause-size
-returns-clause-size g c = let none = ap length c.new-front.ensures in omega (arith, none, c.in_ok-take.ensures.size)
+returns-clause-size g c = let none = ap length c.new-front.ensures
+    in omega (arith, none, c.in_ok-take.ensures.size)

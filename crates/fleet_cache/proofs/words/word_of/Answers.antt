@@ -1,6 +1,7 @@
 use Rattle.std.proofs.Common.{◌+◌, ◌*◌, ◌<◌, drop, slice_index_or, ap, ◌∙◌, arith, add-one}
 use Rattle.std.proofs.lemmas.List.{drop_all}
-use Rattle.fleet_cache.specs.Packed.{weights, weigh}
+use Rattle.fleet_cache.specs.declared.words.TheConstants.{WEIGHTS}
+use Rattle.fleet_cache.specs.Packed.{weigh}
 use Rattle.fleet_cache.proofs.Packed.{weigh_below, are_weights}
 use Rattle.fleet_cache.proofs.Packing.{bytes_read, weigh_none, weighed_more}
 use Rattle.fleet_cache.proofs.words.word_of.Goals as goal
@@ -10,21 +11,27 @@ loop-i-init c = omega arith
 
 pub overflow_add-word-in-loop-i : goal.overflow_add-word-in-loop-i
 overflow_add-word-in-loop-i c =
-    let more = weighed_more weights c.args.octets.now c.loop-i.i (omega (arith, c.requires, c.loop-i-test.true)) c.loop-i-test.true in
-    let digit = ap (λ v. (v + 1) * slice_index_or weights c.loop-i.i 0) c.from.ensures in
-    let most : weigh weights c.args.octets.now < 74051159531521793 = weigh_below 288136807515649 (drop 1 weights) are_weights.0 c.args.octets.now (bytes_read c.args.octets.now c.type_inv.octets) in
+    let more = weighed_more WEIGHTS c.args.octets.now c.loop-i.i
+    (omega (arith, c.requires, c.loop-i-test.true)) c.loop-i-test.true in
+    let digit = ap (λ v. (v + 1) * slice_index_or WEIGHTS c.loop-i.i 0) c.from.ensures in
+    let most : weigh WEIGHTS c.args.octets.now < 74051159531521793 =
+    weigh_below 288136807515649 (drop 1 WEIGHTS) are_weights.0 c.args.octets.now
+    (bytes_read c.args.octets.now c.type_inv.octets) in
     omega (arith, more, digit, most, c.loop-i.invariant)
 
 pub loop-i-preserved : goal.loop-i-preserved
 loop-i-preserved c =
-    let more = weighed_more weights c.args.octets.now c.loop-i.i (omega (arith, c.requires, c.loop-i-test.true)) c.loop-i-test.true in
-    let digit = ap (λ v. (v + 1) * slice_index_or weights c.loop-i.i 0) c.from.ensures in
-    let next = ap (λ j. weigh (drop j weights) (drop j c.args.octets.now)) (add-one c.loop-i.i) in
+    let more = weighed_more WEIGHTS c.args.octets.now c.loop-i.i
+    (omega (arith, c.requires, c.loop-i-test.true)) c.loop-i-test.true in
+    let digit = ap (λ v. (v + 1) * slice_index_or WEIGHTS c.loop-i.i 0) c.from.ensures in
+    let next = ap (λ j. weigh (drop j WEIGHTS) (drop j c.args.octets.now)) (add-one c.loop-i.i) in
     omega (arith, more, digit, next, c.loop-i.invariant)
 
 pub returns-clause-word : goal.returns-clause-word
 returns-clause-word c =
-    let none = ap (weigh (drop c.loop-i.i weights)) (drop_all c.loop-i.i c.args.octets.now c.loop-i-test.false) ∙ weigh_none (drop c.loop-i.i weights) in
+    let none = ap (weigh (drop c.loop-i.i WEIGHTS))
+    (drop_all c.loop-i.i c.args.octets.now c.loop-i-test.false)
+    ∙ weigh_none (drop c.loop-i.i WEIGHTS) in
     omega (arith, none, c.loop-i.invariant)
 
 pub returns-clause-bytes : goal.returns-clause-bytes

@@ -7,4 +7,5 @@ pub returns-in-NoData : goal.returns-in-NoData
 returns-in-NoData c n named is = rw c.in-NoData.is (c.negative_size.ensures n named is)
 
 pub returns-in-NameError : goal.returns-in-NameError
-returns-in-NameError c n named is = rw c.in-NameError.is (c.negative_size-in-NameError.ensures n named is)
+returns-in-NameError c n named is = rw c.in-NameError.is
+    (c.negative_size-in-NameError.ensures n named is)

@@ -5,5 +5,7 @@ use Rattle.fleet_gossip.proofs.body.read_body.Goals as goal
 
 pub returns : goal.returns
 returns c n named is =
-    let found = rw c.rest.ensures at (c.in_ok-size.ensures n named is) in let Lawful = IsBodyOf c.args.kind n c.args.rtype in
-    MatchResult-weaker c.take.result c.take.ensures (λ r h. part_taken Lawful _ _ found _ _ h) (λ f h. absurd (part_uncut Lawful _ _ found f h))
+    let found = rw c.rest.ensures at (c.in_ok-size.ensures n named is) in let Lawful =
+    IsBodyOf c.args.kind n c.args.rtype in
+    MatchResult-weaker c.take.result c.take.ensures (λ r h. part_taken Lawful _ _ found _ _ h)
+    (λ f h. absurd (part_uncut Lawful _ _ found f h))

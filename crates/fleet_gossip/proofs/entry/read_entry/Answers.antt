@@ -17,17 +17,21 @@ pub returns-in_err-rtype : goal.returns-in_err-rtype
 returns-in_err-rtype c =
     let r = c.from_residual-in_err-rtype in let p = err_from_is_err_and r.result r.ensures.1 in
     let at = c.in_ok-name.ensures in let k = c.in_ok-head.head.kind in
-    rw (p.1, p.2) (type_fails _ _ _ _ _ c.in_ok-head.ensures at _ (field_told u16_octets 2 (IsTypeOf k) BadKind (BodyFails k at.lawful.name) _ _ c.in_err-rtype.ensures))
+    rw (p.1, p.2) (type_fails _ _ _ _ _ c.in_ok-head.ensures at _
+    (field_told u16_octets 2 (IsTypeOf k) BadKind (BodyFails k at.lawful.name) _ _
+    c.in_err-rtype.ensures))
 
 pub returns-in_err-body : goal.returns-in_err-body
 returns-in_err-body c =
     let r = c.from_residual-in_err-body in let p = err_from_is_err_and r.result r.ensures.1 in
     let at = c.in_ok-name.ensures in
-    rw (p.1, p.2) (body_fails _ _ _ _ _ c.in_ok-head.ensures at _ _ c.in_ok-rtype.ensures _ (c.in_err-body.ensures at.lawful.name at.lawful.named at.lawful.whole))
+    rw (p.1, p.2) (body_fails _ _ _ _ _ c.in_ok-head.ensures at _ _ c.in_ok-rtype.ensures _
+    (c.in_err-body.ensures at.lawful.name at.lawful.named at.lawful.whole))
 
 pub returns : goal.returns
 returns c =
-    let head = c.in_ok-head.ensures in let at = c.in_ok-name.ensures in let t = c.in_ok-rtype.ensures in
+    let head = c.in_ok-head.ensures in let at = c.in_ok-name.ensures in let t =
+    c.in_ok-rtype.ensures in
     let b = c.in_ok-body.ensures at.lawful.name at.lawful.named at.lawful.whole in (
       fact_read _ _ _ _ _ head at _ _ t _ _ b,
       entry_read _ _ _ _ _ head at _ _ t _ _ b c.in_ok-name.name c.in_ok-body.body refl refl,

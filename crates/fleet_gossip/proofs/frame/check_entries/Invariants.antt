@@ -5,6 +5,6 @@ use Rattle.fleet_gossip.proofs.frame.check_entries.Given as goal
 
 abbrev pub invariant-loop : goal.invariant-loop
 invariant-loop l = record {
-  facts : List ObservationData;
-  are : AreEntries l.entries.octets.now l.counter facts l.reader;
+  list : List ObservationData;
+  are : AreEntries l.entries.octets.now l.counter list l.reader;
 }

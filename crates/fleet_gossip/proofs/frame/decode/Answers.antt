@@ -11,7 +11,8 @@ returns-in_err-entries-clause-fault g c =
     rw (p.1, p.2) (inr c.in_err-entries.ensures)
 
 pub returns-in_err-entries-clause-only : goal.returns-in_err-entries-clause-only
-returns-in_err-entries-clause-only g c facts is = absurd (list_or_fault c.args.octets.now facts _ is c.in_err-entries.ensures)
+returns-in_err-entries-clause-only g c list is =
+    absurd (list_or_fault c.args.octets.now list _ is c.in_err-entries.ensures)
 
 pub returns-in_err-entries-clause-memory : goal.returns-in_err-entries-clause-memory
 returns-in_err-entries-clause-memory g c =
@@ -21,7 +22,9 @@ returns-in_err-entries-clause-memory g c =
 pub returns-in_err-observations-clause-memory : goal.returns-in_err-observations-clause-memory
 returns-in_err-observations-clause-memory g c =
     let of = c.in_ok-entries.ensures in
-    if_err c.from_residual-in_err-observations.result _ (λ f e. has_entries _ _ _ of.stand.facts of.opened of.fits of.stand.are c.in_err-observations.ensures.memory)
+    if_err c.from_residual-in_err-observations.result _
+    (λ f e. has_entries _ _ _ of.stand.list of.opened of.fits of.stand.are
+    c.in_err-observations.ensures.memory)
 
 pub returns-clause-found : goal.returns-clause-found
 returns-clause-found g c =

@@ -6,13 +6,21 @@ use Rattle.fleet_gossip.proofs.frame.encode.Goals as goal
 
 pub overflow_cast-observations : goal.overflow_cast-observations
 overflow_cast-observations g c =
-    let fits = c.in-Some.ensures in let facts = c.args.observations.now in omega (arith, fits.counted, fits.fits, count_le facts, frame_length facts)
+    let fits = c.in-Some.ensures in let list = c.args.observations.now
+    in omega (arith, fits.counted, fits.fits, count_le list, frame_length list)
 
 pub loop-observation-preserved : goal.loop-observation-preserved
-loop-observation-preserved g c = written_more _ _ _ c.loop-observation-test.true c.observation-item.is _ _ _ c.loop-observation.invariant c.in_ok-push_entry.ensures
+loop-observation-preserved g c = written_more _ _ _ c.loop-observation-test.true
+    c.observation-item.is _ _ _ c.loop-observation.invariant c.in_ok-push_entry.ensures
 
 pub returns-clause-spelled : goal.returns-clause-spelled
 returns-clause-spelled g c =
     let fits = c.in-Some.ensures in
-    let whole = all_written c.args.observations.now c.loop-observation.observation-index c.loop-observation.frame.items (frame_octets c.args.observations.now) c.loop-observation.invariant (omega arith) in
-    record { lawful = fits.lawful; spelled = whole; fits = rw whole (omega (arith, fits.counted, fits.fits)) }
+    let whole = all_written c.args.observations.now c.loop-observation.observation-index
+    c.loop-observation.frame.items (frame_octets c.args.observations.now)
+    c.loop-observation.invariant (omega arith) in
+    record {
+      lawful = fits.lawful;
+      spelled = whole;
+      fits = rw whole (omega (arith, fits.counted, fits.fits));
+    }

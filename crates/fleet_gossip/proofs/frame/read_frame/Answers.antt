@@ -10,8 +10,10 @@ returns-in_err-count c =
 
 pub returns-in_err-check_entries : goal.returns-in_err-check_entries
 returns-in_err-check_entries c =
-    let r = c.from_residual-in_err-check_entries in let p = err_from_is_err_and r.result r.ensures.1 in
-    rw (p.1, p.2) (entries_fail _ _ _ _ (rw c.new-reader.ensures at c.in_ok-count.ensures) (omega arith) (rw c.rest.ensures at c.in_err-check_entries.ensures))
+    let r = c.from_residual-in_err-check_entries in let p = err_from_is_err_and r.result r.ensures.1
+    in
+    rw (p.1, p.2) (entries_fail _ _ _ _ (rw c.new-reader.ensures at c.in_ok-count.ensures)
+    (omega arith) (rw c.rest.ensures at c.in_err-check_entries.ensures))
 
 pub returns : goal.returns
 returns c = record {

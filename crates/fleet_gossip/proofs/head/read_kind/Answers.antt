@@ -1,7 +1,7 @@
 use Rattle.std.proofs.Common.{◌≡◌, refl, arith}
 use Rattle.fleet_observe.specs.Observation.{kind_number}
-use Rattle.fleet_observe.specs.declared.kind.Kind.{Kind}
-use Rattle.fleet_observe.specs.declared.kind.Kind.TheVariants.{NameError, NoData, Positive}
+use Rattle.fleet_observe.specs.declared.observation.kind.Kind.{Kind}
+use Rattle.fleet_observe.specs.declared.observation.kind.Kind.TheVariants.{NameError, NoData, Positive}
 use Rattle.fleet_gossip.specs.Faults.{refused}
 use Rattle.fleet_gossip.proofs.head.read_kind.Goals as goal
 

@@ -4,4 +4,5 @@ use Rattle.std.proofs.Common.{refl}
 use Rattle.fleet_gossip.proofs.head.read_rank.Goals as goal
 
 pub returns-then-not-is_rank_of : goal.returns-then-not-is_rank_of
-returns-then-not-is_rank_of c = refused _ _ c.in_ok-rank.ensures (λ l. false≢true (rw c.if-not-is_rank_of.true at (c.is_rank_of.ensures.1 l))) refl
+returns-then-not-is_rank_of c = refused _ _ c.in_ok-rank.ensures
+    (λ l. false≢true (rw c.if-not-is_rank_of.true at (c.is_rank_of.ensures.1 l))) refl

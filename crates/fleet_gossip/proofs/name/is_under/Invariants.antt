@@ -7,7 +7,8 @@ invariant-loop-rest l = record {
   left : List (List ℕ);
   whole : l.rest ≡ wire left;
   named : IsName left;
-  same : (n a : List (List ℕ)) → IsName n → l.fn.name ≡ wire n → l.fn.ancestor ≡ wire a → (IsUnder n a → IsUnder left a) × (IsUnder left a → IsUnder n a);
+  same : (n a : List (List ℕ)) → IsName n → l.fn.name ≡ wire n → l.fn.ancestor ≡ wire a
+      → (IsUnder n a → IsUnder left a) × (IsUnder left a → IsUnder n a);
 }
 
 abbrev pub decreases-loop-rest : goal.decreases-loop-rest

@@ -7,8 +7,10 @@ use Rattle.fleet_gossip.proofs.name.name_size.Goals as goal
 
 pub returns-in_err-label : goal.returns-in_err-label
 returns-in_err-label c =
-    let p = err_from_is_err_and c.from_residual.result c.from_residual.ensures.1 in let i = c.loop-label.invariant in
-    rw (p.1, p.2) (label_fails i.before c.loop-label.reader i.whole i.named (c.in_err-label.ensures i.before (sym i.counted)))
+    let p = err_from_is_err_and c.from_residual.result c.from_residual.ensures.1 in let i =
+    c.loop-label.invariant in
+    rw (p.1, p.2) (label_fails i.before c.loop-label.reader i.whole i.named
+    (c.in_err-label.ensures i.before (sym i.counted)))
 
 pub returns-then-is_empty : goal.returns-then-is_empty
 returns-then-is_empty c =
@@ -17,7 +19,8 @@ returns-then-is_empty c =
 
 pub loop-label-preserved : goal.loop-label-preserved
 loop-label-preserved c =
-    let i = c.loop-label.invariant in let at = c.in_ok-label.ensures i.before (sym i.counted) in let some = some_from _ c.if-is_empty.ensures in
+    let i = c.loop-label.invariant in let at = c.in_ok-label.ensures i.before (sym i.counted)
+    in let some = some_from _ c.if-is_empty.ensures in
     record {
       before = i.before ++ c.in_ok-label.label.now ∷ [];
       whole = whole_more _ _ _ _ i.before i.whole i.named at some;

@@ -11,4 +11,5 @@ returns-in_err-size c =
 pub returns : goal.returns
 returns c =
     let found = rw c.rest.ensures at c.in_ok-size.ensures in
-    MatchResult-weaker c.take.result c.take.ensures (λ r h. part_taken IsWire _ _ found _ _ h) (λ f h. absurd (part_uncut IsWire _ _ found f h))
+    MatchResult-weaker c.take.result c.take.ensures (λ r h. part_taken IsWire _ _ found _ _ h)
+    (λ f h. absurd (part_uncut IsWire _ _ found f h))

@@ -5,5 +5,6 @@ use Rattle.fleet_observe.proofs.Distinct.{observed_distinct}
 use Rattle.fleet_observe.proofs.laws.each_once.Goals as goal
 
 pub returns : goal.returns
-returns c r stamp facts h =
-    subst (λ (fs : List ObservationData). AllDistinct fs) (sym h.facts_are) (observed_distinct r h.summary stamp h.meaning)
+returns c r stamp os h =
+    subst (λ (fs : List ObservationData). AllDistinct fs) (sym h.are)
+    (observed_distinct r h.digest stamp h.meaning)

@@ -1,6 +1,6 @@
 use Rattle.std.proofs.Common.{◌∙◌, ap, sym}
 use Rattle.fleet_observe.specs.Digest.{DigestData}
-use Rattle.fleet_observe.specs.Observed.{reply_observations}
+use Rattle.fleet_observe.specs.Observations.{reply_observations}
 use Rattle.fleet_observe.proofs.OneMeaning.{meaning_is}
 use Rattle.fleet_observe.proofs.laws.one_meaning.Goals as goal
 
@@ -9,4 +9,5 @@ returns-clause-meaning c r a b p q = meaning_is r a b p q
 
 pub returns-clause-observed : goal.returns-clause-observed
 returns-clause-observed c r stamp a b p q =
-    p.facts_are ∙ (ap (λ (d : DigestData). reply_observations d stamp) (meaning_is r p.summary q.summary p.meaning q.meaning) ∙ sym q.facts_are)
+    p.are ∙ (ap (λ (d : DigestData). reply_observations d stamp) (meaning_is r p.digest q.digest
+    p.meaning q.meaning) ∙ sym q.are)

@@ -1,6 +1,6 @@
 use Rattle.std.proofs.Common.{◌≡◌, true, false, arith, subst, sym, ◌∙◌, ◌+◌, ◌≤◌, length}
 use Rattle.fleet_pending.proofs.FirstDue.{FirstTo, first_all, first_new_is, first_kept, kept_first}
-use Rattle.fleet_pending.proofs.Placed.{at_read}
+use Rattle.fleet_name.proofs.Lemmas.{at_read}
 use Rattle.fleet_pending.proofs.search.first_due_entry.Goals as goal
 use Rattle.fleet_pending.proofs.search.first_due_entry.Goals.{then-replaces, else-replaces}
 

@@ -1,7 +1,7 @@
 use Rattle.std.proofs.Common.{◌≡◌, ℕ, ◌+◌, ◌-◌, ◌%◌, ◌≤◌, length, ap, subst, sym, arith}
 use Rattle.fleet_pending.specs.PendingData.{EntryData}
 use Rattle.fleet_pending.proofs.FreeId.{AreTakenTo, taken_none, taken_more, taken_beyond, taken_all}
-use Rattle.fleet_pending.proofs.Placed.{at_read}
+use Rattle.fleet_name.proofs.Lemmas.{at_read}
 use Rattle.fleet_pending.proofs.search.mark_taken.Goals as goal
 use Rattle.fleet_pending.proofs.search.mark_taken.Goals.{then-passed-lt256, else-passed-lt256}
 

@@ -1,7 +1,6 @@
-use Rattle.fleet_wire.specs.Question.{question_data}
 use Rattle.fleet_pending.specs.PendingData.{AsksFor}
 use Rattle.fleet_pending.proofs.Placed.{NoneBefore}
 use Rattle.fleet_pending.proofs.search.place_of_question.Given as goal
 
 abbrev pub invariant-loop-i : goal.invariant-loop-i
-invariant-loop-i g l = NoneBefore (λ e. AsksFor (question_data l.question) e) l.entries l.i
+invariant-loop-i g l = NoneBefore (λ e. AsksFor l.question e) l.entries l.i

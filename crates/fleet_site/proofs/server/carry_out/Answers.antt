@@ -6,5 +6,7 @@ use Rattle.fleet_site.proofs.server.carry_out.Goals as goal
 
 pub returns-in-Ok-clause-carried : goal.returns-in-Ok-clause-carried
 returns-in-Ok-clause-carried g c =
-    rw c.in-Ok.is (carries _ _ _ c.args.peers.now (outcome_data c.in-Ok.outcome) _ _ c.args.report.now c.count_refusal.new.report c.send_packets.new.report c.send_frames.new.report
-    c.as_slice.ensures.value (ap (to_peers c.args.peers.now) c.as_slice-in-Ok.ensures) c.count_refusal.ensures c.send_packets.ensures c.send_frames.ensures)
+    rw c.in-Ok.is (carries _ _ _ c.args.peers.now (outcome_data c.in-Ok.outcome) _ _
+    c.args.report.now c.count_refusal.new.report c.send_packets.new.report c.send_frames.new.report
+    c.as_slice.ensures.value (ap (to_peers c.args.peers.now) c.as_slice-in-Ok.ensures)
+    c.count_refusal.ensures c.send_packets.ensures c.send_frames.ensures)

@@ -5,7 +5,10 @@ use Rattle.fleet_site.proofs.server.send_packets.Goals as goal
 
 pub loop-packet-preserved : goal.loop-packet-preserved
 loop-packet-preserved g c =
-    let e = packets_more c.args.packets.now c.loop-packet.packet-index c.packet-item.result c.loop-packet-test.true c.packet-item.is in
+    let e = packets_more c.args.packets.now c.loop-packet.packet-index c.packet-item.result
+    c.loop-packet-test.true c.packet-item.is in
     sends_more _ _ _ _ _ _ c.args.report.now c.loop-packet.report c.send.new.report
-    (e ∙ ap (λ (octets : List ℕ). map packet_data (take c.loop-packet.packet-index c.args.packets.now) ++ record { to = c.packet-item.result.to; octets = octets } ∷ []) (sym c.as_slice.ensures))
+    (e ∙ ap (λ (octets : List ℕ). map packet_data
+    (take c.loop-packet.packet-index c.args.packets.now)
+    ++ record { to = c.packet-item.result.to; octets = octets } ∷ []) (sym c.as_slice.ensures))
     c.loop-packet.invariant c.send.ensures

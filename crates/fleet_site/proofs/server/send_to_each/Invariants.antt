@@ -3,4 +3,6 @@ use Rattle.fleet_site.specs.Sending.{Sends, to_each}
 use Rattle.fleet_site.proofs.server.send_to_each.Given as goal
 
 abbrev pub invariant-loop-peer : goal.invariant-loop-peer
-invariant-loop-peer g l = Sends (g.P.Port.tells l.fn.port) (g.P.Port.tells l.port) (to_each l.frame (take l.peer-index l.peers)) l.fn.report l.report
+invariant-loop-peer g l =
+    Sends (g.P.Port.tells l.fn.port) (g.P.Port.tells l.port)
+    (to_each l.frame (take l.peer-index l.peers)) l.fn.report l.report

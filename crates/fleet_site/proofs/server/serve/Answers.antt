@@ -3,20 +3,31 @@ use Rattle.fleet_site.proofs.ServerRuns.{serves_none, serves_more, serves_run, s
 use Rattle.fleet_site.proofs.server.serve.Goals as goal
 
 pub loop-init : goal.loop-init
-loop-init g c = record { run = rw c.new-report.ensures (serves_none _ _ _ c.args.sweep_every c.args.site.now); clock = ahead_none _; stream = refl }
+loop-init g c = record {
+  run = rw c.new-report.ensures
+      (serves_none _ _ _ c.args.sweep_every c.args.site.now);
+  clock = ahead_none _;
+  stream = refl;
+}
 
 pub loop-preserved : goal.loop-preserved
 loop-preserved g c =
-    let l = left_more _ _ _ c.loop.counter c.next_u32.result c.loop.invariant.stream c.next_u32.ensures in
+    let l = left_more _ _ _ c.loop.counter c.next_u32.result c.loop.invariant.stream
+    c.next_u32.ensures in
     record {
-      run = serves_more _ _ _ _ _ c.loop.counter c.args.sweep_every c.now-now.result _ c.turn.result c.args.site.now c.loop.site c.turn.new.site c.loop.swept c.loop.report c.turn.new.report c.loop.invariant.run
-          (is_moment _ _ _ c.loop.counter c.now-now.result c.loop.invariant.clock c.now-now.ensures) l.1 c.turn.ensures;
-      clock = ahead_more _ _ _ c.loop.counter c.now-now.result c.loop.invariant.clock c.now-now.ensures;
+      run = serves_more _ _ _ _ _ c.loop.counter c.args.sweep_every c.now-now.result _ c.turn.result
+          c.args.site.now c.loop.site c.turn.new.site c.loop.swept c.loop.report c.turn.new.report
+          c.loop.invariant.run
+          (is_moment _ _ _ c.loop.counter c.now-now.result c.loop.invariant.clock c.now-now.ensures)
+          l.1 c.turn.ensures;
+      clock = ahead_more _ _ _ c.loop.counter c.now-now.result c.loop.invariant.clock
+          c.now-now.ensures;
       stream = l.0;
     }
 
 pub returns-clause-run : goal.returns-clause-run
-returns-clause-run g c = let n : c.loop.counter ≡ c.args.turns = omega arith in serves_run _ _ _ _ _ _ _ _ _ _ (rw n at c.loop.invariant.run)
+returns-clause-run g c = let n : c.loop.counter ≡ c.args.turns = omega arith in
+    serves_run _ _ _ _ _ _ _ _ _ _ (rw n at c.loop.invariant.run)
 
 pub returns-clause-failures : goal.returns-clause-failures
 returns-clause-failures g c = serves_failures _ _ _ _ _ _ _ _ _ _ c.loop.invariant.run

@@ -1,5 +1,6 @@
 use Rattle.std.proofs.Common.{◌≡◌, ◌+◌, ◌∙◌, ◌≤◌, ◌++◌, ◌∷◌, [], length, ap, sym, refl, arith, length-append}
 use Rattle.std.proofs.lemmas.Result.{err_from_is_err_and}
+use Rattle.fleet_name.specs.declared.bounds.TheConstants.{LONGEST_NAME}
 use Rattle.fleet_wire.specs.Fault.{here}
 use Rattle.fleet_name.proofs.Lemmas.{named_root, count_le}
 use Rattle.fleet_wire.proofs.Readings.{read_whole, labels_read, spelling_read, more_octets, more_named, more_room, reads_more, fails_more, reads_on, fails_on}
@@ -56,7 +57,7 @@ loop-octets-preserved-in-Label c =
     let i = l.invariant in
     let h = rw c.in-Label.is at c.in_ok-step_at.ensures in
     let used : c.len.result ≡ length l.octets.items = c.len.ensures.value in
-    let room : length l.octets.items + 1 + length c.in-Label.label.now + 1 ≤ 255 = rw used at h.1 in
+    let room : length l.octets.items + 1 + length c.in-Label.label.now + 1 ≤ LONGEST_NAME = rw used at h.1 in
     let label = c.in-Label.label.now in
     let new = c.append_label.new.octets.items in
     let e = c.append_label.ensures in

@@ -6,9 +6,6 @@ use Rattle.fleet_wire.proofs.query.question_of.Goals as goal
 pub invariant_of-result : goal.invariant_of-result
 invariant_of-result g c =
     let s = c.requires.spelled in
-    record {
-      spells =
-          spells_name _ (labels_of c.args.spelled.now.name.octets.items) _
-          (c.in_ok-octets.ensures ∙ (c.as_slice.ensures.value ∙ s.whole)) c.in_ok-name.ensures
-          (rw c.in_ok-name.ensures s.lawful);
-    }
+    spells_name _ (labels_of c.args.spelled.now.name.octets.items) _
+    (c.in_ok-octets.ensures ∙ (c.as_slice.ensures.value ∙ s.whole)) c.in_ok-name.ensures
+    (rw c.in_ok-name.ensures s.lawful)

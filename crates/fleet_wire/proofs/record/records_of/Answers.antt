@@ -1,6 +1,5 @@
 use Rattle.std.proofs.Common.{◌≡◌, ◌∙◌, ap, ◌++◌, ◌∷◌, [], arith, length-append}
-use Rattle.std.proofs.lemmas.List.{map-append}
-use Rattle.fleet_wire.specs.Record.{RecordData, record_data, spelled_record_data, all_record_data}
+use Rattle.fleet_wire.specs.Record.{RecordData, spelled_record_data}
 use Rattle.fleet_wire.proofs.Records.{records_more, first_stands, others_stand}
 use Rattle.fleet_wire.proofs.record.records_of.Goals as goal
 
@@ -12,11 +11,10 @@ pub loop-preserved : goal.loop-preserved
 loop-preserved g c =
     let i = c.loop.invariant in
     let one = spelled_record_data c.in-Ok.spelled in
-    let before = all_record_data c.loop.records.items in
-    let is : all_record_data c.push.new.self.items ≡ before ++ one ∷ [] =
-    ap all_record_data c.in_ok-push.ensures.items
-    ∙ (map-append record_data c.loop.records.items (c.in_ok-record_of.field-0 ∷ [])
-    ∙ ap (λ (r : RecordData). before ++ r ∷ []) c.in_ok-record_of.ensures) in
+    let before = c.loop.records.items in
+    let is : c.push.new.self.items ≡ before ++ one ∷ [] =
+    c.in_ok-push.ensures.items
+    ∙ ap (λ (r : RecordData). before ++ r ∷ []) c.in_ok-record_of.ensures in
     record {
       found = rw is (records_more _ _ _ _ before one i.found c.in-Ok.ensures.found);
       counted = rw (is, length-append before (one ∷ [])) (omega (arith, i.counted));

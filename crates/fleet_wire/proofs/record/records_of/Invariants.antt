@@ -1,11 +1,11 @@
 use Rattle.std.proofs.Common.{◌≡◌, ◌-◌, length}
-use Rattle.fleet_wire.specs.Record.{RecordsAt, HasRecords, all_record_data}
+use Rattle.fleet_wire.specs.Record.{RecordsAt, HasRecords}
 use Rattle.fleet_wire.proofs.record.records_of.Given as goal
 
 -- the records so far, and those that still stand
 abbrev pub invariant-loop : goal.invariant-loop
 invariant-loop g l = record {
-  found : RecordsAt l.message l.offset (all_record_data l.records.items) l.at;
-  counted : length (all_record_data l.records.items) ≡ l.counter;
+  found : RecordsAt l.message l.offset l.records.items l.at;
+  counted : length l.records.items ≡ l.counter;
   rest : HasRecords l.message l.at (l.count - l.counter);
 }

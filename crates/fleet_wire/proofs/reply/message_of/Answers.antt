@@ -1,5 +1,4 @@
-use Rattle.std.proofs.Common.{refl, ap}
-use Rattle.fleet_wire.specs.Record.{all_record_data}
+use Rattle.std.proofs.Common.{refl}
 use Rattle.fleet_wire.proofs.Lawful.{cut_read, cut_reply, whole_read, whole_reply}
 use Rattle.fleet_wire.proofs.Records.{answer_stands, authority_stands}
 use Rattle.fleet_wire.proofs.reply.message_of.Goals as goal
@@ -7,15 +6,15 @@ use Rattle.fleet_wire.proofs.reply.message_of.Goals as goal
 pub of_parts-requires : goal.of_parts-requires
 of_parts-requires g c =
     let is = rw (← c.in_ok-question.ensures) at c.requires.query in
-    cut_read _ _ _ _ is c.if-header.true _ _ (ap all_record_data c.new-answer.ensures.items)
-    (ap all_record_data c.new-authority.ensures.items)
+    cut_read _ _ _ _ is c.if-header.true _ _ c.new-answer.ensures.items
+    c.new-authority.ensures.items
 
 pub returns-then-header : goal.returns-then-header
 returns-then-header g c =
     let is = rw (← c.in_ok-question.ensures) at c.requires.query in
     rw c.of_parts.ensures
-    (cut_reply _ _ _ _ is c.if-header.true _ _ (ap all_record_data c.new-answer.ensures.items)
-    (ap all_record_data c.new-authority.ensures.items))
+    (cut_reply _ _ _ _ is c.if-header.true _ _ c.new-answer.ensures.items
+    c.new-authority.ensures.items)
 
 pub records_of-requires-clause-stand : goal.records_of-requires-clause-stand
 records_of-requires-clause-stand g c =

@@ -1,7 +1,7 @@
 use Rattle.std.proofs.Common.{refl, []}
 use Rattle.std.proofs.lemmas.Result.{err_from_is_err_and}
 use Rattle.fleet_wire.specs.Question.{spelled_question_data}
-use Rattle.fleet_wire.specs.Message.{reply_with}
+use Rattle.fleet_wire.specs.Message.{message_data}
 use Rattle.fleet_wire.proofs.Lawful.{query_read, cut_reply, whole_reply}
 use Rattle.fleet_wire.proofs.Records.{answer_fails, authority_fails}
 use Rattle.fleet_wire.proofs.reply.reply_head.Goals as goal
@@ -9,7 +9,7 @@ use Rattle.fleet_wire.proofs.reply.reply_head.Goals as goal
 pub returns-then-header-clause-whole : goal.returns-then-header-clause-whole
 returns-then-header-clause-whole c =
     let is = query_read _ _ _ _ c.in_ok-header.ensures c.in_ok-question.ensures.found in (
-      reply_with c.in_ok-header.header (spelled_question_data c.in_ok-question.question) [] [],
+      message_data c.in_ok-header.header (spelled_question_data c.in_ok-question.question) [] [],
       cut_reply _ _ _ _ is c.if-header.true _ _ refl refl,
     )
 
@@ -33,6 +33,6 @@ pub returns-clause-whole : goal.returns-clause-whole
 returns-clause-whole c =
     let is = query_read _ _ _ _ c.in_ok-header.ensures c.in_ok-question.ensures.found in
     let a = c.in_ok-middle.ensures.found in let b = c.in_ok-records_end.ensures.found in (
-      reply_with c.in_ok-header.header (spelled_question_data c.in_ok-question.question) a.0 b.0,
+      message_data c.in_ok-header.header (spelled_question_data c.in_ok-question.question) a.0 b.0,
       whole_reply _ _ _ _ is c.if-header.false _ _ _ _ a.1 a.2 b.1 b.2,
     )

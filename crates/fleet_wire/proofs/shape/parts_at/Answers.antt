@@ -1,5 +1,6 @@
 use Rattle.std.proofs.Common.{◌≡◌, ◌+◌, ◌≤◌, ◌++◌, ◌∷◌, ◌∙◌, List, ℕ, length, take, drop, ap, arith, length-append}
 use Rattle.std.proofs.lemmas.List.{length-take-le, length-drop}
+use Rattle.fleet_name.specs.declared.bounds.TheConstants.{LONGEST_NAME}
 use Rattle.fleet_name.specs.Name.{wire}
 use Rattle.fleet_wire.specs.Shape.{room_of}
 use Rattle.fleet_wire.specs.declared.shape.Part.TheVariants.{Plain, Name}
@@ -53,7 +54,7 @@ loop-part-preserved c =
           let name = named.0 in let past = w.in_ok-at-in-Name.at in let read = named.1 in
           let wrote : c.match-part.octets.items ≡ l.octets.items ++ wire name =
           rw w.octets-is named.2 in
-          let size : length c.match-part.octets.items ≤ length l.octets.items + 255 =
+          let size : length c.match-part.octets.items ≤ length l.octets.items + LONGEST_NAME =
           rw w.octets-is w.append_name.ensures.room in
           record {
             within = rw w.at-is (reads_within _ _ _ _ read);

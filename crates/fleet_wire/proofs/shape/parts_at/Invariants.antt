@@ -1,4 +1,5 @@
 use Rattle.std.proofs.Common.{ℕ, ◌+◌, ◌≤◌, ◌++◌, List, length, drop}
+use Rattle.fleet_wire.specs.declared.shape.TheConstants.{LONGEST_RDATA}
 use Rattle.fleet_wire.specs.Shape.{room_of, PartsAt, PartsFail}
 use Rattle.fleet_wire.specs.declared.fault.ReadFault.{ReadFault}
 use Rattle.fleet_wire.proofs.shape.parts_at.Given as goal
@@ -7,7 +8,7 @@ use Rattle.fleet_wire.proofs.shape.parts_at.Given as goal
 abbrev pub invariant-loop-part : goal.invariant-loop-part
 invariant-loop-part l = record {
   within : l.at ≤ length l.message;
-  room : length l.octets.items + room_of (drop l.part-index l.parts) ≤ 530;
+  room : length l.octets.items + room_of (drop l.part-index l.parts) ≤ LONGEST_RDATA;
   found : (o : List ℕ) (e : ℕ) → PartsAt l.message (drop l.part-index l.parts) l.at o e
       → PartsAt l.message l.parts l.offset (l.octets.items ++ o) e;
   fails : (f : ReadFault) → PartsFail l.message (drop l.part-index l.parts) l.at f

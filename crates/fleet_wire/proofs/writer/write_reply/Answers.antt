@@ -1,5 +1,5 @@
 use Rattle.std.proofs.Common.{◌≡◌, ◌∙◌, ◌++◌, List, ℕ, true, ap, subst, arith}
-use Rattle.fleet_wire.specs.Question.{question_data_lent}
+use Rattle.fleet_wire.specs.Question.{question_if_any}
 use Rattle.fleet_wire.specs.Outline.{OutlineData, IsOutlineData, header_octets, octets_of_outline}
 use Rattle.fleet_wire.proofs.Written.{reads_back}
 use Rattle.fleet_wire.proofs.Outlines.{count_rows, written_short, written_cut}
@@ -8,9 +8,10 @@ use Rattle.fleet_wire.proofs.writer.write_reply.Goals as goal
 pub returns-in_default : goal.returns-in_default
 returns-in_default g c =
     let o = c.args.outline.now in let i = c.outline.inside in let v = c.outline.view_is in
-    let lawful : IsOutlineData o = subst (λ (x : OutlineData). IsOutlineData x) v c.outline.invariant in
+    let lawful = subst IsOutlineData v c.outline.invariant in
     let octets : c.push_question.new.out.items ≡ octets_of_outline o =
-    written_cut o (question_data_lent i.question) i.answer i.authority (ap (λ (x : OutlineData). x.question) v)
+    written_cut o (question_if_any i.question) i.answer i.authority
+    (ap (λ (x : OutlineData). x.question) v)
     (ap (λ (x : OutlineData). x.answer) v) (ap (λ (x : OutlineData). x.authority) v)
     c.push_header.new.out.items c.push_question.new.out.items c.in_default.ensures.size
     (c.in_ok-push_header.ensures
@@ -22,9 +23,10 @@ pub returns : goal.returns
 returns g c =
     let o = c.args.outline.now in let i = c.outline.inside in let v = c.outline.view_is in
     let fits = c.in-Some.ensures in
-    let lawful : IsOutlineData o = subst (λ (x : OutlineData). IsOutlineData x) v c.outline.invariant in
+    let lawful = subst IsOutlineData v c.outline.invariant in
     let octets : c.push_section-2.new.out.items ≡ octets_of_outline o =
-    written_short o (question_data_lent i.question) i.answer i.authority (ap (λ (x : OutlineData). x.question) v)
+    written_short o (question_if_any i.question) i.answer i.authority
+    (ap (λ (x : OutlineData). x.question) v)
     (ap (λ (x : OutlineData). x.answer) v) (ap (λ (x : OutlineData). x.authority) v)
     i.tc c.len-answers.result c.len-authorities.result c.push_header-2.new.out.items
     c.push_question-2.new.out.items c.push_section.new.out.items c.push_section-2.new.out.items

@@ -13,7 +13,7 @@ use Rattle.fleet_cache.proofs.cache.Cache.answer.Goals as goal
 pub returns-clause-kinds : goal.returns-clause-kinds
 returns-clause-kinds g c =
     let i = c.self.inside in
-    let q = c.args.question.now in
+    let q = c.question.inside in
     let items = items_of i.fronts.entries in
     let own : IsCached items 0 items = kept_whole items c.self.invariant.0 in
     kinds_told c.follow.result items c.later_of-at.result q.rtype q.name
@@ -23,13 +23,19 @@ returns-clause-kinds g c =
 pub returns-clause-told : goal.returns-clause-told
 returns-clause-told g c s cached =
     let i = c.self.inside in
-    let q = c.args.question.now in
+    let q = c.question.inside in
     let items = items_of i.fronts.entries in
     let at = c.later_of-at.result in
-    let held : IsCached s i.floor (without_hidden has_ended i.floor items) = subst (λ v. IsCached s v.floor v.items) (sym c.self.view_is) cached in
+    let held : IsCached s i.floor (without_hidden has_ended i.floor items) =
+    subst (λ v. IsCached s v.floor v.items) (sym c.self.view_is) cached in
     let same : i.floor ≡ c.args.self.now.floor = ap (λ (v : CacheData). v.floor) c.self.view_is in
-    let moment : at ≡ max c.args.self.now.floor c.args.moment = c.later_of-at.ensures ∙ ap (λ v. max v c.args.moment) same in
+    let moment : at ≡ max c.args.self.now.floor c.args.moment = c.later_of-at.ensures
+    ∙ ap (λ v. max v c.args.moment) same in
     let le : i.floor ≤ at = omega (arith, c.later_of-at.ensures) in
-    let alike : answer_of items at q.name q.rtype ≡ answer_of s at q.name q.rtype = sets_answer_alike items s (without_hidden has_ended i.floor items) i.floor at q.name q.rtype le (kept_cached items i.floor c.self.invariant.0) held in
-    subst (λ v. answer_data c.follow.result ≡ answer_of s v q.name q.rtype) moment
-    (c.follow.ensures.told q.name c.octets.ensures.octets items 0 (omega arith) (kept_whole items c.self.invariant.0) ∙ alike)
+    let alike : answer_of items at q.name q.rtype ≡ answer_of s at q.name q.rtype =
+    sets_answer_alike items s (without_hidden has_ended i.floor items) i.floor at q.name q.rtype le
+    (kept_cached items i.floor c.self.invariant.0) held in
+    rw (← c.question.view_is)
+    (subst (λ v. answer_data c.follow.result ≡ answer_of s v q.name q.rtype) moment
+    (c.follow.ensures.told q.name c.octets.ensures.octets items 0 (omega arith)
+    (kept_whole items c.self.invariant.0) ∙ alike))

@@ -9,32 +9,40 @@ loop-item-init g c = ([], sym c.items-items.ensures.items, refl, taken_none c.ar
 pub returns-then-is_err-clause-stopped : goal.returns-then-is_err-clause-stopped
 returns-then-is_err-clause-stopped g c s cached =
     let i = c.loop-item.invariant in
-    let same : c.take_copy.new.self ≡ c.loop-item.self = at_err c.take_copy.result c.if-is_err.ensures.value c.take_copy.ensures.err in
-    subst (λ v. IsCached (v ++ s) c.take_copy.new.self.floor c.take_copy.new.self.items) (sym (taken_is i.0 _ c.args.other.now.items c.loop-item.taken i.1 i.2))
+    let same : c.take_copy.new.self ≡ c.loop-item.self =
+    at_err c.take_copy.result c.if-is_err.ensures.value c.take_copy.ensures.err in
+    subst (λ v. IsCached (v ++ s) c.take_copy.new.self.floor c.take_copy.new.self.items)
+    (sym (taken_is i.0 _ c.args.other.now.items c.loop-item.taken i.1 i.2))
     (subst (λ v. IsCached (i.0 ++ s) v.floor v.items) (sym same) (i.3.cached s cached))
 
 pub returns-then-is_err-clause-within : goal.returns-then-is_err-clause-within
 returns-then-is_err-clause-within g c =
     let i = c.loop-item.invariant in
-    taken_within i.0 _ c.args.other.now.items c.in-Some.item.now c.loop-item.taken (i.1 ∙ ap (λ v. i.0 ++ v) c.in-Some.ensures.steps) i.2
+    taken_within i.0 _ c.args.other.now.items c.in-Some.item.now c.loop-item.taken
+    (i.1 ∙ ap (λ v. i.0 ++ v) c.in-Some.ensures.steps) i.2
 
 pub returns-then-is_err-clause-memory : goal.returns-then-is_err-clause-memory
 returns-then-is_err-clause-memory g c =
     let i = c.loop-item.invariant in
     let o = c.in-Some.item.now in
-    let same : c.take_copy.new.self ≡ c.loop-item.self = at_err c.take_copy.result c.if-is_err.ensures.value c.take_copy.ensures.err in (
+    let same : c.take_copy.new.self ≡ c.loop-item.self =
+    at_err c.take_copy.result c.if-is_err.ensures.value c.take_copy.ensures.err in (
       o,
-      seam_at i.0 _ c.args.other.now.items o c.loop-item.taken (i.1 ∙ ap (λ v. i.0 ++ v) c.in-Some.ensures.steps) i.2,
-      subst (λ (v : CacheData). ¬ IsNeedless v.floor v.items o) (sym same) (at_err c.take_copy.result c.if-is_err.ensures.value c.take_copy.ensures.memory),
+      seam_at i.0 _ c.args.other.now.items o c.loop-item.taken
+          (i.1 ∙ ap (λ v. i.0 ++ v) c.in-Some.ensures.steps) i.2,
+      subst (λ (v : CacheData). ¬ IsNeedless v.floor v.items o) (sym same)
+          (at_err c.take_copy.result c.if-is_err.ensures.value c.take_copy.ensures.memory),
     )
 
 pub returns-then-is_err-clause-floor_stopped : goal.returns-then-is_err-clause-floor_stopped
-returns-then-is_err-clause-floor_stopped g c = c.take_copy.ensures.floor ∙ c.loop-item.invariant.3.floor
+returns-then-is_err-clause-floor_stopped g c = c.take_copy.ensures.floor
+    ∙ c.loop-item.invariant.3.floor
 
 pub overflow_add-taken : goal.overflow_add-taken
 overflow_add-taken g c =
     let i = c.loop-item.invariant in
-    let less = taken_within i.0 _ c.args.other.now.items c.in-Some.item.now c.loop-item.taken (i.1 ∙ ap (λ v. i.0 ++ v) c.in-Some.ensures.steps) i.2 in
+    let less = taken_within i.0 _ c.args.other.now.items c.in-Some.item.now c.loop-item.taken
+    (i.1 ∙ ap (λ v. i.0 ++ v) c.in-Some.ensures.steps) i.2 in
     omega (arith, less, c.items-items.ensures.countable)
 
 pub loop-item-preserved : goal.loop-item-preserved
@@ -44,19 +52,28 @@ loop-item-preserved g c =
       i.0 ++ o ∷ [],
       i.1 ∙ (ap (λ v. i.0 ++ v) c.in-Some.ensures.steps ∙ sym (append_assoc i.0 (o ∷ []) _)),
       omega (arith, i.2, length-append i.0 (o ∷ [])),
-      taken_more c.args.self.now c.loop-item.self c.take_copy.new.self i.0 o i.3 (λ s cached. at_ok c.take_copy.result c.if-is_err.ensures.negation (c.take_copy.ensures.taken s cached)) c.take_copy.ensures.floor,
+      taken_more c.args.self.now c.loop-item.self c.take_copy.new.self i.0 o i.3
+          (λ s cached. at_ok c.take_copy.result c.if-is_err.ensures.negation
+          (c.take_copy.ensures.taken s cached)) c.take_copy.ensures.floor,
     )
 
 pub returns-clause-both : goal.returns-clause-both
 returns-clause-both g c s u cached from =
     let i = c.loop-item.invariant in
     let other = c.args.other.now in
-    let all : other.items ≡ i.0 = i.1 ∙ (ap (λ v. i.0 ++ v) c.in_default.ensures.steps.0 ∙ append-nil i.0) in
+    let all : other.items ≡ i.0 = i.1 ∙ (ap (λ v. i.0 ++ v) c.in_default.ensures.steps.0
+    ∙ append-nil i.0) in
     let floor = c.purge.ensures.floor in
-    let same : c.other.inside.floor ≡ other.floor = ap (λ (v : CacheData). v.floor) c.other.view_is in
-    cached_both s u other.items c.purge.new.self.items c.purge.new.self.floor other.floor (omega (arith, floor, same)) from (subst (λ v. IsCached (v ++ s) c.purge.new.self.floor c.purge.new.self.items) (sym all) (c.purge.ensures.purged (i.0 ++ s) (i.3.cached s cached)))
+    let same : c.other.inside.floor ≡ other.floor = ap (λ (v : CacheData). v.floor) c.other.view_is
+    in
+    cached_both s u other.items c.purge.new.self.items c.purge.new.self.floor other.floor
+    (omega (arith, floor, same)) from (subst
+    (λ v. IsCached (v ++ s) c.purge.new.self.floor c.purge.new.self.items) (sym all)
+    (c.purge.ensures.purged (i.0 ++ s) (i.3.cached s cached)))
 
 pub returns-clause-floor : goal.returns-clause-floor
 returns-clause-floor g c =
-    let same : c.other.inside.floor ≡ c.args.other.now.floor = ap (λ (v : CacheData). v.floor) c.other.view_is in
-    c.purge.ensures.floor ∙ (ap (λ v. max v c.other.inside.floor) c.loop-item.invariant.3.floor ∙ ap (max c.args.self.now.floor) same)
+    let same : c.other.inside.floor ≡ c.args.other.now.floor =
+    ap (λ (v : CacheData). v.floor) c.other.view_is in
+    c.purge.ensures.floor ∙ (ap (λ v. max v c.other.inside.floor) c.loop-item.invariant.3.floor
+    ∙ ap (max c.args.self.now.floor) same)

@@ -16,7 +16,8 @@ pub returns-then-expires-value-clause-needless : goal.returns-then-expires-value
 returns-then-expires-value-clause-needless g c =
     let i = c.self.inside in
     let o = c.args.observation.now in
-    let live : has_ended i.floor o ≡ false = grind (arith, nat_tests, c.expires.ensures.value, c.value.ensures.value, c.if-expires-value.true) in
+    let live : has_ended i.floor o ≡ false = grind
+    (arith, nat_tests, c.expires.ensures.value, c.value.ensures.value, c.if-expires-value.true) in
     let there = needless_shown (items_of i.fronts.entries) i.floor o live in
     let test = turned c.covers.result c.covers.ensures in (
       (λ e. subst (λ v. IsNeedless v.floor v.items o) c.self.view_is (there.0 (test.0 e))),

@@ -5,7 +5,8 @@ use Rattle.fleet_name.specs.Name.{Spells, IsSpelling, labels_of, lower_all, lowe
 use Rattle.fleet_name.proofs.Spelling.{written_back, lowered_spells, labels_of-Spells}
 use Rattle.fleet_name.proofs.name.Name.from_spelled.Goals as goal
 
-lowered_spelling : (n count : ℕ) (old new now : List ℕ) → n ≡ length old → now ≡ old → new ≡ lower now
+lowered_spelling : (n count : ℕ) (old new now : List ℕ) → n ≡ length old → now ≡ old
+    → new ≡ lower now
     → IsSpelling old → count ≡ length (labels_of old)
     → Spells (take n (new ++ drop (length new) old)) count (lower_all (labels_of old))
 lowered_spelling n count old new now same is wrote spelled counted =

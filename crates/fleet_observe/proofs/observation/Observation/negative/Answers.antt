@@ -6,12 +6,19 @@ use Rattle.fleet_observe.proofs.observation.Observation.negative.Goals as goal
 
 pub invariant_of-result : goal.invariant_of-result
 invariant_of-result g c =
-    let denial : IsDenial c.args.name c.args.soa.owner c.as_slice.result.now = c.is_denial.ensures.0 c.if-not-is_denial.false in
-    let body : IsDenial c.args.name c.args.soa.owner c.args.soa.rdata = subst (IsDenial c.args.name c.args.soa.owner) c.as_slice.ensures denial in
-    let made : MakesNegative c.args.name c.args.rtype c.args.rank c.args.life c.args.soa.owner c.args.soa.rdata = record {
-      ranked = c.is_negative_rank.ensures.0 c.if-not-is_negative_rank.false;
+    let denial : IsDenial c.args.name c.soa.inside.owner c.as_slice.result.now =
+    c.is_denial.ensures.0 c.if-not-is_denial.false in
+    let body : IsDenial c.args.name c.soa.inside.owner c.soa.inside.rdata =
+    subst (IsDenial c.args.name c.soa.inside.owner) c.as_slice.ensures denial in
+    let made : MakesNegative c.args.name c.args.rtype c.args.rank c.args.life c.soa.inside.owner
+    c.soa.inside.rdata = record {
+      ranked = c.is_denial_rank.ensures.0 c.if-not-is_denial_rank.false;
       lasts = c.is_life.ensures.0 c.if-not-is_life.false;
       typed = c.is_denied_type.ensures.0 c.if-not-is_denied_type.false;
       body = body;
-    } in
-    (rw (c.kind_of_denial.ensures, c.unwrap_or.ensures) (negative_lawful c.args.name c.args.rtype c.args.rank c.args.stamp c.args.life c.args.soa.owner c.args.soa.rdata c.octets.ensures.named (omega arith) made), (rw c.kind_of_denial.ensures (denied_negative c.args.rtype), body))
+    } in (
+      rw (c.kind_of_denial.ensures, c.unwrap_or.ensures) (negative_lawful c.args.name c.args.rtype
+          c.args.rank c.args.stamp c.args.life c.soa.inside.owner c.soa.inside.rdata
+          c.octets.ensures.named (omega arith) made),
+      (rw c.kind_of_denial.ensures (denied_negative c.args.rtype), body),
+    )

@@ -20,8 +20,8 @@ returns-clause-is_open g c =
     let k = read_at ids c.as_slice.ensures.value c.in_ok-i.ensures c.remove.ensures.value in
     c.self.invariant.open_ones c.in_ok-i.i _ k.there
 
-pub returns-clause-outstanding : goal.returns-clause-outstanding
-returns-clause-outstanding g c =
+pub returns-clause-lawful : goal.returns-clause-lawful
+returns-clause-lawful g c =
     let ids = UsesId c.args.id in
     let k = read_at ids c.as_slice.ensures.value c.in_ok-i.ensures c.remove.ensures.value in
     removal_keeps _ c.args.id c.in_ok-i.i _ _ _ c.self.invariant k c.remove.ensures.items

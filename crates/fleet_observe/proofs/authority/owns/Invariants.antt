@@ -1,8 +1,0 @@
-use Rattle.std.proofs.Common.{take}
-use Rattle.fleet_observe.specs.Members.{Has}
-use Rattle.fleet_observe.specs.RrSet.{all_rrset_data}
-use Rattle.fleet_observe.specs.Meaning.{owners_of}
-use Rattle.fleet_observe.proofs.authority.owns.Given as goal
-
-abbrev pub invariant-loop-set : goal.invariant-loop-set
-invariant-loop-set g l = ¬ Has (owners_of (all_rrset_data (take l.set-index l.sets))) l.owner

@@ -1,7 +1,0 @@
-use Rattle.std.proofs.Common.{◌≡◌, ◌++◌, take}
-use Rattle.fleet_observe.specs.RrSet.{all_rrset_data}
-use Rattle.fleet_observe.specs.Observed.{link_observations}
-use Rattle.fleet_observe.proofs.observed.put_links.Given as goal
-
-abbrev pub invariant-loop-link : goal.invariant-loop-link
-invariant-loop-link g l = l.out.items ≡ l.fn.out.items ++ link_observations l.digest.aa l.digest.name l.stamp (all_rrset_data (take l.link-index l.link-items))

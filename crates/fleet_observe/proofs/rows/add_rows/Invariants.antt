@@ -1,7 +1,0 @@
-use Rattle.std.proofs.Common.{◌≡◌, take, map}
-use Rattle.fleet_wire.specs.Outline.{line}
-use Rattle.fleet_observe.specs.Relayed.{with_answer_lines}
-use Rattle.fleet_observe.proofs.rows.add_rows.Given as goal
-
-abbrev pub invariant-loop-rdata : goal.invariant-loop-rdata
-invariant-loop-rdata g l = l.outline ≡ with_answer_lines l.fn.outline (map (line l.rows.name.now l.rows.rtype l.rows.ttl) (take l.rdata-index l.rdata-items))

@@ -1,9 +1,0 @@
-use Rattle.std.proofs.Common.{take, MatchOption}
-use Rattle.fleet_name.specs.Name.{labels_of}
-use Rattle.fleet_wire.specs.Record.{all_record_data, record_data}
-use Rattle.fleet_observe.specs.RrSet.{IsEmpty}
-use Rattle.fleet_observe.proofs.Sections.{IsOne}
-use Rattle.fleet_observe.proofs.walk.look.Given as goal
-
-abbrev pub invariant-loop-record : goal.invariant-loop-record
-invariant-loop-record g l = MatchOption l.first (IsEmpty (all_record_data (take l.record-index l.section)) (labels_of l.name) l.rtype) (λ r. IsOne (all_record_data (take l.record-index l.section)) (labels_of l.name) l.rtype (record_data r.now))

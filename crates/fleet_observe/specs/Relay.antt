@@ -1,0 +1,80 @@
+-- What a waiting client is told of a reply.
+use Rattle.std.specs.Prelude.{◌≡◌, ℕ, ◌<◌, length, take, Bool, true, false, List, [], ◌∷◌, ◌++◌, map, Option, Some, None}
+use Rattle.std.specs.List.{flat_map}
+use Rattle.fleet_wire.specs.Question.{QuestionData}
+use Rattle.fleet_wire.specs.Record.{RecordData}
+use Rattle.fleet_wire.specs.Outline.{OutlineData, line}
+use Rattle.fleet_wire.specs.declared.rcode.TheConstants.{NAME_ERROR, NO_ERROR}
+use Rattle.fleet_wire.specs.declared.rtype.TheConstants.{SOA}
+use Rattle.fleet_observe.specs.RrSet.{RrSetData}
+use Rattle.fleet_observe.specs.Soa.{SoaData}
+use Rattle.fleet_observe.specs.Digest.{EndData, WithRecords, WithoutData, WithoutName, WithCode, CutOff, DigestData}
+
+-- NAME_ERROR for a name error, a reply's own code where it is another, else NO_ERROR
+abbrev pub code_of : EndData → ℕ
+code_of (WithRecords x) = NO_ERROR
+code_of (WithoutData soa) = NO_ERROR
+code_of (WithoutName soa) = NAME_ERROR
+code_of (WithCode c) = c
+code_of CutOff = NO_ERROR
+
+abbrev pub is_cut : EndData → Bool
+is_cut (WithRecords x) = false
+is_cut (WithoutData soa) = false
+is_cut (WithoutName soa) = false
+is_cut (WithCode c) = false
+is_cut CutOff = true
+
+-- an RRset's records, their RDATA ascending
+abbrev pub set_lines : RrSetData → List RecordData
+set_lines x = map (line x.name x.rtype x.ttl) x.rdatas
+
+abbrev pub chain_lines : List RrSetData → List RecordData
+chain_lines chain = flat_map set_lines chain
+
+abbrev pub answer_lines : EndData → List RecordData
+answer_lines (WithRecords x) = set_lines x
+answer_lines (WithoutData soa) = []
+answer_lines (WithoutName soa) = []
+answer_lines (WithCode c) = []
+answer_lines CutOff = []
+
+abbrev pub soa_lines : Option SoaData → List RecordData
+soa_lines None = []
+soa_lines (Some x) = line x.owner SOA x.ttl x.rdata ∷ []
+
+abbrev pub authority_lines : EndData → List RecordData
+authority_lines (WithRecords x) = []
+authority_lines (WithoutData soa) = soa_lines soa
+authority_lines (WithoutName soa) = soa_lines soa
+authority_lines (WithCode c) = []
+authority_lines CutOff = []
+
+-- the chain, and then the records, or the SOA in the authority section
+abbrev pub relay_outline : DigestData → QuestionData → ℕ → Bool → OutlineData
+relay_outline d q id rd = record {
+  id = id;
+  opcode = 0;
+  rd = rd;
+  rcode = code_of d.end;
+  tc = is_cut d.end;
+  question = Some q;
+  answer = chain_lines d.chain ++ answer_lines d.end;
+  authority = authority_lines d.end;
+}
+
+-- more records at the end of a section
+abbrev pub with_answer_lines : OutlineData → List RecordData → OutlineData
+with_answer_lines o rs = record o { answer = o.answer ++ rs }
+
+-- at the end of the answer section stand the first so many of these records, not all of them, and
+-- all else is as it was
+abbrev pub HasFirstOf : OutlineData → List RecordData → OutlineData → Type 0
+HasFirstOf old rs new = (n : ℕ) × (n < length rs) × (new ≡ with_answer_lines old (take n rs))
+
+abbrev pub with_authority_lines : OutlineData → List RecordData → OutlineData
+with_authority_lines o rs = record o { authority = o.authority ++ rs }
+
+abbrev pub with_end : OutlineData → EndData → OutlineData
+with_end o e =
+    record o { answer = o.answer ++ answer_lines e; authority = o.authority ++ authority_lines e }

@@ -1,0 +1,62 @@
+//! Records that replies are made of, lent by what holds them.
+
+ghost use Rattle.std.specs.Prelude.{◌≡◌, OnOk, OnErr};
+ghost use Rattle.fleet_wire.specs.Outline.{line, with_authority};
+ghost use Rattle.fleet_wire.specs.declared.rtype.TheConstants.{SOA};
+ghost use Rattle.fleet_observe.specs.RrSet.{rrset_of_rows};
+ghost use Rattle.fleet_observe.specs.Relay.{set_lines, with_answer_lines, HasFirstOf};
+
+use fleet_name::{Name, Octets};
+use fleet_wire::Outline;
+use fleet_wire::rtype::SOA;
+use std::alloc::{AllocError, Allocator, Global};
+
+/// Records of the class IN of one owner and type, lent by an RRset or an observation.
+#[derive(Clone, Copy)]
+pub struct Rows<'a, A: Allocator = Global> {
+    /// The owner of the records.
+    pub name: &'a Name<A>,
+    /// The type of the records.
+    pub rtype: u16,
+    /// The TTL that a reply tells of them, in seconds.
+    pub ttl: u32,
+    /// Their RDATAs, with every name in full.
+    pub rdatas: &'a [Octets<A>],
+}
+
+/// Adds records at the end of the answer section of a reply, in the order of their RDATAs: a link
+/// of a chain, or the records that it leads to. Where there is no memory for all of them, so many of
+/// the first ones have been added, and nothing else is changed.
+pub fn add_rows<'a, A: Allocator + Copy>(
+    outline: &mut Outline<'a, A>,
+    rows: Rows<'a, A>,
+) -> Result<(), AllocError>
+    ensures ok { OnOk result (outline.new
+        ≡ with_answer_lines outline.old (set_lines (rrset_of_rows rows.entry))) }
+    ensures err { OnErr result (HasFirstOf outline.old (set_lines (rrset_of_rows rows.entry))
+        outline.new) }
+{
+    for rdata in rows.rdatas {
+        match outline.answer(rows.name, rows.rtype, rows.ttl, rdata.as_slice()) {
+            Ok(()) => (),
+            Err(error) => return Err(error),
+        }
+    }
+    Ok(())
+}
+
+/// Adds an SOA record at the end of the authority section of a reply: its owner, its TTL in seconds
+/// and its RDATA, with every name in full (RFC 2308 3). Where there is no memory for it, the
+/// outline stays as it was.
+pub fn add_soa<'a, A: Allocator + Copy>(
+    outline: &mut Outline<'a, A>,
+    owner: &'a Name<A>,
+    ttl: u32,
+    rdata: &'a [u8],
+) -> Result<(), AllocError>
+    ensures ok { OnOk result (outline.new
+        ≡ with_authority outline.old (line owner.entry.now SOA ttl rdata.entry.now)) }
+    ensures err { OnErr result (outline.new ≡ outline.old) }
+{
+    outline.authority(owner, SOA, ttl, rdata)
+}

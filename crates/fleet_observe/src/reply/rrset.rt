@@ -1,0 +1,167 @@
+//! RRsets (RFC 2181 5).
+
+ghost use Rattle.std.specs.Prelude.{◌≡◌, ℕ, ◌≤◌, ◌⊎◌, ◌↔◌, List, length, IfOk, OnOk, IsTrue};
+ghost use Rattle.fleet_name.specs.Name.{labels_of};
+ghost use Rattle.fleet_observe.specs.Members.{Has, IsAscending};
+ghost use Rattle.fleet_observe.specs.RrSet.{SpellsName, Belongs, InSet, IsTtl, IsRrSet, read_ttl, rrset_of_rows, count_below};
+
+use crate::bounds::LONGEST_LIFE;
+use crate::observation::values::is_data_type;
+use crate::reply::rdatas::Rdatas;
+use crate::reply::rows::Rows;
+use fleet_name::{Name, Octets};
+use fleet_wire::Record;
+use fleet_wire::class::IN;
+use std::alloc::{AllocError, Allocator, Global};
+use std::marker::Model;
+
+/// An RRset of the class IN: the records of one owner and type, equal ones suppressed (RFC 2181 5).
+#[derive(Drop)]
+pub struct RrSet<A: Allocator = Global> {
+    /// The owner of the records.
+    pub name: Name<A>,
+    /// The type of the records.
+    pub rtype: u16,
+    /// The least of their TTLs, in seconds, at most `LONGEST_LIFE` (RFC 2181 5.2, 8).
+    pub ttl: u32,
+    /// Their RDATAs, ascending as octets, each once.
+    pub rdatas: Rdatas<A>,
+}
+
+impl<A: Allocator> Model for RrSet<A> {
+    ghost use Rattle.fleet_observe.specs.RrSet.{RrSetData};
+
+    ghost Value = { RrSetData };
+
+    ghost view = { λ x. record {
+      name = x.name;
+      rtype = x.rtype;
+      ttl = x.ttl;
+      rdatas = x.rdatas;
+    } };
+}
+
+impl<A: Allocator> RrSet<A> {
+    /// Its records, as they are told in a reply.
+    pub fn rows(&self) -> Rows<A>
+        ensures { rrset_of_rows result ≡ self.now }
+    {
+        Rows {
+            name: &self.name,
+            rtype: self.rtype,
+            ttl: self.ttl,
+            rdatas: self.rdatas.as_slice(),
+        }
+    }
+}
+
+/// Whether the record is of the RRset at this name, in full, and type.
+pub(crate) fn belongs<A: Allocator>(candidate: &Record<A>, name: &[u8], rtype: u16) -> bool
+    requires { SpellsName name.now }
+    ensures { IsTrue result ↔ Belongs (labels_of name.now) rtype candidate.now }
+{
+    if candidate.class != IN {
+        return false;
+    }
+    if candidate.rtype != rtype {
+        return false;
+    }
+    if !is_data_type(rtype) {
+        return false;
+    }
+    candidate.name.octets() == name
+}
+
+/// A TTL as it is read: zero with its top bit set (RFC 2181 8), and at most `LONGEST_LIFE`.
+pub(crate) fn bounded_ttl(ttl: u32) -> u32
+    ensures { result ≡ read_ttl ttl }
+{
+    if ttl >= 0x8000_0000 {
+        0
+    } else {
+        ttl.min(LONGEST_LIFE)
+    }
+}
+
+/// The least TTL of an RRset.
+fn least_ttl<A: Allocator>(section: &[Record<A>], name: &[u8], rtype: u16) -> u32
+    requires spelled { SpellsName name.now }
+    requires some { (d : List ℕ) × InSet section.now (labels_of name.now) rtype d }
+    ensures { IsTtl section.now (labels_of name.now) rtype result }
+{
+    let mut least = LONGEST_LIFE;
+    for record in section {
+        if belongs(record, name, rtype) {
+            least = bounded_ttl(record.ttl).min(least);
+        }
+    }
+    least
+}
+
+/// Whether these octets are among the RDATAs.
+fn holds<A: Allocator>(rdatas: &[Octets<A>], rdata: &[u8]) -> bool
+    ensures { IsTrue result ↔ Has rdatas.now rdata.now }
+{
+    for held in rdatas {
+        if held.as_slice() == rdata {
+            return true;
+        }
+    }
+    false
+}
+
+/// How many RDATAs at the front are less.
+fn place<A: Allocator>(rdatas: &[Octets<A>], rdata: &[u8]) -> usize
+    ensures count { result ≡ count_below rdata.now rdatas.now }
+    ensures within { result ≤ length rdatas.now }
+{
+    let mut at = 0;
+    while at < rdatas.len() && rdatas[at].as_slice().cmp(rdata).is_lt() {
+        at += 1;
+    }
+    at
+}
+
+/// Adds an RDATA at its place, if it is not there.
+fn add<A: Allocator + Copy>(
+    alloc: A,
+    rdatas: &mut Vec<Octets<A>, A>,
+    rdata: &[u8],
+) -> Result<(), AllocError>
+    requires { IsAscending rdatas.old.items }
+    ensures ascending { OnOk result (IsAscending rdatas.new.items) }
+    ensures members { OnOk result ((d : List ℕ)
+        → Has rdatas.new.items d ↔ (Has rdatas.old.items d ⊎ (rdata.now ≡ d))) }
+{
+    if holds(rdatas, rdata) {
+        return Ok(());
+    }
+    let at = place(rdatas, rdata);
+    rdatas.insert(at, Octets::copy_of(alloc, rdata)?)?;
+    Ok(())
+}
+
+/// The RRset at this name and type, where there is one.
+pub(crate) fn gather<A: Allocator + Copy>(
+    alloc: A,
+    section: &[Record<A>],
+    owner: &Name<A>,
+    rtype: u16,
+) -> Result<RrSet<A>, AllocError>
+    requires { (d : List ℕ) × InSet section.now owner.now rtype d }
+    ensures { IfOk result (λ x. IsRrSet section.now owner.now rtype x) }
+{
+    let name = owner.octets();
+    let mut rdatas = Vec::new(alloc);
+    for record in section {
+        if belongs(record, name, rtype) {
+            add(alloc, &mut rdatas, record.rdata.as_slice())?;
+        }
+    }
+    Ok(RrSet {
+        name: owner.try_clone()?,
+        rtype,
+        ttl: least_ttl(section, name, rtype),
+        rdatas: Rdatas::new(rdatas),
+    })
+}

@@ -1,0 +1,118 @@
+//! The walk along aliases (RFC 1034 3.6.2).
+
+ghost use Rattle.std.specs.Prelude.{◌≡◌, ℕ, ◌≤◌, ◌⊎◌, ◌↔◌, List, IsTrue, MatchOption};
+ghost use Rattle.fleet_name.specs.Name.{labels_of};
+ghost use Rattle.fleet_observe.specs.RrSet.{SpellsName};
+ghost use Rattle.fleet_observe.specs.Walk.{ArePlainRecords, IsFound, IsStep, HasWalk, Ends, EndsFound, EndsBare, IsOf};
+
+use crate::bounds::MOST_LINKS;
+use crate::reply::rrset::belongs;
+use fleet_wire::Record;
+use fleet_wire::rtype::CNAME;
+use std::alloc::Allocator;
+
+/// What an RRset has: its first record, where there is one.
+#[derive(Drop)]
+pub(crate) enum Found<'a, A: Allocator> {
+    Nothing,
+    One(&'a Record<A>),
+    Several(&'a Record<A>),
+}
+
+/// What the walk does at a name: with a record of the RRset that decides it.
+#[derive(Drop)]
+pub(crate) enum Step<'a, A: Allocator> {
+    Records(&'a Record<A>),
+    Alias(&'a Record<A>),
+    Bare,
+    Fork,
+}
+
+/// Whether the RRset at this name and type has none, one or several RDATAs.
+fn find_rrset<'a, A: Allocator>(section: &'a [Record<A>], name: &[u8], rtype: u16) -> Found<'a, A>
+    requires { SpellsName name.now }
+    ensures { IsFound section.now (labels_of name.now) rtype result }
+{
+    let mut first: Option<&'a Record<A>> = None;
+    for record in section {
+        if belongs(record, name, rtype) {
+            match first {
+                None => first = Some(record),
+                Some(held) => {
+                    if held.rdata.as_slice() != record.rdata.as_slice() {
+                        return Found::Several(held);
+                    }
+                }
+            }
+        }
+    }
+    match first {
+        None => Found::Nothing,
+        Some(held) => Found::One(held),
+    }
+}
+
+/// What the walk does at this name, in full.
+pub(crate) fn step_at<'a, A: Allocator>(
+    answer: &'a [Record<A>],
+    name: &[u8],
+    rtype: u16,
+) -> Step<'a, A>
+    requires spelled { SpellsName name.now }
+    requires plain { ArePlainRecords answer.now }
+    ensures { IsStep answer.now rtype (labels_of name.now) result }
+{
+    match find_rrset(answer, name, rtype) {
+        Found::One(record) => Step::Records(record),
+        Found::Several(record) => {
+            if rtype == CNAME {
+                Step::Fork
+            } else {
+                Step::Records(record)
+            }
+        }
+        Found::Nothing => match find_rrset(answer, name, CNAME) {
+            Found::Nothing => Step::Bare,
+            Found::One(alias) => Step::Alias(alias),
+            Found::Several(_) => Step::Fork,
+        },
+    }
+}
+
+/// Whether there is a walk from this name, in full.
+pub(crate) fn has_walk<A: Allocator>(answer: &[Record<A>], name: &[u8], rtype: u16) -> bool
+    requires spelled { SpellsName name.now }
+    requires plain { ArePlainRecords answer.now }
+    ensures { IsTrue result ↔ HasWalk answer.now rtype (labels_of name.now) }
+{
+    let mut at = name;
+    for _ in 0..MOST_LINKS + 1 {
+        match step_at(answer, at, rtype) {
+            Step::Alias(alias) => at = alias.rdata.as_slice(),
+            Step::Records(_) => return true,
+            Step::Bare => return true,
+            Step::Fork => return false,
+        }
+    }
+    false
+}
+
+/// A record of those that the walk found where it ended, if any.
+pub(crate) fn found_at<'a, A: Allocator>(
+    answer: &'a [Record<A>],
+    name: &[u8],
+    rtype: u16,
+) -> Option<&'a Record<A>>
+    requires spelled { SpellsName name.now }
+    requires plain { ArePlainRecords answer.now }
+    requires ends { Ends answer.now rtype (labels_of name.now) }
+    ensures { MatchOption result (EndsBare answer.now rtype (labels_of name.now))
+        (λ r. IsOf answer.now (labels_of name.now) rtype r.now) }
+{
+    match step_at(answer, name, rtype) {
+        Step::Records(record) => Some(record),
+        Step::Bare => None,
+        Step::Alias(_) => None,
+        Step::Fork => None,
+    }
+}
