@@ -3,9 +3,8 @@ use Rattle.std.proofs.Common.{◌≡◌, ℕ, zero, suc, ◌+◌, ◌<◌, ◌�
 use Rattle.std.proofs.lemmas.Option.{same_Some}
 use Rattle.fleet_pending.specs.declared.waiter.Addr.{Addr}
 use Rattle.fleet_name.specs.Places.{At, NoTwo}
-use Rattle.fleet_site.specs.Config.{ConfigFails}
+use Rattle.fleet_site.specs.Config.{ConfigFails, no_upstream, many_upstreams, many_peers, same_address}
 use Rattle.fleet_site.specs.declared.config.ConfigFault.{ConfigFault}
-use Rattle.fleet_site.specs.declared.config.ConfigFault.TheVariants.{NoUpstream, TooManyUpstreams, TooManyPeers, SameAddress}
 use Rattle.dnsfleet.specs.declared.fleet.TheConstants.{FIRST_UPSTREAM_PORT, FIRST_SITE_PORT}
 use Rattle.dnsfleet.specs.declared.words.TheConstants.{MOST_SITES}
 use Rattle.dnsfleet.specs.Settings.{upstreams, site_address, peers_of}
@@ -85,14 +84,17 @@ length_peers site (suc n) =
 -- they make a configuration
 none_fails : (site count : ℕ) → count ≤ MOST_SITES → (f : ConfigFault)
     → ConfigFails upstreams (peers_of site count) f → ⊥
-none_fails site count few NoUpstream h = let bad : 2 ≡ 0 = h in omega (arith, bad)
-none_fails site count few TooManyUpstreams h = let bad : 4 < 2 = h in omega (arith, bad)
-none_fails site count few TooManyPeers h =
+none_fails site count few f (no_upstream none told) =
+    let bad : 2 ≡ 0 = none in
+    omega (arith, bad)
+none_fails site count few f (many_upstreams many told) =
+    let bad : 4 < 2 = many in
+    omega (arith, bad)
+none_fails site count few f (many_peers some many told) =
     let long = length_peers site count in
-    let bad = h.1 in
-    omega (arith, long, bad, few)
-none_fails site count few SameAddress h =
-    h.1 (ascend_apart FIRST_UPSTREAM_PORT (FIRST_SITE_PORT + count)
+    omega (arith, long, many, few)
+none_fails site count few f (same_address few_peers twice told) =
+    twice (ascend_apart FIRST_UPSTREAM_PORT (FIRST_SITE_PORT + count)
     (upstreams ++ peers_of site count)
     (addresses_ascend site count))
 

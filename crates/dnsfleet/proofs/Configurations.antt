@@ -12,7 +12,7 @@ use Rattle.toml.specs.declared.value.Value.{Value}
 use Rattle.toml.proofs.Views.{Entry, items_view-drop, table_get}
 use Rattle.fleet_pending.specs.declared.waiter.Addr.{Addr}
 use Rattle.fleet_site.specs.ConfigData.{ConfigData}
-use Rattle.dnsfleet.specs.Configuration.{Reading, ReadsText, ReadsAddress, ReadsTexts, ReadsListen, ReadsUpstreams, ReadsPeers, ReadsSweep, Says, SpellAddresses, AreTexts, listen_in, upstreams_in, peers_in, sweep_in}
+use Rattle.dnsfleet.specs.Configuration.{Reading, ReadsText, ReadsAddress, ReadsTexts, ReadsListen, ReadsUpstreams, ReadsPeers, ReadsSweep, TableSays, SpellAddresses, AreTexts, listen_in, upstreams_in, peers_in, sweep_in}
 use Rattle.dnsfleet.specs.declared.settings.SettingsFault.{SettingsFault}
 use Rattle.dnsfleet.specs.declared.settings.SettingsFault.TheVariants.{BadAddress}
 
@@ -129,6 +129,7 @@ sweep_at es reading r found h = at_key (λ v. ReadsSweep v reading) (codes "swee
 -- the addresses of what is said are those of the setting that was made of them
 pub says_of : (table : Members) (listen : Addr) (upstreams peers : List Addr) (sweep : ℕ)
     (s : ConfigData) → s ≡ record { upstreams = upstreams; peers = peers }
-    → Says table listen upstreams peers sweep → Says table listen s.upstreams s.peers sweep
+    → TableSays table listen upstreams peers sweep
+    → TableSays table listen s.upstreams s.peers sweep
 says_of table listen upstreams peers sweep s e h =
-    subst (λ (x : ConfigData). Says table listen x.upstreams x.peers sweep) (sym e) h
+    subst (λ (x : ConfigData). TableSays table listen x.upstreams x.peers sweep) (sym e) h

@@ -121,7 +121,7 @@ abbrev pub sweep_in : Members → Option Data
 sweep_in table = get_member (codes "sweep") table
 
 -- what they say
-pub record Says (table : Members) (listen : Addr) (upstreams peers : List Addr) (sweep : ℕ)
+pub record TableSays (table : Members) (listen : Addr) (upstreams peers : List Addr) (sweep : ℕ)
     : Type 0 where
   pub keys : HasKeys table
   pub in_listen : ReadsListen (listen_in table) (Ok listen)
@@ -152,13 +152,13 @@ pub data FirstFault (table : Members) (fault : SettingsFault) : Type 0 where
       → FirstFault table fault
   of_sweep : PeersAreRead table → ReadsSweep (sweep_in table) (Err fault) → FirstFault table fault
   together : (listen : Addr) → (upstreams peers : List Addr)
-      → (sweep : ℕ) → Says table listen upstreams peers sweep
+      → (sweep : ℕ) → TableSays table listen upstreams peers sweep
       → (why : ConfigFault) → ConfigFails upstreams peers why → fault ≡ fault_of why
       → FirstFault table fault
 
 -- what a table is read as
 abbrev pub ReadsTable : Members → Reading Settings → Type 0
-ReadsTable table (Ok s) = Says table s.listen s.config.upstreams s.config.peers s.sweep
+ReadsTable table (Ok s) = TableSays table s.listen s.config.upstreams s.config.peers s.sweep
 ReadsTable table (Err fault) = FirstFault table fault
 
 -- octets are a table: UTF-8 in the grammar of TOML

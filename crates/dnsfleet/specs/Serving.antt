@@ -12,8 +12,8 @@ use Rattle.dnsfleet.specs.declared.serve.TheConstants.{DOUBLE_ROUNDS}
 use Rattle.dnsfleet.specs.declared.settings.Settings.{Settings}
 
 -- the key stream of ChaCha20
-abbrev pub words_of : List ℕ → Stream
-words_of key = stream_of (steps_u32 (next_word DOUBLE_ROUNDS)) (of_seed key)
+abbrev pub key_stream : List ℕ → Stream
+key_stream key = stream_of (steps_u32 (next_word DOUBLE_ROUNDS)) (of_seed key)
 
 -- so many turns were served, with the upstreams, the peers and the seconds between sweeps that the
 -- settings say, by a site that took nothing in before; over them it follows the model's steps
@@ -22,5 +22,5 @@ pub record ServesNew (old new : PortState) (moments : Option (ℕ → ℕ)) (key
   pub site : SiteData
   pub after : SiteData
   pub opens : StandsFor site (opening settings.config.upstreams settings.config.peers)
-  pub run : Served old new moments (words_of key) turns settings.sweep site after report
+  pub run : Served old new moments (key_stream key) turns settings.sweep site after report
   pub follows : FollowsSteps site after

@@ -16,7 +16,7 @@ use Rattle.fleet_observe.specs.Checks.{IsCountOf}
 use Rattle.fleet_observe.specs.declared.bounds.TheConstants.{LONGEST_BODY}
 use Rattle.fleet_gossip.specs.Entry.{AreFirstRdatas}
 use Rattle.fleet_gossip.specs.Faults.{cut, refused, behind, OctetsFail, cut_octets, refused_octets, SizedFails, RdatasFail, rdata_fails, NegativeFails, stranger, soa_fails}
-use Rattle.fleet_gossip.specs.Steps.{IsCut, AreTaken, AnyRdata, IsAbove, IsPart, IsSizeOf, AreFirstOf, IsOwnerOf}
+use Rattle.fleet_gossip.specs.Steps.{AreMissing, IsSplitAfter, AnyRdata, IsAbove, IsPart, IsSizeOf, AreFirstOf, IsOwnerOf}
 use Rattle.fleet_gossip.specs.declared.fault.FrameFault.{FrameFault}
 use Rattle.fleet_gossip.specs.declared.fault.FrameFault.TheVariants.{BadBody}
 use Rattle.fleet_name.proofs.Lemmas.{has_right, has_either}
@@ -24,12 +24,12 @@ use Rattle.fleet_gossip.proofs.Bodies.{positive_body-front}
 
 module _ (octets middle : List ℕ) (n count : ℕ) (is : octets ≡ u16_octets n ++ middle)
     (same : count ≡ n) where
-  pub sized_taken : (taken rest : List ℕ) → AreTaken middle count taken rest
+  pub sized_taken : (taken rest : List ℕ) → IsSplitAfter middle count taken rest
       → octets ≡ octets_with_length taken ++ rest
   sized_taken taken rest h = is ∙ (ap (λ (x : List ℕ). u16_octets n ++ x) h.whole
       ∙ ap (λ (k : ℕ). u16_octets k ++ (taken ++ rest)) (sym (h.counted ∙ same)))
 
-  pub sized_cut : (f : FrameFault) → IsCut count middle f → SizedFails AnyRdata octets f
+  pub sized_cut : (f : FrameFault) → AreMissing count middle f → SizedFails AnyRdata octets f
   sized_cut f h = behind n middle is tt (cut_octets (subst (λ (k : ℕ). length middle < k) same h.0)
       h.1)
 

@@ -8,7 +8,7 @@ use Rattle.fleet_observe.specs.Observation.{ObservationData, IsObservation, IsRa
 use Rattle.fleet_observe.specs.declared.bounds.TheConstants.{LONGEST_LIFE}
 use Rattle.fleet_observe.specs.declared.observation.kind.Kind.{Kind}
 use Rattle.fleet_observe.specs.declared.observation.kind.Kind.TheVariants.{NameError, NoData, Positive}
-use Rattle.fleet_gossip.specs.Entry.{octet, u64_octets, entry_octets, IsKindNumber, IsMoment, IsBodyOf}
+use Rattle.fleet_gossip.specs.Entry.{octet, u64_octets, entry_octets, IsKindNumber, IsMoment, AreBodyOctets}
 use Rattle.fleet_gossip.specs.Faults.{NamedFails, name_fails, behind_name, NegativeFails, BodyFails, TypeFails, LifeFails, StampFails, RankFails, KindFails, EntryFails}
 use Rattle.fleet_gossip.specs.declared.fault.FrameFault.{FrameFault}
 use Rattle.fleet_gossip.specs.declared.fault.FrameFault.TheVariants.{BadKind, BadRank, BadMoment, BadLife, BadName}
@@ -26,12 +26,12 @@ pub record IsEntry (o : ObservationData) : Type 0 where
   pub life : IsLifeOf o.kind o.life
   pub name : IsName o.name
   pub rtype : IsTypeOf o.kind o.rtype
-  pub body : IsBodyOf o.kind o.name o.rtype o.body
+  pub body : AreBodyOctets o.kind o.name o.rtype o.body
 
 -- what depends on the kind
 abbrev FitsKind : ObservationData → Kind → Type 0
 FitsKind o kind = IsRankOf kind o.rank × IsLifeOf kind o.life × IsTypeOf kind o.rtype
-    × IsBodyOf kind o.name o.rtype o.body
+    × AreBodyOctets kind o.name o.rtype o.body
 
 fits_kind : (o : ObservationData) → IsObservation o → (kind : Kind) → o.kind ≡ kind
     → FitsKind o kind
@@ -96,7 +96,7 @@ module _ (o : ObservationData) (is : IsEntry o) (rest : List ℕ) (f : FrameFaul
   denial_or_fault b h = negative_or_fault o.name b.owner b.rdata rest (o.body ++ rest) f b.lawful
       (ap (λ (x : List ℕ). x ++ rest) b.octets) h
 
-  body_or_fault : (kind : Kind) → IsBodyOf kind o.name o.rtype o.body
+  body_or_fault : (kind : Kind) → AreBodyOctets kind o.name o.rtype o.body
       → BodyFails kind o.name o.rtype (o.body ++ rest) f → ⊥
   body_or_fault Positive b h = positive_or_fault o.rtype b.rdatas rest (o.body ++ rest) f b.lawful
       (ap (λ (x : List ℕ). x ++ rest) b.octets) h
@@ -225,7 +225,8 @@ module _ (name : List (List ℕ)) (b d r s : List ℕ) (e : b ++ r ≡ d ++ s) w
       let h = negative_exact name x.owner y.owner x.rdata y.rdata r s x.lawful y.lawful whole in
       (x.octets ∙ (h.0 ∙ sym y.octets), h.1)
 
-  bodies_exact : (kind : Kind) (rtype : ℕ) → IsBodyOf kind name rtype b → IsBodyOf kind name rtype d
+  bodies_exact : (kind : Kind) (rtype : ℕ) → AreBodyOctets kind name rtype b
+      → AreBodyOctets kind name rtype d
       → (b ≡ d) × (r ≡ s)
   bodies_exact Positive rtype x y =
       let whole : positive_body x.rdatas ++ r ≡ positive_body y.rdatas ++ s =
@@ -238,11 +239,11 @@ module _ (name : List (List ℕ)) (b d r s : List ℕ) (e : b ++ r ≡ d ++ s) w
 -- Two entries at the front of the same octets.
 module _ (o p : ObservationData) (is : IsEntry o) (is' : IsEntry p) (r s : List ℕ) where
   body_moved : p.kind ≡ o.kind → p.name ≡ o.name → p.rtype ≡ o.rtype
-      → IsBodyOf o.kind o.name o.rtype p.body
+      → AreBodyOctets o.kind o.name o.rtype p.body
   body_moved kind name rtype =
-      subst (λ (k : Kind). IsBodyOf k o.name o.rtype p.body) kind
-      (subst (λ (n : List (List ℕ)). IsBodyOf p.kind n o.rtype p.body) name
-      (subst (λ (t : ℕ). IsBodyOf p.kind p.name t p.body) rtype is'.body))
+      subst (λ (k : Kind). AreBodyOctets k o.name o.rtype p.body) kind
+      (subst (λ (n : List (List ℕ)). AreBodyOctets p.kind n o.rtype p.body) name
+      (subst (λ (t : ℕ). AreBodyOctets p.kind p.name t p.body) rtype is'.body))
 
   pub entry_exact : entry_octets o ++ r ≡ entry_octets p ++ s → (o ≡ p) × (r ≡ s)
   entry_exact e =

@@ -9,7 +9,7 @@ use Rattle.fleet_gossip.specs.Entry.{octet, entry_octets}
 use Rattle.fleet_gossip.specs.Frame.{entries, SpellsFrame, HasEntries}
 use Rattle.fleet_gossip.specs.declared.frame.TheConstants.{MAGIC, VERSION}
 use Rattle.fleet_gossip.specs.Faults.{cut, refused, behind, EntryFails, EntriesFail, entry_fails, more_octets, MagicFails, FrameFails}
-use Rattle.fleet_gossip.specs.Steps.{IsCut, IsOpened, AreEntries, StandEntries}
+use Rattle.fleet_gossip.specs.Steps.{AreMissing, IsOpened, AreEntries, StandEntries}
 use Rattle.fleet_gossip.specs.declared.fault.FrameFault.{FrameFault}
 use Rattle.fleet_gossip.specs.declared.fault.FrameFault.TheVariants.{BadMagic, BadVersion, Trailing}
 use Rattle.fleet_gossip.specs.declared.bounds.TheConstants.{LONGEST_FRAME}
@@ -23,7 +23,7 @@ module _ (octets left : List ℕ) (n : ℕ) (is : octets ≡ u16_octets n ++ lef
   bad_magic unlike = refused n left is unlike refl
 
   module _ (same : n ≡ MAGIC) where
-    pub version_cut : (f : FrameFault) → IsCut 1 left f → MagicFails octets f
+    pub version_cut : (f : FrameFault) → AreMissing 1 left f → MagicFails octets f
     version_cut f h = behind n left is same (cut h.0 h.1)
 
     module _ (v : ℕ) (rest : List ℕ) (stands : left ≡ octet v ++ rest) where
@@ -31,7 +31,7 @@ module _ (octets left : List ℕ) (n : ℕ) (is : octets ≡ u16_octets n ++ lef
       bad_version unlike = behind n left is same (refused v rest stands unlike refl)
 
       module _ (one : v ≡ VERSION) where
-        pub count_cut : (f : FrameFault) → IsCut 2 rest f → MagicFails octets f
+        pub count_cut : (f : FrameFault) → AreMissing 2 rest f → MagicFails octets f
         count_cut f h = behind n left is same (behind v rest stands one (cut h.0 h.1))
 
         pub opening_read : (count : ℕ) (more : List ℕ) → rest ≡ u16_octets count ++ more

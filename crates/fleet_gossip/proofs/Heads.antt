@@ -5,7 +5,7 @@ use Rattle.fleet_wire.specs.Number.{u16_octets, u32_octets}
 use Rattle.fleet_observe.specs.declared.observation.kind.Kind.{Kind}
 use Rattle.fleet_observe.specs.Checks.{IsRankOf, IsLifeOf, IsTypeOf}
 use Rattle.fleet_observe.specs.Observation.{ObservationData, IsObservation, kind_number}
-use Rattle.fleet_gossip.specs.Entry.{octet, u64_octets, entry_octets, IsMoment, IsBodyOf}
+use Rattle.fleet_gossip.specs.Entry.{octet, u64_octets, entry_octets, IsMoment, AreBodyOctets}
 use Rattle.fleet_gossip.specs.Faults.{behind, NamedFails, behind_name, BodyFails, TypeFails, LifeFails, StampFails, RankFails, EntryFails}
 use Rattle.fleet_gossip.specs.Steps.{IsField, IsHead, IsPart}
 use Rattle.fleet_gossip.specs.EntryOf.{IsEntryOf}
@@ -55,8 +55,8 @@ module _ (octets named part typed : List ℕ) (head : Head) (is : IsHead octets 
         → EntryFails octets f
     body_fails f h = type_fails f (behind rtype rest t.whole t.lawful h)
 
-    module _ (body left : List ℕ) (b : IsPart (IsBodyOf head.kind at.lawful.name rtype) rest body
-        left) where
+    module _ (body left : List ℕ)
+        (b : IsPart (AreBodyOctets head.kind at.lawful.name rtype) rest body left) where
       -- the observation that stands there
       pub fact_read : ObservationData
       fact_read = record {

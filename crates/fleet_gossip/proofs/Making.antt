@@ -6,13 +6,12 @@ use Rattle.fleet_name.specs.Name.{wire, IsName, IsUnder, IsWire}
 use Rattle.fleet_wire.specs.Shape.{IsPlain}
 use Rattle.fleet_wire.specs.declared.rtype.TheConstants.{SOA}
 use Rattle.fleet_observe.specs.Body.{octets_with_length, positive_body, negative_body, AreRdatas}
-use Rattle.fleet_observe.specs.Checks.{denied_kind, denied_type, IsDeniedType, IsPositiveFault, IsNegativeFault}
+use Rattle.fleet_observe.specs.Checks.{denied_kind, denied_type, IsDeniedType, IsPositiveFault, IsNegativeFault, bad_rank, bad_life, bad_kind, bad_body}
 use Rattle.fleet_observe.specs.Observation.{ObservationData, IsRank, IsDenialRank, IsLife, IsDataType, IsNegative}
 use Rattle.fleet_observe.specs.declared.bounds.TheConstants.{LONGEST_DENIAL, LONGEST_LIFE}
 use Rattle.fleet_observe.specs.declared.observation.kind.Kind.TheVariants.{Positive}
 use Rattle.fleet_observe.specs.declared.observation.fault.ObservationFault.{ObservationFault}
-use Rattle.fleet_observe.specs.declared.observation.fault.ObservationFault.TheVariants.{BadRank, BadLife, BadKind, BadBody}
-use Rattle.fleet_gossip.specs.Faults.{SizedFails, NameFails}
+use Rattle.fleet_gossip.specs.Faults.{SizedFails, FrameNameFails}
 use Rattle.fleet_gossip.specs.Steps.{AnyRdata, IsPart, IsSoaBody}
 use Rattle.fleet_gossip.specs.EntryOf.{IsEntryOf}
 use Rattle.fleet_gossip.specs.declared.entry.FrameEntry.{FrameEntry}
@@ -61,7 +60,7 @@ body_next body made new left copy rdata rest next is copied pushed =
 
 -- The SOA of a body.
 module _ (body : List ℕ) (is : IsSoaBody body) where
-  pub owner_uncut : (f : FrameFault) → NameFails refusal.BadBody body f → ⊥
+  pub owner_uncut : (f : FrameFault) → FrameNameFails refusal.BadBody body f → ⊥
   owner_uncut f h = name_or_fault refusal.BadBody is.owner (octets_with_length is.rdata) body f
       is.octets is.named h
 
@@ -108,14 +107,14 @@ module _ (entry : FrameEntry) (o : ObservationData) (tells : IsEntryOf entry o) 
   pub records_made : entry.head.kind ≡ Positive → (rdatas : List (List ℕ))
       → entry.body.now ≡ positive_body rdatas → (f : ObservationFault)
       → IsPositiveFault entry.rtype entry.head.rank entry.head.life rdatas f → ⊥
-  records_made kind rdatas is BadRank h = h (subst (λ (n : ℕ). IsRank n) tells.rank
-      tells.lawful.rank)
-  records_made kind rdatas is BadLife h = h.1
-      (subst (λ (n : ℕ). IsLife LONGEST_LIFE n) tells.life tells.lawful.life)
-  records_made kind rdatas is BadKind h = h.2
-      (subst (λ (n : ℕ). IsDataType n) tells.rtype
+  records_made kind rdatas is f (bad_rank wrong told) =
+      wrong (subst (λ (n : ℕ). IsRank n) tells.rank tells.lawful.rank)
+  records_made kind rdatas is f (bad_life r wrong told) =
+      wrong (subst (λ (n : ℕ). IsLife LONGEST_LIFE n) tells.life tells.lawful.life)
+  records_made kind rdatas is f (bad_kind r l wrong told) =
+      wrong (subst (λ (n : ℕ). IsDataType n) tells.rtype
       (tells.lawful.positive (tells.kind ∙ kind)).typed)
-  records_made kind rdatas is BadBody h = h.3 (records_lawful kind rdatas is)
+  records_made kind rdatas is f (bad_body r l t wrong told) = wrong (records_lawful kind rdatas is)
 
   module _ (rtype : Option ℕ) (kind : entry.head.kind ≡ denied_kind rtype)
       (typed : entry.rtype ≡ denied_type rtype) where
@@ -135,19 +134,20 @@ module _ (entry : FrameEntry) (o : ObservationData) (tells : IsEntryOf entry o) 
     pub denial_made : (name owner : List (List ℕ)) (rdata : List ℕ) → name ≡ o.name → IsName owner
         → entry.body.now ≡ negative_body owner rdata → (f : ObservationFault)
         → IsNegativeFault name rtype entry.head.rank entry.head.life owner rdata f → ⊥
-    denial_made name owner rdata named lawful is BadRank h =
-        h (subst (λ (n : ℕ). IsDenialRank n) tells.rank denial_of.rank)
-    denial_made name owner rdata named lawful is BadLife h =
-        h.1 (subst (λ (n : ℕ). IsLife LONGEST_DENIAL n) tells.life denial_of.life)
-    denial_made name owner rdata named lawful is BadKind h = h.2 (type_of rtype kind typed)
-    denial_made name owner rdata named lawful is BadBody h =
+    denial_made name owner rdata named lawful is f (bad_rank wrong told) =
+        wrong (subst (λ (n : ℕ). IsDenialRank n) tells.rank denial_of.rank)
+    denial_made name owner rdata named lawful is f (bad_life r wrong told) =
+        wrong (subst (λ (n : ℕ). IsLife LONGEST_DENIAL n) tells.life denial_of.life)
+    denial_made name owner rdata named lawful is f (bad_kind r l wrong told) =
+        wrong (type_of rtype kind typed)
+    denial_made name owner rdata named lawful is f (bad_body r l t wrong told) =
         let b = denial_of.body in
         let e : wire b.owner ++ octets_with_length b.rdata ≡ wire owner
         ++ octets_with_length rdata = sym b.octets ∙ (sym tells.body ∙ is) in
         let one = name_exact b.owner owner (octets_with_length b.rdata) (octets_with_length rdata)
         b.lawful.named lawful e in
         let two = sized_exact b.rdata rdata [] [] (ap (λ (x : List ℕ). x ++ []) one.1) in
-        h.3 (record {
+        wrong (record {
           named = lawful;
           under = subst (λ (x : List (List ℕ)). IsUnder x owner) (sym named)
               (subst (λ (x : List (List ℕ)). IsUnder o.name x) one.0 b.lawful.under);

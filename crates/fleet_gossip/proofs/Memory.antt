@@ -2,7 +2,7 @@
 use Rattle.std.proofs.Common.{◌≡◌, ℕ, List, sym, ◌∙◌, inl, inr}
 use Rattle.fleet_observe.specs.declared.observation.kind.Kind.{Kind}
 use Rattle.fleet_observe.specs.declared.observation.kind.Kind.TheVariants.{NameError, NoData, Positive}
-use Rattle.fleet_gossip.specs.Faults.{FieldFails, cut, refused, behind, OctetsFail, cut_octets, refused_octets, NameFails, label_fails, SizedFails, RdatasFail, rdata_fails, NegativeFails, owner_fails, stranger, soa_fails, BodyFails, NamedFails, name_fails, behind_name, EntryFails, EntriesFail, entry_fails, more_octets, FrameFails}
+use Rattle.fleet_gossip.specs.Faults.{FieldFails, cut, refused, behind, OctetsFail, cut_octets, refused_octets, FrameNameFails, label_fails, SizedFails, RdatasFail, rdata_fails, NegativeFails, owner_fails, stranger, soa_fails, BodyFails, NamedFails, name_fails, behind_name, EntryFails, EntriesFail, entry_fails, more_octets, FrameFails}
 use Rattle.fleet_gossip.specs.declared.fault.FrameFault.{FrameFault}
 use Rattle.fleet_gossip.specs.declared.fault.FrameFault.TheVariants.{TooLong, Truncated, BadName, BadBody, Trailing, OutOfMemory}
 
@@ -41,7 +41,7 @@ octets_other Lawful refusal size octets f other (refused_octets taken rest is n 
     is_other f refusal e other
 
 name_fault_other : (refusal : FrameFault) → IsOther refusal → (octets : List ℕ) (f : FrameFault)
-    → NameFails refusal octets f → IsOther f
+    → FrameNameFails refusal octets f → IsOther f
 name_fault_other refusal other octets f (label_fails before rest is named h) =
     field_other _ _ _ _ _ rest f other (λ n r k. octets_other _ refusal n r f other k) h
 

@@ -8,7 +8,7 @@ use Rattle.std.specs.List.{flat_map}
 use Rattle.fleet_name.specs.Name.{label_octets, wire, lower, IsName, IsWire}
 use Rattle.fleet_name.specs.declared.bounds.TheConstants.{LONGEST_LABEL, LONGEST_NAME}
 use Rattle.fleet_gossip.specs.Faults.{refused, behind, cut_octets, refused_octets, IsRoom, LabelFails}
-use Rattle.fleet_gossip.specs.Steps.{IsCut, AreTaken, IsLabelAt, IsSizeOf}
+use Rattle.fleet_gossip.specs.Steps.{AreMissing, IsSplitAfter, IsLabelAt, IsSizeOf}
 use Rattle.fleet_gossip.specs.declared.fault.FrameFault.{FrameFault}
 use Rattle.fleet_name.proofs.Lemmas.{named_push}
 use Rattle.fleet_gossip.proofs.Names.{wire-append}
@@ -29,12 +29,12 @@ module _ (refusal : FrameFault) (before : List (List ℕ)) (octets left : List �
     fits = omega (arith, fits, same);
   }
 
-  pub label_cut : (f : FrameFault) → IsRoom before size → IsCut count left f
+  pub label_cut : (f : FrameFault) → IsRoom before size → AreMissing count left f
       → LabelFails refusal before octets f
   label_cut f room h = behind size left is (λ more. room)
       (cut_octets (subst (λ (n : ℕ). length left < n) same h.0) h.1)
 
-  module _ (label rest : List ℕ) (taken : AreTaken left count label rest) where
+  module _ (label rest : List ℕ) (taken : IsSplitAfter left count label rest) where
     pub label_capital : IsRoom before size → (lower label ≡ label → ⊥)
         → LabelFails refusal before octets refusal
     label_capital room unlike = behind size left is (λ more. room)

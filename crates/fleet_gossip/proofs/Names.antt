@@ -3,7 +3,7 @@ use Rattle.std.proofs.Common.{◌≡◌, ℕ, List, [], ◌∷◌, ◌++◌, len
 use Rattle.std.proofs.lemmas.Grind.{flat_map-append}
 use Rattle.std.specs.List.{flat_map, AllByRecursion}
 use Rattle.fleet_name.specs.Name.{label_octets, wire, IsLabel, IsName}
-use Rattle.fleet_gossip.specs.Faults.{OctetsFail, IsRoom, IsLengthOctet, IsLower, LabelFails, NameFails, label_fails}
+use Rattle.fleet_gossip.specs.Faults.{OctetsFail, IsRoom, IsLengthOctet, IsLower, LabelFails, FrameNameFails, label_fails}
 use Rattle.fleet_gossip.specs.declared.fault.FrameFault.{FrameFault}
 use Rattle.fleet_name.proofs.Lemmas.{split_same, length-wire-push, label_among}
 use Rattle.fleet_gossip.specs.Entry.{octet}
@@ -115,7 +115,7 @@ module _ (refusal : FrameFault) where
       (subst (λ (x : List (List ℕ)). IsName x) e named) e'
 
   pub name_or_fault : (name : List (List ℕ)) (rest octets : List ℕ) (f : FrameFault)
-      → octets ≡ wire name ++ rest → IsName name → NameFails refusal octets f → ⊥
+      → octets ≡ wire name ++ rest → IsName name → FrameNameFails refusal octets f → ⊥
   name_or_fault name rest octets f is named (label_fails before r e named' h) =
       none_fails before name r rest f named' named h
       (rows_of before name r (0 ∷ rest) named' named (sym e ∙ (is ∙ wire-append name rest)))
@@ -127,8 +127,8 @@ module _ (refusal : FrameFault) where
       octet_exact (λ n rest f' g' l k k'. one_octets_fault IsLower refusal n rest f' g' k k')
       octets f g h h'
 
-  pub one_name_fault : (octets : List ℕ) (f g : FrameFault) → NameFails refusal octets f
-      → NameFails refusal octets g → f ≡ g
+  pub one_name_fault : (octets : List ℕ) (f g : FrameFault) → FrameNameFails refusal octets f
+      → FrameNameFails refusal octets g → f ≡ g
   one_name_fault octets f g (label_fails before r e named h) (label_fails before' r' e' named' h') =
       one_row_fault (List ℕ) label_octets IsName name_front name_tells (LabelFails refusal)
       label_or_fault one_label_fault before before' r r' f g named named' (sym e ∙ e') h h'

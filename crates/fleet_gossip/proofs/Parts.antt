@@ -1,13 +1,13 @@
 -- Parts at the front of octets.
 use Rattle.std.proofs.Common.{ℕ, List, length, sym, ap, ◌∙◌, subst, arith, length-append}
-use Rattle.fleet_gossip.specs.Steps.{IsCut, AreTaken, IsPart, IsSizeOf}
+use Rattle.fleet_gossip.specs.Steps.{AreMissing, IsSplitAfter, IsPart, IsSizeOf}
 use Rattle.fleet_gossip.specs.declared.fault.FrameFault.{FrameFault}
 use Rattle.fleet_name.proofs.Lemmas.{split_same}
 
 module _ (Lawful : List ℕ → Type 0) (octets : List ℕ) (size : ℕ)
     (found : IsSizeOf Lawful octets size) where
   -- so many octets taken are the part
-  pub part_taken : (taken rest : List ℕ) → AreTaken octets size taken rest
+  pub part_taken : (taken rest : List ℕ) → IsSplitAfter octets size taken rest
       → IsPart Lawful octets taken rest
   part_taken taken rest are =
       let same = split_same taken found.part rest found.rest (are.counted ∙ found.counted)
@@ -19,7 +19,7 @@ module _ (Lawful : List ℕ → Type 0) (octets : List ℕ) (size : ℕ)
       }
 
   -- and none of them is missing
-  pub part_uncut : (f : FrameFault) → IsCut size octets f → ⊥
+  pub part_uncut : (f : FrameFault) → AreMissing size octets f → ⊥
   part_uncut f cut = omega (
     arith,
     cut.0,

@@ -45,7 +45,7 @@ pub record AreFirstRdatas (rtype : ℕ) (rdatas : List (List ℕ)) : Type 0 wher
   pub short : length (positive_body rdatas) ≤ LONGEST_BODY
 
 -- octets that are a body of the kind, of an observation of the name and the type
-abbrev pub IsBodyOf : Kind → List (List ℕ) → ℕ → List ℕ → Type 0
-IsBodyOf Positive name rtype body = IsPositiveBody rtype body
-IsBodyOf NoData name rtype body = IsNegativeBody name body
-IsBodyOf NameError name rtype body = IsNegativeBody name body
+abbrev pub AreBodyOctets : Kind → List (List ℕ) → ℕ → List ℕ → Type 0
+AreBodyOctets Positive name rtype body = IsPositiveBody rtype body
+AreBodyOctets NoData name rtype body = IsNegativeBody name body
+AreBodyOctets NameError name rtype body = IsNegativeBody name body

@@ -67,11 +67,11 @@ LabelFails refusal before =
     FieldFails octet 1 (IsLengthOctet before) refusal (OctetsFail IsLower refusal)
 
 -- the first fault of a name: behind the labels of one, the next fails
-pub data NameFails (refusal : FrameFault) (octets : List ℕ) (f : FrameFault) : Type 0 where
+pub data FrameNameFails (refusal : FrameFault) (octets : List ℕ) (f : FrameFault) : Type 0 where
   label_fails : (before : List (List ℕ)) (rest : List ℕ)
       → octets ≡ flat_map label_octets before ++ rest
       → IsName before → LabelFails refusal before rest f
-      → NameFails refusal octets f
+      → FrameNameFails refusal octets f
 
 -- the first fault of RDATA behind its length
 abbrev pub SizedFails : (List ℕ → Type 0) → List ℕ → FrameFault → Type 0
@@ -92,7 +92,7 @@ PositiveFails rtype = FieldFails u16_octets 2 (IsCountOf rtype) BadBody (RdatasF
 -- The first fault of a negative body: of the SOA's owner, that this is neither the name nor an
 -- ancestor of it, or of the SOA's RDATA.
 pub data NegativeFails (name : List (List ℕ)) (octets : List ℕ) (f : FrameFault) : Type 0 where
-  owner_fails : NameFails BadBody octets f → NegativeFails name octets f
+  owner_fails : FrameNameFails BadBody octets f → NegativeFails name octets f
   stranger : (owner : List (List ℕ)) (rest : List ℕ) → octets ≡ wire owner ++ rest → IsName owner
       → (IsUnder name owner → ⊥) → f ≡ BadBody
       → NegativeFails name octets f
@@ -112,7 +112,7 @@ abbrev pub TypeFails : Kind → List (List ℕ) → List ℕ → FrameFault → 
 TypeFails kind name = FieldFails u16_octets 2 (IsTypeOf kind) BadKind (BodyFails kind name)
 
 pub data NamedFails (kind : Kind) (octets : List ℕ) (f : FrameFault) : Type 0 where
-  name_fails : NameFails BadName octets f → NamedFails kind octets f
+  name_fails : FrameNameFails BadName octets f → NamedFails kind octets f
   behind_name : (name : List (List ℕ)) (rest : List ℕ) → octets ≡ wire name ++ rest → IsName name
       → TypeFails kind name rest f
       → NamedFails kind octets f

@@ -32,11 +32,11 @@ abbrev pub NoField : (ℕ → List ℕ) → ℕ → (ℕ → Type 0) → FrameFa
 NoField spelled size Lawful refusal = FieldFails spelled size Lawful refusal Nothing
 
 -- octets are missing
-abbrev pub IsCut : ℕ → List ℕ → FrameFault → Type 0
-IsCut size octets f = (length octets < size) × (f ≡ Truncated)
+abbrev pub AreMissing : ℕ → List ℕ → FrameFault → Type 0
+AreMissing size octets f = (length octets < size) × (f ≡ Truncated)
 
 -- so many octets stand at the front, and the rest behind them
-pub record AreTaken (octets : List ℕ) (size : ℕ) (taken rest : List ℕ) : Type 0 where
+pub record IsSplitAfter (octets : List ℕ) (size : ℕ) (taken rest : List ℕ) : Type 0 where
   pub whole : octets ≡ taken ++ rest
   pub counted : length taken ≡ size
 

@@ -4,7 +4,7 @@ ghost use Rattle.std.specs.Prelude.{◌≡◌, ℕ, ◌≤◌, ◌++◌, ◌∷�
 ghost use Rattle.fleet_name.specs.Name.{wire, IsName, IsWire};
 ghost use Rattle.fleet_observe.specs.Body.{octets_with_length, positive_body, IsPositiveBody, IsNegativeBody};
 ghost use Rattle.fleet_observe.specs.declared.bounds.TheConstants.{LONGEST_BODY};
-ghost use Rattle.fleet_gossip.specs.Entry.{AreFirstRdatas, IsBodyOf};
+ghost use Rattle.fleet_gossip.specs.Entry.{AreFirstRdatas, AreBodyOctets};
 ghost use Rattle.fleet_gossip.specs.Faults.{SizedFails, RdatasFail, PositiveFails, NegativeFails, BodyFails};
 ghost use Rattle.fleet_gossip.specs.Steps.{AnyRdata, IsAbove, EndWith, IsPart, IsSizeOf, AreFirstOf, IsOwnerOf};
 
@@ -120,7 +120,7 @@ fn negative_size(octets: &[u8], name: &[u8]) -> Result<usize, FrameFault>
 fn body_size(octets: &[u8], kind: Kind, name: &[u8], rtype: u16) -> Result<usize, FrameFault>
     requires { IsWire name.now }
     ensures { (n : List (List ℕ)) → IsName n → name.now ≡ wire n
-        → MatchResult result (λ size. IsSizeOf (IsBodyOf kind n rtype) octets.now size)
+        → MatchResult result (λ size. IsSizeOf (AreBodyOctets kind n rtype) octets.now size)
         (BodyFails kind n rtype octets.now) }
 {
     match kind {
@@ -139,7 +139,7 @@ pub(crate) fn read_body<'a>(
 ) -> Result<&'a [u8], FrameFault>
     requires { IsWire name.now }
     ensures { (n : List (List ℕ)) → IsName n → name.now ≡ wire n
-        → MatchResult result (λ r. IsPart (IsBodyOf kind n rtype) reader.old r.now reader.new)
+        → MatchResult result (λ r. IsPart (AreBodyOctets kind n rtype) reader.old r.now reader.new)
         (BodyFails kind n rtype reader.old) }
 {
     let size = body_size(reader.rest(), kind, name, rtype)?;

@@ -3,7 +3,7 @@
 ghost use Rattle.std.specs.Prelude.{◌≡◌, ℕ, ◌≤◌, ◌↔◌, List, length, IsTrue, MatchResult};
 ghost use Rattle.fleet_name.specs.Name.{wire, IsName, IsUnder, IsWire};
 ghost use Rattle.fleet_name.specs.declared.bounds.TheConstants.{LONGEST_NAME};
-ghost use Rattle.fleet_gossip.specs.Faults.{LabelFails, NameFails};
+ghost use Rattle.fleet_gossip.specs.Faults.{LabelFails, FrameNameFails};
 ghost use Rattle.fleet_gossip.specs.Steps.{IsLabelAt, IsPart, IsSizeOf};
 
 use crate::fault::FrameFault;
@@ -40,7 +40,7 @@ fn read_label<'a>(
 /// How many octets the name that is read next has.
 fn name_size(octets: &[u8], refusal: FrameFault) -> Result<usize, FrameFault>
     ensures { MatchResult result (λ size. IsSizeOf IsWire octets.now size)
-        (NameFails refusal octets.now) }
+        (FrameNameFails refusal octets.now) }
 {
     let mut reader = Reader::new(octets);
     let mut size = 1;
@@ -60,7 +60,7 @@ pub(crate) fn read_name<'a>(
     refusal: FrameFault,
 ) -> Result<&'a [u8], FrameFault>
     ensures { MatchResult result (λ r. IsPart IsWire reader.old r.now reader.new)
-        (NameFails refusal reader.old) }
+        (FrameNameFails refusal reader.old) }
 {
     let size = name_size(reader.rest(), refusal)?;
     reader.take(size)

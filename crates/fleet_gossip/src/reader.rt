@@ -3,7 +3,7 @@
 ghost use Rattle.std.specs.Prelude.{◌≡◌, ℕ, ◌+◌, ◌<◌, ◌++◌, [], ◌↔◌, MatchResult, IsTrue};
 ghost use Rattle.fleet_wire.specs.Number.{u16_octets, u32_octets};
 ghost use Rattle.fleet_gossip.specs.Entry.{octet, u64_octets};
-ghost use Rattle.fleet_gossip.specs.Steps.{IsCut, AreTaken};
+ghost use Rattle.fleet_gossip.specs.Steps.{AreMissing, IsSplitAfter};
 
 use crate::fault::FrameFault;
 use std::marker::Model;
@@ -46,8 +46,8 @@ impl<'a> Reader<'a> {
 
     /// So many octets.
     pub fn take(&mut self, count: usize) -> Result<&'a [u8], FrameFault>
-        ensures { MatchResult result (λ r. AreTaken self.old count r.now self.new)
-            (IsCut count self.old) }
+        ensures { MatchResult result (λ r. IsSplitAfter self.old count r.now self.new)
+            (AreMissing count self.old) }
     {
         if self.rest.len() < count {
             return Err(FrameFault::Truncated);
@@ -59,7 +59,7 @@ impl<'a> Reader<'a> {
 
     /// A number of one octet.
     pub fn read_u8(&mut self) -> Result<u8, FrameFault>
-        ensures { MatchResult result (λ n. self.old ≡ octet n ++ self.new) (IsCut 1 self.old) }
+        ensures { MatchResult result (λ n. self.old ≡ octet n ++ self.new) (AreMissing 1 self.old) }
     {
         let number = self.take(1)?;
         Ok(number[0])
@@ -67,7 +67,8 @@ impl<'a> Reader<'a> {
 
     /// A number of two octets, the high one first.
     pub fn read_u16(&mut self) -> Result<u16, FrameFault>
-        ensures { MatchResult result (λ n. self.old ≡ u16_octets n ++ self.new) (IsCut 2 self.old) }
+        ensures { MatchResult result (λ n. self.old ≡ u16_octets n ++ self.new)
+            (AreMissing 2 self.old) }
     {
         let number = self.take(2)?;
         Ok(u16::from_be_bytes([number[0], number[1]]))
@@ -75,7 +76,8 @@ impl<'a> Reader<'a> {
 
     /// A number of four octets.
     pub fn read_u32(&mut self) -> Result<u32, FrameFault>
-        ensures { MatchResult result (λ n. self.old ≡ u32_octets n ++ self.new) (IsCut 4 self.old) }
+        ensures { MatchResult result (λ n. self.old ≡ u32_octets n ++ self.new)
+            (AreMissing 4 self.old) }
     {
         let number = self.take(4)?;
         Ok(u32::from_be_bytes([number[0], number[1], number[2], number[3]]))
@@ -83,7 +85,8 @@ impl<'a> Reader<'a> {
 
     /// A number of eight octets.
     pub fn read_u64(&mut self) -> Result<u64, FrameFault>
-        ensures { MatchResult result (λ n. self.old ≡ u64_octets n ++ self.new) (IsCut 8 self.old) }
+        ensures { MatchResult result (λ n. self.old ≡ u64_octets n ++ self.new)
+            (AreMissing 8 self.old) }
     {
         let high = self.read_u32()?;
         let low = self.read_u32()?;

@@ -2,10 +2,10 @@
 use Rattle.std.proofs.Common.{◌≡◌, List, refl, inl, inr}
 use Rattle.fleet_wire.specs.Message.{MessageData}
 use Rattle.fleet_observe.specs.declared.reply.ending.DigestFault.{DigestFault}
-use Rattle.fleet_observe.specs.declared.reply.ending.DigestFault.TheVariants.{NotReply, BadChain, OutOfMemory}
+use Rattle.fleet_observe.specs.declared.reply.ending.DigestFault.TheVariants.{OutOfMemory}
 use Rattle.fleet_observe.specs.RrSet.{RrSetData}
 use Rattle.fleet_observe.specs.Digest.{EndData, WithRecords, WithoutData, WithoutName, WithCode, CutOff, DigestData}
-use Rattle.fleet_observe.specs.Meaning.{AsksWalk, IsWalkable, IsFault, IsMeaning, IsSound, Tells}
+use Rattle.fleet_observe.specs.Meaning.{AsksWalk, IsWalkable, IsFault, not_reply, bad_chain, no_memory, IsMeaning, IsSound, Tells}
 use Rattle.fleet_observe.proofs.LawfulMeanings.{no_walk_cut, no_walk_coded}
 
 tells_walkable : (r : MessageData) (chain : List RrSetData) (e : EndData) → Tells r chain e
@@ -22,7 +22,7 @@ meaning_sound r d meaning = (meaning.served, tells_walkable r d.chain d.end mean
 
 pub meaning_or_fault : (r : MessageData) (d : DigestData) (f : DigestFault) → IsMeaning r d
     → IsFault r f → f ≡ OutOfMemory
-meaning_or_fault r d NotReply meaning fault = absurd (fault meaning.served)
-meaning_or_fault r d BadChain meaning fault =
-    absurd (fault.2 (tells_walkable r d.chain d.end meaning.tells fault.1))
-meaning_or_fault r d OutOfMemory meaning fault = refl
+meaning_or_fault r d f meaning (not_reply unserved told) = absurd (unserved meaning.served)
+meaning_or_fault r d f meaning (bad_chain served asks none told) =
+    absurd (none (tells_walkable r d.chain d.end meaning.tells asks))
+meaning_or_fault r d f meaning (no_memory sound told) = told

@@ -6,11 +6,10 @@ use Rattle.fleet_name.specs.Name.{labels_of, IsName}
 use Rattle.fleet_observe.proofs.Lemmas.{any_rank}
 use Rattle.fleet_observe.specs.declared.rank.TheConstants.{OTHER, AUTHORITY, ANSWER}
 use Rattle.fleet_observe.specs.declared.observation.fault.ObservationFault.{ObservationFault}
-use Rattle.fleet_observe.specs.declared.observation.fault.ObservationFault.TheVariants.{BadRank, BadLife, BadKind, BadBody}
 use Rattle.fleet_observe.specs.Members.{Has}
 use Rattle.fleet_observe.specs.Body.{positive_body}
 use Rattle.fleet_observe.specs.Observation.{ObservationData, IsObservation, AreObservations, IsRank, IsDenialRank, IsDataType, kind_number}
-use Rattle.fleet_observe.specs.Checks.{IsNegativeFault, IsDeniedType}
+use Rattle.fleet_observe.specs.Checks.{IsNegativeFault, IsDeniedType, bad_rank, bad_life, bad_kind, bad_body}
 use Rattle.fleet_observe.specs.RrSet.{RrSetData, SpellsName}
 use Rattle.fleet_observe.specs.Soa.{SoaData}
 use Rattle.fleet_observe.specs.Digest.{EndData, WithRecords, WithoutData, WithoutName, WithCode, CutOff, DigestData, denied_by, target_of, first_or, IsLawfulSet, IsLawfulLink, IsLawfulSoa, IsLawful, IsLawfulEnd}
@@ -74,11 +73,12 @@ negative_kept kind n t rank stamp x some = living_is (soa_observation kind n t r
 pub negative_made : (fault : ObservationFault) (n : List (List ℕ)) (rtype : Option ℕ) (rank : ℕ)
     (x : SoaData) → 1 ≤ x.ttl → IsLawfulSoa n x → IsDenialRank rank → IsDeniedType rtype
     → ¬ IsNegativeFault n rtype rank x.ttl x.owner x.rdata fault
-negative_made BadRank n rtype rank x some is ranked typed why = why ranked
-negative_made BadLife n rtype rank x some is ranked typed why = why.1 (some, is.ttl)
-negative_made BadKind n rtype rank x some is ranked typed why = why.2 typed
-negative_made BadBody n rtype rank x some is ranked typed why =
-    why.3 (record { named = is.owner; under = is.under; plain = is.plain })
+negative_made fault n rtype rank x some is ranked typed (bad_rank wrong told) = wrong ranked
+negative_made fault n rtype rank x some is ranked typed (bad_life r wrong told) =
+    wrong (some, is.ttl)
+negative_made fault n rtype rank x some is ranked typed (bad_kind r l wrong told) = wrong typed
+negative_made fault n rtype rank x some is ranked typed (bad_body r l t wrong told) =
+    wrong (record { named = is.owner; under = is.under; plain = is.plain })
 
 pub link_observations-push : (aa : Bool) (q : List (List ℕ)) (stamp : ℕ) (xs : List RrSetData)
     (x : RrSetData) → link_observations aa q stamp (xs ++ x ∷ []) ≡ link_observations aa q stamp xs

@@ -3,7 +3,7 @@ use Rattle.std.proofs.Common.{ℕ, ◌≤◌, inl, inr, List, ap, refl, arith, O
 use Rattle.fleet_name.specs.Name.{IsName}
 use Rattle.fleet_observe.proofs.Lemmas.{any_rank}
 use Rattle.fleet_observe.specs.Body.{positive_body, negative_body}
-use Rattle.fleet_observe.specs.Observation.{IsObservation, IsNegativeKind, IsDenialRank, IsRank, kind_number}
+use Rattle.fleet_observe.specs.Observation.{IsObservation, IsNegativeKind, kind_number}
 use Rattle.fleet_observe.specs.Checks.{MakesPositive, MakesNegative, denied_kind, denied_type}
 use Rattle.fleet_observe.specs.declared.bounds.TheConstants.{LATEST}
 use Rattle.fleet_observe.specs.declared.observation.kind.Kind.TheVariants.{Positive}

@@ -6,7 +6,7 @@ use Rattle.fleet_wire.specs.Record.{RecordData}
 use Rattle.fleet_observe.specs.declared.reply.walk.Step.{Step}
 use Rattle.fleet_observe.specs.declared.reply.walk.Step.TheVariants.{Records, Alias, Bare, Fork}
 use Rattle.fleet_observe.specs.RrSet.{RrSetData, IsRrSet, IsEmpty, IsOnly}
-use Rattle.fleet_observe.specs.Walk.{GoesOn, Ends, IsFork, IsPath, last, IsWalk, HasWalk, AreLinks, IsStep, IsOf, IsAlias, ArePlainRecords}
+use Rattle.fleet_observe.specs.Walk.{GoesOn, Ends, IsFork, IsPath, last, IsWalk, HasWalk, AreLinks, IsWalkStep, IsOf, IsAlias, ArePlainRecords}
 use Rattle.fleet_name.proofs.Lemmas.{wire_exact}
 use Rattle.fleet_observe.proofs.Spelling.{plain_alias}
 use Rattle.fleet_wire.specs.declared.rtype.TheConstants.{CNAME}
@@ -193,7 +193,7 @@ linked_whole s t n at chain h stops w =
 
 -- a step that is no alias does not go on
 pub stops_there : {A : Type 0} (s : List RecordData) (t : ℕ) (n : List (List ℕ)) (x : Step A)
-    → IsStep s t n x → ((r : Bor RecordData) → ¬ (x ≡ Alias r)) → (m : List (List ℕ))
+    → IsWalkStep s t n x → ((r : Bor RecordData) → ¬ (x ≡ Alias r)) → (m : List (List ℕ))
     → ¬ GoesOn s t n m
 stops_there s t n (Records r) h out m = ends_not_on s t n m (inl h.0)
 stops_there s t n Bare h out m = ends_not_on s t n m (inr h)

@@ -32,11 +32,11 @@ abbrev pub IsCountOf : ℕ → ℕ → Type 0
 IsCountOf rtype count = (0 < count) × (rtype ≡ CNAME → count ≡ 1)
 
 -- of four checks the fault's is the first that fails
-abbrev pub IsFirstToFail : Type 0 → Type 0 → Type 0 → Type 0 → ObservationFault → Type 0
-IsFirstToFail rank life rtype body BadRank = ¬ rank
-IsFirstToFail rank life rtype body BadLife = rank × ¬ life
-IsFirstToFail rank life rtype body BadKind = rank × life × ¬ rtype
-IsFirstToFail rank life rtype body BadBody = rank × life × rtype × ¬ body
+pub data IsFirstToFail (rank life rtype body : Type 0) (f : ObservationFault) : Type 0 where
+  bad_rank : ¬ rank → f ≡ BadRank → IsFirstToFail rank life rtype body f
+  bad_life : rank → ¬ life → f ≡ BadLife → IsFirstToFail rank life rtype body f
+  bad_kind : rank → life → ¬ rtype → f ≡ BadKind → IsFirstToFail rank life rtype body f
+  bad_body : rank → life → rtype → ¬ body → f ≡ BadBody → IsFirstToFail rank life rtype body f
 
 -- the type of a denial: none for a name error, else that of the data that isn't there
 abbrev pub IsDeniedType : Option ℕ → Type 0

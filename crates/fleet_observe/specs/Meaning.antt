@@ -40,10 +40,10 @@ IsSound r = IsServed r × (AsksWalk r → IsWalkable r)
 
 -- why there is no digest, the first reason: want of memory only where nothing is wrong with the
 -- reply
-abbrev pub IsFault : MessageData → DigestFault → Type 0
-IsFault r NotReply = ¬ IsServed r
-IsFault r BadChain = IsServed r × AsksWalk r × (¬ IsWalkable r)
-IsFault r OutOfMemory = IsSound r
+pub data IsFault (r : MessageData) (f : DigestFault) : Type 0 where
+  not_reply : ¬ IsServed r → f ≡ NotReply → IsFault r f
+  bad_chain : IsServed r → AsksWalk r → ¬ IsWalkable r → f ≡ BadChain → IsFault r f
+  no_memory : IsSound r → f ≡ OutOfMemory → IsFault r f
 
 pub record IsSoaRecord (r : RecordData) : Type 0 where
   pub class : r.class ≡ IN

@@ -89,11 +89,11 @@ pub record IsAlias (s : List RecordData) (t : ℕ) (n : List (List ℕ)) (r : Re
   pub spelled : SpellsName r.rdata
 
 -- what the walk does at a name
-abbrev pub IsStep : {A : Type 0} → List RecordData → ℕ → List (List ℕ) → Step A → Type 0
-IsStep s t n (Records r) = EndsFound s t n × IsOf s n t r.now
-IsStep s t n (Alias r) = IsAlias s t n r.now
-IsStep s t n Bare = EndsBare s t n
-IsStep s t n Fork = IsFork s t n
+abbrev pub IsWalkStep : {A : Type 0} → List RecordData → ℕ → List (List ℕ) → Step A → Type 0
+IsWalkStep s t n (Records r) = EndsFound s t n × IsOf s n t r.now
+IsWalkStep s t n (Alias r) = IsAlias s t n r.now
+IsWalkStep s t n Bare = EndsBare s t n
+IsWalkStep s t n Fork = IsFork s t n
 
 -- the walk was followed to its end
 pub record IsFollowed {A : Type 0} (s : List RecordData) (t : ℕ) (n : List (List ℕ))

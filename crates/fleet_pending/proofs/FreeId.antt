@@ -8,7 +8,7 @@ use Rattle.std.proofs.lemmas.List.{get_or-set_other, get_or-replicate}
 use Rattle.std.proofs.lemmas.Grind.{get_or-set_at}
 use Rattle.fleet_name.specs.Places.{At}
 use Rattle.fleet_pending.specs.declared.bounds.TheConstants.{MOST_ENTRIES}
-use Rattle.fleet_pending.specs.FreeId.{TakenTo, AreTaken}
+use Rattle.fleet_pending.specs.FreeId.{TakenTo, AreTakenIds}
 use Rattle.fleet_pending.specs.PendingData.{EntryData, UsesId}
 use Rattle.fleet_name.proofs.Lemmas.{at_same}
 use Rattle.fleet_pending.proofs.Placed.{NoneBefore, at_left}
@@ -67,7 +67,7 @@ taken_none word es = record {
 }
 
 pub taken_all : (word : ℕ) (es : List EntryData) (n : ℕ) (taken : List Bool) → length es ≤ n
-    → AreTakenTo word es n taken → AreTaken word es taken
+    → AreTakenTo word es n taken → AreTakenIds word es taken
 taken_all word es n taken l h = record {
   taken_ids = h.taken_ids;
   free_ids =
@@ -125,7 +125,7 @@ taken_beyond word es n passed taken x t q l m h = record {
     off k b f i y c a (inr w) u = h.free_ids k b f i y (omega arith) a u
 
 pub passed_more : (word : ℕ) (es : List EntryData) (n : ℕ) (taken : List Bool) → n < MOST_ENTRIES
-    → AreTaken word es taken → get_or taken n false ≡ true → TakenTo word es n
+    → AreTakenIds word es taken → get_or taken n false ≡ true → TakenTo word es n
     → TakenTo word es (n + 1)
 passed_more word es n taken m h t s k l = go (cases_eq k n)
   where

@@ -10,7 +10,7 @@ TakenTo word es n =
     (k : ℕ) → k < n → (i : ℕ) × ((e : EntryData) × At es i e × UsesId ((word + k) % 65536) e)
 
 -- which ids have an entry: of as many as may be open, from this word upwards, modulo 65536
-pub record AreTaken (word : ℕ) (es : List EntryData) (taken : List Bool) : Type 0 where
+pub record AreTakenIds (word : ℕ) (es : List EntryData) (taken : List Bool) : Type 0 where
   pub taken_ids : (k : ℕ) → k < MOST_ENTRIES → slice_index_or taken k false ≡ true
       → (i : ℕ) × ((e : EntryData) × At es i e × UsesId ((word + k) % 65536) e)
   pub free_ids : (k : ℕ) → k < MOST_ENTRIES → slice_index_or taken k false ≡ false

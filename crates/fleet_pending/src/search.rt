@@ -1,7 +1,7 @@
 //! Where the entries of a table are.
 
 ghost use Rattle.std.specs.Prelude.{◌<◌, ◌≤◌, ◌↔◌, IsTrue, MatchOption, length};
-ghost use Rattle.fleet_pending.specs.FreeId.{AreTaken, IsFirstFree};
+ghost use Rattle.fleet_pending.specs.FreeId.{AreTakenIds, IsFirstFree};
 ghost use Rattle.fleet_pending.specs.Due.{IsFirstDue, NoneDue, IsBefore};
 ghost use Rattle.fleet_pending.specs.PendingData.{UsesId, AsksFor};
 ghost use Rattle.fleet_pending.specs.declared.bounds.TheConstants.{MOST_ENTRIES};
@@ -62,7 +62,7 @@ pub(crate) fn first_free_id<A: Allocator>(entries: &[Entry<A>], word: u16) -> u1
 
 /// Which of the 256 ids from `word` upwards an entry has.
 fn mark_taken<A: Allocator>(entries: &[Entry<A>], word: u16) -> [bool; MOST_ENTRIES]
-    ensures { AreTaken word entries.now result }
+    ensures { AreTakenIds word entries.now result }
 {
     let mut taken = [false; MOST_ENTRIES];
     for entry in entries {

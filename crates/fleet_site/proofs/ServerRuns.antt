@@ -8,7 +8,7 @@ use Rattle.fleet_site.specs.SiteData.{SiteData}
 use Rattle.fleet_site.specs.StandsFor.{StandsFor}
 use Rattle.fleet_site.specs.PortRecord.{PortCall, Received, NoDatagram, Fault, PacketSent, PacketLost, PortState, failures_of, one_more}
 use Rattle.fleet_site.specs.Sending.{count_call, count_calls, count_refusal_in, count_step}
-use Rattle.fleet_site.specs.Turn.{Act, calls_of, count_acts, Acts, Between, Turn, left_after, word_of, IsMoment, Turns, empty_report, start_of}
+use Rattle.fleet_site.specs.Turn.{Act, calls_of, count_acts, Acts, Between, Turn, left_after, word_of, IsMomentOfTurn, Turns, empty_report, start_of}
 use Rattle.fleet_site.specs.Served.{Served, FollowsSteps, Turned}
 use Rattle.fleet_site.specs.declared.outcome.SiteFault.{SiteFault}
 use Rattle.fleet_site.specs.declared.report.Report.{Report}
@@ -40,7 +40,7 @@ ahead_more (Some f) now next n t a c =
     )
 
 pub is_moment : (ms now next : Option (ℕ → ℕ)) (n t : ℕ) → Ahead ms n now
-    → IfSome now (λ h. (t ≡ h 0) × (next ≡ Some (λ k. h (k + 1)))) → IsMoment ms n t
+    → IfSome now (λ h. (t ≡ h 0) × (next ≡ Some (λ k. h (k + 1)))) → IsMomentOfTurn ms n t
 is_moment None now next n t a c = tt
 is_moment (Some f) now next n t a c = moment_at f n t now next a c
 
@@ -89,7 +89,7 @@ later_turn t w every s u before calls since last r q k = record {
 pub serves_more : (old mid new : PortState) (ms : Option (ℕ → ℕ)) (s : Stream)
     (n every t w last : ℕ) (a b c : SiteData) (swept : Option ℕ) (r q : Report)
     → Serves old mid ms s n every a b swept r
-    → IsMoment ms n t
+    → IsMomentOfTurn ms n t
     → w ≡ word_of s n
     → Turned mid new t w every b c swept last r q
     → Serves old new ms s (n + 1) every a c (Some last) q

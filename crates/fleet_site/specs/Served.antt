@@ -7,7 +7,7 @@ use Rattle.fleet_site.specs.SiteModel.{SiteModel}
 use Rattle.fleet_site.specs.StandsFor.{StandsFor}
 use Rattle.fleet_site.specs.PortRecord.{PortCall, PortState, Made}
 use Rattle.fleet_site.specs.Sending.{count_call}
-use Rattle.fleet_site.specs.Turn.{Act, Acts, Acted, calls_of, count_acts, Given, Ticks, Sweeps, Between, Turn, Turns, start_of}
+use Rattle.fleet_site.specs.Turn.{Act, Acts, Acted, calls_of, count_acts, Given, Ticks, SweepsWhenDue, Between, Turn, Turns, start_of}
 use Rattle.fleet_site.specs.declared.report.Report.{Report}
 
 -- the run of a server: these turns were made, and where the port tells its record, their calls are
@@ -63,5 +63,5 @@ pub record TickedAll (old new : PortState) (t : ℕ) (site after : SiteData) (r 
 pub record SweptOnce (old new : PortState) (every since t last : ℕ) (site after : SiteData)
     (r q : Report) : Type 0 where
   pub acts : List Act
-  pub swept : Sweeps every since t acts last
+  pub swept : SweepsWhenDue every since t acts last
   pub took : Took old new site after r q acts

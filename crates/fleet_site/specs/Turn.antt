@@ -86,8 +86,8 @@ pub record IsSweepDue (every since t : ℕ) : Type 0 where
   pub passed : since + every ≤ t
 
 -- a sweep where it is time, and the moment of the last one then
-abbrev pub Sweeps : ℕ → ℕ → ℕ → List Act → ℕ → Type 0
-Sweeps every since t acts last =
+abbrev pub SweepsWhenDue : ℕ → ℕ → ℕ → List Act → ℕ → Type 0
+SweepsWhenDue every since t acts last =
     when IsSweepDue every since t
     then ((a : Act) × (acts ≡ a ∷ []) × (a.deal ≡ sweeping) × (last ≡ t)) otherwise
     ((acts ≡ []) × (last ≡ since))
@@ -111,7 +111,7 @@ pub record Turn (t word every : ℕ) (a b : Between) : Type 0 where
   pub are_ticks : Ticks t ticks false
   pub few : length ticks ≤ MOST_ENTRIES
   pub is_swept : (last : ℕ)
-      × Sweeps every (unwrap_or a.swept t) t sweep last
+      × SweepsWhenDue every (unwrap_or a.swept t) t sweep last
       × (b.swept ≡ Some last)
   pub acted : Acted a.site b.site (given ++ (ticks ++ sweep))
   pub calls : b.calls ≡ a.calls ++ arrival ∷ calls_of (given ++ (ticks ++ sweep))
@@ -129,15 +129,15 @@ abbrev pub word_of : Stream → ℕ → ℕ
 word_of s n = (next_u32 (left_after n s)).0 % 65536
 
 -- the moment of the turn with this number, where the clock tells its moments
-abbrev pub IsMoment : Option (ℕ → ℕ) → ℕ → ℕ → Type 0
-IsMoment None n t = Unit {0}
-IsMoment (Some moments) n t = t ≡ moments n
+abbrev pub IsMomentOfTurn : Option (ℕ → ℕ) → ℕ → ℕ → Type 0
+IsMomentOfTurn None n t = Unit {0}
+IsMomentOfTurn (Some moments) n t = t ≡ moments n
 
 -- so many turns in a row, each with its moment and its word
 abbrev pub Turns : Option (ℕ → ℕ) → Stream → ℕ → ℕ → Between → Between → Type 0
 Turns moments s every zero a b = b ≡ a
 Turns moments s every (suc n) a b = (mid : Between) × (t : ℕ) × Turns moments s every n a mid
-    × IsMoment moments n t × Turn t (word_of s n) every mid b
+    × IsMomentOfTurn moments n t × Turn t (word_of s n) every mid b
 
 -- nothing was counted yet
 abbrev pub empty_report : Report

@@ -20,7 +20,7 @@ use Rattle.fleet_world.specs.declared.event.Event.{Event}
 use Rattle.fleet_world.specs.declared.event.Event.TheVariants.{Datagram, Tick, Sweep, Frame, Deliver, Learn, Merge, Restart}
 
 -- what joins all that was taken joins all that was heard of, and the horizon rises with the floor
-pub record Joins (a b : Replica) : Type 0 where
+pub record BringsIn (a b : Replica) : Type 0 where
   pub brought : List ObservationData
   pub observations : AreObservations brought
   pub taken : b.site.taken ≡ brought ++ a.site.taken
@@ -32,7 +32,7 @@ pub record Joins (a b : Replica) : Type 0 where
 pub record Calls {A : Type 0} (c : Call) (r : Result (Outcome A) SiteFault) (a b : Replica)
     : Type 0 where
   pub step : SiteStep a.site c r b.site
-  pub joins : Joins a b
+  pub joins : BringsIn a b
 
 -- a frame counts as delivered where its call was done whole: neither refused nor stopped
 abbrev pub with_delivery_unless : Option Refusal → List SentSweep → ℕ → Replica → Replica
@@ -78,7 +78,7 @@ pub record MergesFirst (m : FleetModel) (from count : ℕ) (a b : Replica) : Typ
   pub other : Replica
   pub there : At m.sites from other
   pub merges : Merges a.site other.site (Err (OutOfMemory count)) b.site
-  pub joins : Joins a b
+  pub joins : BringsIn a b
 
 -- the site as it was at first
 abbrev pub site_again : SiteModel → SiteModel

@@ -20,6 +20,6 @@ HasSites sites (Merge into from) = (into < sites) × (from < sites)
 HasSites sites e = site_of e < sites
 
 -- among so many kept frames is the one that the event names, if it names one
-abbrev pub HasFrame : {A : Type 0} → ℕ → Event A → Type 0
-HasFrame frames (Deliver site now frame) = frame < frames
-HasFrame frames e = Unit {0}
+abbrev pub HasNamedFrame : {A : Type 0} → ℕ → Event A → Type 0
+HasNamedFrame frames (Deliver site now frame) = frame < frames
+HasNamedFrame frames e = Unit {0}

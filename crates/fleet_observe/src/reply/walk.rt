@@ -3,7 +3,7 @@
 ghost use Rattle.std.specs.Prelude.{◌≡◌, ℕ, ◌≤◌, ◌⊎◌, ◌↔◌, List, IsTrue, MatchOption};
 ghost use Rattle.fleet_name.specs.Name.{labels_of};
 ghost use Rattle.fleet_observe.specs.RrSet.{SpellsName};
-ghost use Rattle.fleet_observe.specs.Walk.{ArePlainRecords, IsFound, IsStep, HasWalk, Ends, EndsFound, EndsBare, IsOf};
+ghost use Rattle.fleet_observe.specs.Walk.{ArePlainRecords, IsFound, IsWalkStep, HasWalk, Ends, EndsFound, EndsBare, IsOf};
 
 use crate::bounds::MOST_LINKS;
 use crate::reply::rrset::belongs;
@@ -60,7 +60,7 @@ pub(crate) fn step_at<'a, A: Allocator>(
 ) -> Step<'a, A>
     requires spelled { SpellsName name.now }
     requires plain { ArePlainRecords answer.now }
-    ensures { IsStep answer.now rtype (labels_of name.now) result }
+    ensures { IsWalkStep answer.now rtype (labels_of name.now) result }
 {
     match find_rrset(answer, name, rtype) {
         Found::One(record) => Step::Records(record),

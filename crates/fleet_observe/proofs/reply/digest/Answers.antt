@@ -4,6 +4,7 @@ use Rattle.std.proofs.lemmas.Result.{err_from_is_err_and}
 use Rattle.fleet_wire.specs.Question.{QuestionData}
 use Rattle.fleet_wire.specs.declared.header.Header.{Header}
 use Rattle.fleet_name.proofs.Lemmas.{labels_of-spelled}
+use Rattle.fleet_observe.specs.Meaning.{bad_chain, no_memory}
 use Rattle.fleet_observe.proofs.Spelling.{spells}
 use Rattle.fleet_observe.proofs.LawfulMeanings.{all_plain, no_walk_cut, no_walk_coded, not_so}
 use Rattle.fleet_observe.proofs.reply.digest.Goals as goal
@@ -56,12 +57,9 @@ returns-then-not-has_walk g c =
     ∙ c.if-header.false in
     let code = (rw (ap (λ (x : Header). x.rcode)
     c.header-header.ensures.header) at c.is_answered.ensures).0
-    c.if-not-is_answered.false in (
-      served,
-      record { whole = whole; code = code },
-      λ h. false≢true (sym c.if-not-has_walk.true
-          ∙ walk.1 h),
-    )
+    c.if-not-is_answered.false in
+    bad_chain served (record { whole = whole; code = code })
+    (λ h. false≢true (sym c.if-not-has_walk.true ∙ walk.1 h)) refl
 
 pub digest_along_walk-requires : goal.digest_along_walk-requires
 digest_along_walk-requires g c =
@@ -87,7 +85,7 @@ returns-in_err-name g c =
     let r = c.from_residual in let p = err_from_is_err_and r.result r.ensures.1 in
     let served = c.is_served.ensures.0 c.if-not-is_served.false in
     let cut = sym (ap (λ (x : Header). x.tc) c.header-header.ensures.header) ∙ c.if-header.true in
-    rw (p.1, p.2) (served, λ asks. absurd (no_walk_cut _ cut asks))
+    rw (p.1, p.2) (no_memory (served, λ asks. absurd (no_walk_cut _ cut asks)) refl)
 
 pub returns-in_err-name-2 : goal.returns-in_err-name-2
 returns-in_err-name-2 g c =
@@ -96,7 +94,7 @@ returns-in_err-name-2 g c =
     let is = ap (λ (x : Header). x.rcode) c.header-header.ensures.header in
     let asks = rw is at c.is_answered.ensures in
     let none = not_so _ _ asks c.if-not-is_answered.true in
-    rw (p.1, p.2) (served, λ walks. absurd (no_walk_coded _ none walks))
+    rw (p.1, p.2) (no_memory (served, λ walks. absurd (no_walk_coded _ none walks)) refl)
 
 pub returns-in_err-digest_along_walk : goal.returns-in_err-digest_along_walk
 returns-in_err-digest_along_walk g c =
@@ -109,4 +107,4 @@ returns-in_err-digest_along_walk g c =
     let rtype = ap (λ (x : QuestionData). x.rtype) q in
     let walk = rw (c.answer.ensures.answer, rtype, is) at c.has_walk.ensures in
     let found = walk.0 c.if-not-has_walk.false in
-    rw (p.1, p.2) (served, λ _. found)
+    rw (p.1, p.2) (no_memory (served, λ _. found) refl)

@@ -1,6 +1,8 @@
-use Rattle.std.proofs.Common.{arith, subst}
+use Rattle.std.proofs.Common.{◌∙◌, arith, refl, subst, sym}
+use mathlib.Core.Bool.{false≢true}
 use Rattle.fleet_observe.specs.Body.{IsDenial}
-use Rattle.fleet_observe.specs.Checks.{MakesNegative}
+use Rattle.fleet_observe.specs.Checks.{MakesNegative, bad_body}
+use Rattle.fleet_observe.specs.Soa.{SoaData}
 use Rattle.fleet_observe.proofs.Lawful.{negative_lawful, denied_negative}
 use Rattle.fleet_observe.proofs.observation.Observation.negative.Goals as goal
 
@@ -22,3 +24,14 @@ invariant_of-result g c =
           c.octets.ensures.named (omega arith) made),
       (rw c.kind_of_denial.ensures (denied_negative c.args.rtype), body),
     )
+
+pub returns-then-not-is_denial-clause-checks : goal.returns-then-not-is_denial-clause-checks
+returns-then-not-is_denial-clause-checks g c =
+    let inside : IsDenial c.args.name c.args.soa.owner c.args.soa.rdata
+    → IsDenial c.args.name c.soa.inside.owner c.soa.inside.rdata = λ denial.
+    subst (λ (x : SoaData). IsDenial c.args.name x.owner x.rdata) (sym c.soa.view_is) denial in
+    bad_body (c.is_denial_rank.ensures.0 c.if-not-is_denial_rank.false)
+    (c.is_life.ensures.0 c.if-not-is_life.false)
+    (c.is_denied_type.ensures.0 c.if-not-is_denied_type.false)
+    (λ denial. false≢true (sym c.if-not-is_denial.true ∙ c.is_denial.ensures.1 (subst
+    (IsDenial c.args.name c.soa.inside.owner) (sym c.as_slice.ensures) (inside denial)))) refl
