@@ -1,18 +1,15 @@
 -- What each call keeps.
-use Rattle.std.proofs.Common.{◌≡◌, ℕ, zero, suc, ◌+◌, ◌<◌, ◌≤◌, inl, inr, List, [], ◌∷◌, ◌++◌, Some, None, length, slice_set, refl, sym, ◌∙◌, subst, ap, arith, Result, Ok, Err, length-append, length-set}
+use Rattle.std.proofs.Common.{◌≡◌, ℕ, zero, suc, ◌+◌, ◌<◌, ◌≤◌, inl, inr, List, [], ◌∷◌, ◌++◌, Some, None, length, slice_set, refl, sym, ◌∙◌, subst, ap, arith, Result, length-append, length-set}
 use Rattle.std.specs.List.{remove}
 use Rattle.std.proofs.lemmas.List.Edits.{length-remove}
 use Rattle.std.proofs.lemmas.Option.{slice_get_within, same_Some}
 use Rattle.fleet_name.specs.Places.{At, NoneIs, NoTwo}
 use Rattle.fleet_pending.specs.declared.bounds.TheConstants.{MOST_ENTRIES, MOST_WAITERS}
 use Rattle.fleet_pending.specs.Waiter.{WaiterData, Waits, SameAsker}
-use Rattle.fleet_pending.specs.FreeId.{IsFirstFree}
 use Rattle.fleet_pending.specs.PendingData.{EntryData, PendingData, IsPendingData, IsEntryData, SameId, SameQuestion, UsesId, AsksFor}
-use Rattle.fleet_pending.specs.Asking.{Joins, Opens, with_waiter, new_entry, with_next_upstream}
+use Rattle.fleet_pending.specs.Asking.{Joins, waits_already, waits_too, no_place, no_memory_for_place, Opens, is_sent, no_room, no_memory_for_room, with_waiter, new_entry, with_next_upstream}
 use Rattle.fleet_pending.specs.declared.answer.Asked.{Asked}
-use Rattle.fleet_pending.specs.declared.answer.Asked.TheVariants.{Again, Joined, Send}
 use Rattle.fleet_pending.specs.declared.answer.PendingFault.{PendingFault}
-use Rattle.fleet_pending.specs.declared.answer.PendingFault.TheVariants.{Full, WaitersFull, OutOfMemory}
 use Rattle.fleet_name.proofs.Lemmas.{at_set}
 use Rattle.fleet_pending.proofs.Placed.{at_push, at_remove, no_two_set, no_two_push, no_two_remove}
 
@@ -123,29 +120,24 @@ same_keeps o i e f h t p =
 pub joins_keeps : (o : PendingData) (i : ℕ) (e f : EntryData) (w : WaiterData)
     (r : Result Asked PendingFault) → IsPendingData o → At o.entries i e → AsksFor w.question e
     → Joins e w r f → IsPendingData (record o { entries = slice_set o.entries i f })
-joins_keeps o i e f w (Ok Again) h t a j = same_keeps o i e f h t j.1
-joins_keeps o i e f w (Ok Joined) h t a j =
-    let k : IsEntryData f = subst IsEntryData (sym j.2)
-    (join_is_open e w (h.open_ones i e t) a j.0 j.1) in
-    set_keeps o i e f h t (ap (λ x. x.id) j.2) (ap (λ x. x.name) j.2) (ap (λ x. x.rtype) j.2) k
-    (subst (λ x. x.upstream < o.upstreams) (sym j.2) (h.asking i e t))
-joins_keeps o i e f w (Ok (Send upstream id)) h t a j = absurd j
-joins_keeps o i e f w (Err Full) h t a j = absurd j
-joins_keeps o i e f w (Err WaitersFull) h t a j = same_keeps o i e f h t j.2
-joins_keeps o i e f w (Err OutOfMemory) h t a j = same_keeps o i e f h t j.2
+joins_keeps o i e f w r h t a (waits_already waits told same) = same_keeps o i e f h t same
+joins_keeps o i e f w r h t a (waits_too new few told more) =
+    let k : IsEntryData f = subst IsEntryData (sym more)
+    (join_is_open e w (h.open_ones i e t) a new few) in
+    set_keeps o i e f h t (ap (λ x. x.id) more) (ap (λ x. x.name) more) (ap (λ x. x.rtype) more) k
+    (subst (λ x. x.upstream < o.upstreams) (sym more) (h.asking i e t))
+joins_keeps o i e f w r h t a (no_place new many told same) = same_keeps o i e f h t same
+joins_keeps o i e f w r h t a (no_memory_for_place new few told same) =
+    same_keeps o i e f h t same
 
 pub opens_keeps : (o : PendingData) (w : WaiterData) (moment word : ℕ)
     (r : Result Asked PendingFault) (fs : List EntryData) → IsPendingData o
     → NoneIs (AsksFor w.question) o.entries → Opens o.entries w moment word r fs
     → IsPendingData (record o { entries = fs })
-opens_keeps o w moment word (Ok Again) fs h n p = absurd p
-opens_keeps o w moment word (Ok Joined) fs h n p = absurd p
-opens_keeps o w moment word (Ok (Send upstream id)) fs h n p =
-    let free : IsFirstFree word o.entries id = p.2 in
-    subst (λ xs. IsPendingData (record o { entries = xs })) (sym p.3)
-    (push_keeps o (new_entry w moment id) h free.free n p.0 (new_is_open w moment id) h.some)
-opens_keeps o w moment word (Err Full) fs h n p =
-    subst (λ xs. IsPendingData (record o { entries = xs })) (sym p.1) h
-opens_keeps o w moment word (Err WaitersFull) fs h n p = absurd p
-opens_keeps o w moment word (Err OutOfMemory) fs h n p =
-    subst (λ xs. IsPendingData (record o { entries = xs })) (sym p.1) h
+opens_keeps o w moment word r fs h n (is_sent id few free told more) =
+    subst (λ xs. IsPendingData (record o { entries = xs })) (sym more)
+    (push_keeps o (new_entry w moment id) h free.free n few (new_is_open w moment id) h.some)
+opens_keeps o w moment word r fs h n (no_room many told same) =
+    subst (λ xs. IsPendingData (record o { entries = xs })) (sym same) h
+opens_keeps o w moment word r fs h n (no_memory_for_room few told same) =
+    subst (λ xs. IsPendingData (record o { entries = xs })) (sym same) h

@@ -6,10 +6,10 @@ use Rattle.std.proofs.lemmas.List.Concat.{flat_map-append}
 use Rattle.fleet_name.specs.Places.{At}
 use Rattle.fleet_pending.specs.Waiter.{WaiterData}
 use Rattle.fleet_pending.specs.PendingData.{EntryData, PendingData}
-use Rattle.fleet_pending.specs.Asking.{Joins, Opens, joins, opens, new_entry, with_next_upstream}
+use Rattle.fleet_pending.specs.Asking.{Joins, waits_already, waits_too, no_place, no_memory_for_place, Opens, is_sent, no_room, no_memory_for_room, joins, opens, new_entry, with_next_upstream}
 use Rattle.fleet_pending.specs.Calls.{Call, ask, settle, advance, clear, Does, Run, waiters_accepted, waiters_returned, waiters_cleared, open_waiters, EachAsOften}
 use Rattle.fleet_pending.specs.declared.answer.Asked.{Asked}
-use Rattle.fleet_pending.specs.declared.answer.Asked.TheVariants.{Again, Joined, Send}
+use Rattle.fleet_pending.specs.declared.answer.Asked.TheVariants.{Again}
 use Rattle.fleet_pending.specs.declared.answer.PendingFault.{PendingFault}
 use Rattle.fleet_pending.specs.declared.answer.PendingFault.TheVariants.{Full, WaitersFull, OutOfMemory}
 
@@ -63,56 +63,62 @@ count_push test es f =
     let z : count_by test [] ≡ 0 = refl in
     omega (arith, a, b, d, z)
 
+-- how many of those that a call accepted pass a test, where this was answered
+abbrev accepted : (WaiterData → Bool) → WaiterData → ℕ → ℕ → Result Asked PendingFault → ℕ
+accepted test w moment word r = count_by test (waiters_accepted (ask w moment word r))
+
 join_step : (test : WaiterData → Bool) (es : List EntryData) (i moment word : ℕ) (e f : EntryData)
     (w : WaiterData) (r : Result Asked PendingFault) → At es i e → Joins e w r f
     → in_all test es + count_by test (waiters_accepted (ask w moment word r)) ≡ in_all test
     (slice_set es i f)
-join_step test es i moment word e f w (Ok Again) t j =
-    let s = count_set test es i e f t in
-    let d : count_by test f.waiters ≡ count_by test e.waiters =
-    ap (λ v. count_by test v.waiters) j.1 in
-    let z : count_by test [] ≡ 0 = refl in
-    omega (arith, s, d, z)
-join_step test es i moment word e f w (Ok Joined) t j =
-    let s = count_set test es i e f t in
-    let d : count_by test f.waiters ≡ count_by test (e.waiters ++ w ∷ []) =
-    ap (λ v. count_by test v.waiters) j.2 in
-    let a = count-append test e.waiters (w ∷ []) in
-    omega (arith, s, d, a)
-join_step test es i moment word e f w (Ok (Send u id)) t j = absurd j
-join_step test es i moment word e f w (Err Full) t j = absurd j
-join_step test es i moment word e f w (Err WaitersFull) t j =
-    let s = count_set test es i e f t in
-    let d : count_by test f.waiters ≡ count_by test e.waiters =
-    ap (λ v. count_by test v.waiters) j.2 in
-    let z : count_by test [] ≡ 0 = refl in
-    omega (arith, s, d, z)
-join_step test es i moment word e f w (Err OutOfMemory) t j =
-    let s = count_set test es i e f t in
-    let d : count_by test f.waiters ≡ count_by test e.waiters =
-    ap (λ v. count_by test v.waiters) j.2 in
-    let z : count_by test [] ≡ 0 = refl in
-    omega (arith, s, d, z)
+join_step test es i moment word e f w r t j = go j
+  where
+    s : in_all test (slice_set es i f) + count_by test e.waiters ≡ in_all test es + count_by test
+        f.waiters
+    s = count_set test es i e f t
+
+    kept : (x : Result Asked PendingFault) → accepted test w moment word x ≡ 0 → r ≡ x → f ≡ e
+        → in_all test es + accepted test w moment word r ≡ in_all test (slice_set es i f)
+    kept x none told same =
+        let a = ap (accepted test w moment word) told in
+        let d : count_by test f.waiters ≡ count_by test e.waiters =
+        ap (λ v. count_by test v.waiters) same in
+        omega (arith, s, a, d, none)
+
+    go : Joins e w r f
+        → in_all test es + accepted test w moment word r ≡ in_all test (slice_set es i f)
+    go (waits_already waits told same) = kept (Ok Again) refl told same
+    go (waits_too new few told more) =
+        let k = ap (accepted test w moment word) told in
+        let d : count_by test f.waiters ≡ count_by test (e.waiters ++ w ∷ []) =
+        ap (λ v. count_by test v.waiters) more in
+        let a = count-append test e.waiters (w ∷ []) in
+        omega (arith, s, k, d, a)
+    go (no_place new many told same) = kept (Err WaitersFull) refl told same
+    go (no_memory_for_place new few told same) = kept (Err OutOfMemory) refl told same
 
 open_step : (test : WaiterData → Bool) (es fs : List EntryData) (moment word : ℕ) (w : WaiterData)
     (r : Result Asked PendingFault) → Opens es w moment word r fs
     → in_all test es + count_by test (waiters_accepted (ask w moment word r)) ≡ in_all test fs
-open_step test es fs moment word w (Ok Again) j = absurd j
-open_step test es fs moment word w (Ok Joined) j = absurd j
-open_step test es fs moment word w (Ok (Send u id)) j =
-    let s = count_push test es (new_entry w moment id) in
-    let d : in_all test fs ≡ in_all test (es ++ new_entry w moment id ∷ []) =
-    ap (in_all test) j.3 in
-    omega (arith, s, d)
-open_step test es fs moment word w (Err WaitersFull) j = absurd j
-open_step test es fs moment word w (Err Full) j =
-    let d : in_all test fs ≡ in_all test es = ap (in_all test) j.1 in
-    let z : count_by test [] ≡ 0 = refl in
-    omega (arith, d, z)
-open_step test es fs moment word w (Err OutOfMemory) j =
-    let d : in_all test fs ≡ in_all test es = ap (in_all test) j.1 in
-    let z : count_by test [] ≡ 0 = refl in
-    omega (arith, d, z)
+open_step test es fs moment word w r j = go j
+  where
+    kept : (x : Result Asked PendingFault) → accepted test w moment word x ≡ 0 → r ≡ x → fs ≡ es
+        → in_all test es + accepted test w moment word r ≡ in_all test fs
+    kept x none told same =
+        let a = ap (accepted test w moment word) told in
+        let d : in_all test fs ≡ in_all test es = ap (in_all test) same in
+        omega (arith, a, d, none)
+
+    go : Opens es w moment word r fs
+        → in_all test es + accepted test w moment word r ≡ in_all test fs
+    go (is_sent id few free told more) =
+        let k = ap (accepted test w moment word) told in
+        let s = count_push test es (new_entry w moment id) in
+        let d : in_all test fs ≡ in_all test (es ++ new_entry w moment id ∷ []) =
+        ap (in_all test) more in
+        omega (arith, k, s, d)
+    go (no_room many told same) = kept (Err Full) refl told same
+    go (no_memory_for_room few told same) = kept (Err OutOfMemory) refl told same
 
 abbrev all_open : (WaiterData → Bool) → PendingData → ℕ
 all_open test o = count_by test (open_waiters o)

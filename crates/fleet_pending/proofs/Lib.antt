@@ -9,5 +9,6 @@ pub mod Refused
 pub mod Settled
 pub mod NewEntry
 pub mod Waiting
+pub mod Sent
 pub mod DueCount
 pub mod Unchanged

@@ -8,6 +8,7 @@ use Rattle.fleet_pending.specs.NewEntry.{IsNew, OpensLast}
 use Rattle.fleet_pending.specs.PendingData.{EntryData, PendingData, UsesId}
 use Rattle.fleet_name.specs.Places.{At, NoneIs}
 use Rattle.fleet_pending.proofs.Placed.{at_push, last_at}
+use Rattle.fleet_pending.proofs.Sent.{joins_not_sent, opens_sent}
 
 alone_at : (es : List EntryData) (x : EntryData) (i : ℕ) (e : EntryData) → NoneIs (UsesId x.id) es
     → At (es ++ x ∷ []) i e → UsesId x.id e → e ≡ x
@@ -44,8 +45,10 @@ is_new o n w moment id free last = record {
         sym (same_Some w v b)
 
 pub opens_last : OpensLast
-opens_last o n w moment word u id (joins i e f t a j q) = absurd j
+opens_last o n w moment word u id (joins i e f t a j q) =
+    absurd (joins_not_sent e f w u id j)
 opens_last o n w moment word u id (opens fs a j q) =
-    let free : IsFirstFree word o.entries id = j.2 in
-    subst (λ v. IsNew o n w moment v id) (sym j.1)
-    (is_new o n w moment id free.free (q ∙ ap (λ xs. record o { entries = xs }) j.3))
+    let sent = opens_sent o.entries fs w moment word u id j in
+    let free : IsFirstFree word o.entries id = sent.1 in
+    subst (λ v. IsNew o n w moment v id) (sym sent.0)
+    (is_new o n w moment id free.free (q ∙ ap (λ xs. record o { entries = xs }) sent.2))

@@ -1,60 +1,59 @@
 -- Where a waiter is refused.
-use Rattle.std.proofs.Common.{◌≡◌, ℕ, ◌<◌, ◌≤◌, List, Result, Ok, Err, length, refl, sym, ◌∙◌, subst, arith}
+use Rattle.std.proofs.Common.{◌≡◌, ℕ, ◌≤◌, List, Result, Err, length, sym, ◌∙◌, subst, arith}
 use Rattle.fleet_name.specs.Places.{At}
 use Rattle.fleet_pending.specs.declared.bounds.TheConstants.{MOST_ENTRIES, MOST_WAITERS}
 use Rattle.fleet_pending.specs.Waiter.{WaiterData, Waits}
 use Rattle.fleet_pending.specs.PendingData.{EntryData}
 use Rattle.fleet_pending.specs.Refusal.{NoPlace, RefusesExactly}
-use Rattle.fleet_pending.specs.Asking.{Joins, Opens, joins, opens}
+use Rattle.fleet_pending.specs.Asking.{Joins, waits_already, waits_too, no_place, no_memory_for_place, Opens, is_sent, no_room, no_memory_for_room, joins, opens}
 use Rattle.fleet_pending.specs.declared.answer.Asked.{Asked}
-use Rattle.fleet_pending.specs.declared.answer.Asked.TheVariants.{Again, Joined, Send}
 use Rattle.fleet_pending.specs.declared.answer.PendingFault.{PendingFault}
-use Rattle.fleet_pending.specs.declared.answer.PendingFault.TheVariants.{Full, WaitersFull, OutOfMemory}
+use Rattle.fleet_pending.specs.declared.answer.PendingFault.TheVariants.{Full, WaitersFull}
 use Rattle.fleet_name.proofs.Lemmas.{at_same}
 
 -- of an entry that has the question: not full
 join_full : (e f : EntryData) (w : WaiterData) (r : Result Asked PendingFault) → Joins e w r f
     → r ≡ Err Full → ⊥
-join_full e f w r j p = subst (λ x. Joins e w x f) p j
+join_full e f w r (waits_already waits told same) p = cc
+join_full e f w r (waits_too new few told more) p = cc
+join_full e f w r (no_place new many told same) p = cc
+join_full e f w r (no_memory_for_place new few told same) p = cc
 
 join_waiters : (e f : EntryData) (w : WaiterData) (r : Result Asked PendingFault) → Joins e w r f
     → r ≡ Err WaitersFull → (Waits w e.waiters → ⊥) × (MOST_WAITERS ≤ length e.waiters)
-join_waiters e f w r j p =
-    let k : Joins e w (Err WaitersFull) f = subst (λ x. Joins e w x f) p j in (k.0, k.1)
+join_waiters e f w r (waits_already waits told same) p = cc
+join_waiters e f w r (waits_too new few told more) p = cc
+join_waiters e f w r (no_place new many told same) p = (new, many)
+join_waiters e f w r (no_memory_for_place new few told same) p = cc
 
 join_refused : (e f : EntryData) (w : WaiterData) (r : Result Asked PendingFault) → Joins e w r f
     → (Waits w e.waiters → ⊥) → MOST_WAITERS ≤ length e.waiters → r ≡ Err WaitersFull
-join_refused e f w (Ok Again) j n l = absurd (n j.0)
-join_refused e f w (Ok Joined) j n l =
-    let m : length e.waiters < MOST_WAITERS = j.1 in absurd (omega arith)
-join_refused e f w (Ok (Send upstream id)) j n l = absurd j
-join_refused e f w (Err Full) j n l = absurd j
-join_refused e f w (Err WaitersFull) j n l = refl
-join_refused e f w (Err OutOfMemory) j n l =
-    let m : length e.waiters < MOST_WAITERS = j.1 in absurd (omega arith)
+join_refused e f w r (waits_already waits told same) n l = absurd (n waits)
+join_refused e f w r (waits_too new few told more) n l = absurd (omega (arith, few, l))
+join_refused e f w r (no_place new many told same) n l = told
+join_refused e f w r (no_memory_for_place new few told same) n l = absurd (omega (arith, few, l))
 
 open_full : (es fs : List EntryData) (w : WaiterData) (moment word : ℕ)
     (r : Result Asked PendingFault) → Opens es w moment word r fs → r ≡ Err Full
     → MOST_ENTRIES ≤ length es
-open_full es fs w moment word r j p =
-    let k : Opens es w moment word (Err Full) fs = subst (λ x. Opens es w moment word x fs) p j in
-    k.0
+open_full es fs w moment word r (is_sent id few free told more) p = cc
+open_full es fs w moment word r (no_room many told same) p = many
+open_full es fs w moment word r (no_memory_for_room few told same) p = cc
 
 open_waiters : (es fs : List EntryData) (w : WaiterData) (moment word : ℕ)
     (r : Result Asked PendingFault) → Opens es w moment word r fs → r ≡ Err WaitersFull → ⊥
-open_waiters es fs w moment word r j p = subst (λ x. Opens es w moment word x fs) p j
+open_waiters es fs w moment word r (is_sent id few free told more) p = cc
+open_waiters es fs w moment word r (no_room many told same) p = cc
+open_waiters es fs w moment word r (no_memory_for_room few told same) p = cc
 
 open_refused : (es fs : List EntryData) (w : WaiterData) (moment word : ℕ)
     (r : Result Asked PendingFault) → Opens es w moment word r fs → MOST_ENTRIES ≤ length es
     → r ≡ Err Full
-open_refused es fs w moment word (Ok Again) j l = absurd j
-open_refused es fs w moment word (Ok Joined) j l = absurd j
-open_refused es fs w moment word (Ok (Send upstream id)) j l =
-    let m : length es < MOST_ENTRIES = j.0 in absurd (omega arith)
-open_refused es fs w moment word (Err Full) j l = refl
-open_refused es fs w moment word (Err WaitersFull) j l = absurd j
-open_refused es fs w moment word (Err OutOfMemory) j l =
-    let m : length es < MOST_ENTRIES = j.0 in absurd (omega arith)
+open_refused es fs w moment word r (is_sent id few free told more) l =
+    absurd (omega (arith, few, l))
+open_refused es fs w moment word r (no_room many told same) l = told
+open_refused es fs w moment word r (no_memory_for_room few told same) l =
+    absurd (omega (arith, few, l))
 
 pub refuses_exactly : RefusesExactly
 refuses_exactly o n w moment word r h (joins i e f t a j q) = record {

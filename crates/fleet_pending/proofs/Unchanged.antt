@@ -1,24 +1,24 @@
 -- What a waiter that was not taken leaves.
 use Rattle.std.proofs.Common.{◌≡◌, ℕ, List, Result, Ok, Err, OnErr, slice_set, ◌∙◌, ap}
 use Rattle.fleet_pending.specs.Waiter.{WaiterData}
-use Rattle.fleet_pending.specs.Asking.{Asks, Joins, Opens, joins, opens, ask_result}
+use Rattle.fleet_pending.specs.Asking.{Asks, Joins, waits_already, waits_too, no_place, no_memory_for_place, Opens, is_sent, no_room, no_memory_for_room, joins, opens, ask_result}
 use Rattle.fleet_pending.specs.PendingData.{EntryData, PendingData}
 use Rattle.fleet_name.proofs.Lemmas.{set_same}
 use Rattle.fleet_pending.specs.declared.answer.Asked.{Asked}
 use Rattle.fleet_pending.specs.declared.answer.PendingFault.{PendingFault}
-use Rattle.fleet_pending.specs.declared.answer.PendingFault.TheVariants.{Full, WaitersFull, OutOfMemory}
 use Rattle.fleet_pending.specs.declared.answer.Unasked.{Unasked}
 
 not_joined : (e f : EntryData) (w : WaiterData) (x : PendingFault) → Joins e w (Err x) f → f ≡ e
-not_joined e f w Full j = absurd j
-not_joined e f w WaitersFull j = j.2
-not_joined e f w OutOfMemory j = j.2
+not_joined e f w x (waits_already waits told same) = same
+not_joined e f w x (waits_too new few told more) = cc
+not_joined e f w x (no_place new many told same) = same
+not_joined e f w x (no_memory_for_place new few told same) = same
 
 not_opened : (es fs : List EntryData) (w : WaiterData) (moment word : ℕ) (x : PendingFault)
     → Opens es w moment word (Err x) fs → fs ≡ es
-not_opened es fs w moment word Full j = j.1
-not_opened es fs w moment word WaitersFull j = absurd j
-not_opened es fs w moment word OutOfMemory j = j.1
+not_opened es fs w moment word x (is_sent id few free told more) = cc
+not_opened es fs w moment word x (no_room many told same) = same
+not_opened es fs w moment word x (no_memory_for_room few told same) = same
 
 not_asked : (o n : PendingData) (w : WaiterData) (moment word : ℕ) (x : PendingFault)
     → Asks o w moment word (Err x) n → n ≡ o

@@ -7,6 +7,7 @@ use Rattle.fleet_pending.specs.PendingData.{EntryData, PendingData, UsesId}
 use Rattle.fleet_pending.specs.Asking.{Settles, joins, opens, new_entry}
 use Rattle.fleet_pending.specs.Undone.{IsUndone}
 use Rattle.fleet_pending.proofs.Placed.{at_push, last_at}
+use Rattle.fleet_pending.proofs.Sent.{joins_not_sent, opens_sent}
 
 remove_last : {X : Type 0} (xs : List X) (y : X) → remove (xs ++ y ∷ []) (length xs) ≡ xs
 remove_last [] y = refl
@@ -28,9 +29,11 @@ settles_last o m id x (Some e) f p s = go (at_push o.entries s.0 x e s.1)
     )
 
 pub is_undone : IsUndone
-is_undone o n m w moment word u id r (joins i e f t a j q) s = absurd j
+is_undone o n m w moment word u id r (joins i e f t a j q) s =
+    absurd (joins_not_sent e f w u id j)
 is_undone o n m w moment word u id r (opens fs a j q) s =
-    let free : IsFirstFree word o.entries id = j.2 in
+    let sent = opens_sent o.entries fs w moment word u id j in
+    let free : IsFirstFree word o.entries id = sent.1 in
     let p : n ≡ record o { entries = o.entries ++ new_entry w moment id ∷ [] } =
-    q ∙ ap (λ xs. record o { entries = xs }) j.3 in
+    q ∙ ap (λ xs. record o { entries = xs }) sent.2 in
     settles_last o m id (new_entry w moment id) r free.free refl (subst (λ v. Settles v id r m) p s)

@@ -1,16 +1,14 @@
 -- Who waits, over the calls that change a table.
-use Rattle.std.proofs.Common.{◌≡◌, ℕ, zero, suc, ◌⊎◌, inl, inr, Bool, true, false, List, [], ◌∷◌, ◌++◌, Option, Some, None, Result, Ok, Err, length, slice_set, sym, subst, ◌≢◌}
+use Rattle.std.proofs.Common.{◌≡◌, ℕ, zero, suc, ◌⊎◌, inl, inr, Bool, true, false, List, [], ◌∷◌, ◌++◌, Option, Some, None, Result, length, slice_set, sym, subst, ◌≢◌}
 use Rattle.std.specs.List.{remove}
 use Rattle.std.proofs.lemmas.Option.{same_Some}
 use Rattle.fleet_pending.specs.Waiter.{WaiterData}
-use Rattle.fleet_pending.specs.Asking.{Asks, Joins, Opens, Settles, Advances, joins, opens, new_entry, with_next_upstream}
+use Rattle.fleet_pending.specs.Asking.{Asks, Joins, waits_already, waits_too, no_place, no_memory_for_place, Opens, is_sent, no_room, no_memory_for_room, Settles, Advances, joins, opens, new_entry, with_next_upstream}
 use Rattle.fleet_pending.specs.PendingData.{EntryData, PendingData}
 use Rattle.fleet_name.specs.Places.{At}
 use Rattle.fleet_pending.specs.Waiting.{IsWaiting, WaitersStay}
 use Rattle.fleet_pending.specs.declared.answer.Asked.{Asked}
-use Rattle.fleet_pending.specs.declared.answer.Asked.TheVariants.{Again, Joined, Send}
 use Rattle.fleet_pending.specs.declared.answer.PendingFault.{PendingFault}
-use Rattle.fleet_pending.specs.declared.answer.PendingFault.TheVariants.{Full, WaitersFull, OutOfMemory}
 use Rattle.fleet_name.proofs.Lemmas.{at_set}
 use Rattle.fleet_pending.proofs.Placed.{at_push, at_remove}
 
@@ -23,14 +21,12 @@ same_from e f w p i v t = inl (i, subst (λ x. At x.waiters i v) p t)
 
 join_from : (e f : EntryData) (w : WaiterData) (r : Result Asked PendingFault) → Joins e w r f
     → From e f w
-join_from e f w (Ok Again) j = same_from e f w j.1
-join_from e f w (Ok Joined) j =
-    λ i v t. elim (at_push e.waiters i w v (subst (λ x. At x.waiters i v) j.2 t))
+join_from e f w r (waits_already waits told same) = same_from e f w same
+join_from e f w r (waits_too new few told more) =
+    λ i v t. elim (at_push e.waiters i w v (subst (λ x. At x.waiters i v) more t))
     [ inl a ↦ inl (i, a) | inr a ↦ inr a.1 ]
-join_from e f w (Ok (Send u id)) j = absurd j
-join_from e f w (Err Full) j = absurd j
-join_from e f w (Err WaitersFull) j = same_from e f w j.2
-join_from e f w (Err OutOfMemory) j = same_from e f w j.2
+join_from e f w r (no_place new many told same) = same_from e f w same
+join_from e f w r (no_memory_for_place new few told same) = same_from e f w same
 
 waits_at : (o : PendingData) (i : ℕ) (e : EntryData) (v : WaiterData) → At o.entries i e
     → (j : ℕ) × At e.waiters j v → IsWaiting o v
@@ -69,15 +65,12 @@ push_waits o w v moment id h =
 open_waits : (o : PendingData) (w v : WaiterData) (moment word : ℕ) (r : Result Asked PendingFault)
     (fs : List EntryData) → Opens o.entries w moment word r fs
     → IsWaiting (record o { entries = fs }) v → IsWaiting o v ⊎ (v ≡ w)
-open_waits o w v moment word (Ok Again) fs p h = absurd p
-open_waits o w v moment word (Ok Joined) fs p h = absurd p
-open_waits o w v moment word (Ok (Send u id)) fs p h =
-    push_waits o w v moment id (subst (λ xs. IsWaiting (record o { entries = xs }) v) p.3 h)
-open_waits o w v moment word (Err Full) fs p h =
-    inl (subst (λ xs. IsWaiting (record o { entries = xs }) v) p.1 h)
-open_waits o w v moment word (Err WaitersFull) fs p h = absurd p
-open_waits o w v moment word (Err OutOfMemory) fs p h =
-    inl (subst (λ xs. IsWaiting (record o { entries = xs }) v) p.1 h)
+open_waits o w v moment word r fs (is_sent id few free told more) h =
+    push_waits o w v moment id (subst (λ xs. IsWaiting (record o { entries = xs }) v) more h)
+open_waits o w v moment word r fs (no_room many told same) h =
+    inl (subst (λ xs. IsWaiting (record o { entries = xs }) v) same h)
+open_waits o w v moment word r fs (no_memory_for_room few told same) h =
+    inl (subst (λ xs. IsWaiting (record o { entries = xs }) v) same h)
 
 ask_waits : (o n : PendingData) (w v : WaiterData) (moment word : ℕ) (r : Result Asked PendingFault)
     → Asks o w moment word r n → IsWaiting n v → IsWaiting o v ⊎ (v ≡ w)

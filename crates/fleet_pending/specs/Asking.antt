@@ -36,27 +36,24 @@ with_next_upstream e moment =
     record e { upstream = e.upstream + 1; deadline = moment + TRY_SECONDS }
 
 -- the waiter meets an entry for its question
-abbrev pub Joins : EntryData → WaiterData → Result Asked PendingFault → EntryData → Type 0
-Joins e w (Ok Again) f = Waits w e.waiters × (f ≡ e)
-Joins e w (Ok Joined) f =
-    (Waits w e.waiters → ⊥) × (length e.waiters < MOST_WAITERS) × (f ≡ with_waiter e w)
-Joins e w (Ok (Send upstream id)) f = ⊥
-Joins e w (Err Full) f = ⊥
-Joins e w (Err WaitersFull) f =
-    (Waits w e.waiters → ⊥) × (MOST_WAITERS ≤ length e.waiters) × (f ≡ e)
-Joins e w (Err OutOfMemory) f =
-    (Waits w e.waiters → ⊥) × (length e.waiters < MOST_WAITERS) × (f ≡ e)
+pub data Joins (e : EntryData) (w : WaiterData) (r : Result Asked PendingFault) (f : EntryData)
+    : Type 0 where
+  waits_already : Waits w e.waiters → r ≡ Ok Again → f ≡ e → Joins e w r f
+  waits_too : (Waits w e.waiters → ⊥) → length e.waiters < MOST_WAITERS → r ≡ Ok Joined
+      → f ≡ with_waiter e w → Joins e w r f
+  no_place : (Waits w e.waiters → ⊥) → MOST_WAITERS ≤ length e.waiters → r ≡ Err WaitersFull
+      → f ≡ e → Joins e w r f
+  no_memory_for_place : (Waits w e.waiters → ⊥) → length e.waiters < MOST_WAITERS
+      → r ≡ Err OutOfMemory → f ≡ e → Joins e w r f
 
--- the waiter's question is new
-abbrev pub Opens : List EntryData → WaiterData → ℕ → ℕ → Result Asked PendingFault
-    → List EntryData → Type 0
-Opens es w moment word (Ok Again) fs = ⊥
-Opens es w moment word (Ok Joined) fs = ⊥
-Opens es w moment word (Ok (Send upstream id)) fs = (length es < MOST_ENTRIES) × (upstream ≡ 0)
-    × IsFirstFree word es id × (fs ≡ es ++ new_entry w moment id ∷ [])
-Opens es w moment word (Err Full) fs = (MOST_ENTRIES ≤ length es) × (fs ≡ es)
-Opens es w moment word (Err WaitersFull) fs = ⊥
-Opens es w moment word (Err OutOfMemory) fs = (length es < MOST_ENTRIES) × (fs ≡ es)
+-- the waiter's question is new: it goes to the first upstream
+pub data Opens (es : List EntryData) (w : WaiterData) (moment word : ℕ)
+    (r : Result Asked PendingFault) (fs : List EntryData) : Type 0 where
+  is_sent : (id : ℕ) → length es < MOST_ENTRIES → IsFirstFree word es id → r ≡ Ok (Send 0 id)
+      → fs ≡ es ++ new_entry w moment id ∷ [] → Opens es w moment word r fs
+  no_room : MOST_ENTRIES ≤ length es → r ≡ Err Full → fs ≡ es → Opens es w moment word r fs
+  no_memory_for_room : length es < MOST_ENTRIES → r ≡ Err OutOfMemory → fs ≡ es
+      → Opens es w moment word r fs
 
 -- a waiter asks: there is an entry for its question, or it is new
 pub data Asks (o : PendingData) (w : WaiterData) (moment word : ℕ) (r : Result Asked PendingFault)
