@@ -46,7 +46,7 @@ pub data Joins (e : EntryData) (w : WaiterData) (r : Result Asked PendingFault) 
   no_memory_for_place : (Waits w e.waiters → ⊥) → length e.waiters < MOST_WAITERS
       → r ≡ Err OutOfMemory → f ≡ e → Joins e w r f
 
--- the waiter's question is new: it goes to the first upstream
+-- the waiter's question is new: where there is room for it, it goes to the first upstream
 pub data Opens (es : List EntryData) (w : WaiterData) (moment word : ℕ)
     (r : Result Asked PendingFault) (fs : List EntryData) : Type 0 where
   is_sent : (id : ℕ) → length es < MOST_ENTRIES → IsFirstFree word es id → r ≡ Ok (Send 0 id)
