@@ -262,12 +262,6 @@ impl<A: Allocator> Cache<A> {
         )
     }
 
-    /// How many fronts are in memory, also those of which all has ended.
-    #[cfg(test)]
-    pub(crate) fn fronts(&self) -> usize {
-        self.fronts.len()
-    }
-
     /// Takes a copy of an observation in.
     fn take_copy(&mut self, observation: &Observation<A>) -> Result<bool, AllocError>
     where

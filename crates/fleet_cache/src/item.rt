@@ -11,9 +11,10 @@ use std::alloc::{Allocator, Global};
 use std::cmp::Ordering;
 use std::marker::Model;
 
-/// One observation of a cache.
+/// An observation as a front ranks it: by its preference, and hidden from the moment at which it
+/// ends.
 #[derive(Drop)]
-pub(crate) struct Item<A: Allocator = Global> {
+pub struct Item<A: Allocator = Global> {
     observation: Observation<A>,
 }
 
@@ -27,14 +28,14 @@ impl<A: Allocator> Model for Item<A> {
 
 impl<A: Allocator> Item<A> {
     /// This observation.
-    pub(crate) fn new(observation: Observation<A>) -> Item<A>
+    pub fn new(observation: Observation<A>) -> Item<A>
         ensures { result ≡ observation }
     {
         Item { observation }
     }
 
     /// The observation.
-    pub(crate) fn observation(&self) -> &Observation<A>
+    pub fn observation(&self) -> &Observation<A>
         ensures { result.now ≡ self.now }
     {
         &self.observation

@@ -12,8 +12,6 @@ mod item;
 mod items;
 mod laws;
 mod lookup;
-#[cfg(test)]
-mod rows;
 mod shown;
 mod store;
 mod sweep;
@@ -21,6 +19,7 @@ mod words;
 
 pub use answer::{Answer, Chain};
 pub use cache::{Cache, Stopped};
+pub use item::Item;
 pub use items::Items;
 pub use laws::{
     answers_are_paths, caches_exist, dominance, merges, one_answer, one_cache, tests_hold,

@@ -17,12 +17,6 @@ mod laws;
 mod name;
 mod packer;
 mod reader;
-#[cfg(test)]
-mod second_entries;
-#[cfg(test)]
-mod sites;
-#[cfg(test)]
-mod tests;
 mod writer;
 
 pub use fault::FrameFault;

@@ -6,8 +6,6 @@ mod fault;
 mod laws;
 mod name;
 mod octets;
-#[cfg(test)]
-mod tests;
 mod text;
 
 pub use fault::NameFault;

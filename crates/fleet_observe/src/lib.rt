@@ -7,8 +7,6 @@ mod laws;
 mod observation;
 pub mod rank;
 mod reply;
-#[cfg(test)]
-mod tests;
 
 pub use bounds::{LONGEST_BODY, LONGEST_DENIAL, LONGEST_LIFE};
 pub use laws::{each_once, meaning_or_fault, one_key, one_meaning, one_walk};

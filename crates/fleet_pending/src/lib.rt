@@ -10,8 +10,6 @@ mod entry;
 mod laws;
 mod pending;
 mod search;
-#[cfg(test)]
-mod tests;
 mod waiter;
 mod waiters;
 

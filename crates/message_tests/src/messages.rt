@@ -3,13 +3,8 @@
 ghost use Rattle.std.specs.Prelude.{◌+◌, ◌≤◌, length};
 
 use crate::captures::ALIASES;
-use crate::fault::ReadFault;
-use crate::outline::Outline;
-use crate::plain::plain_rdata;
-use crate::query::read_query;
-use crate::reply::read_reply;
-use crate::writer::write_reply;
 use fleet_name::Name;
+use fleet_wire::{Outline, ReadFault, plain_rdata, read_query, read_reply, write_reply};
 use std::test::Fail;
 
 /// A message with the octets from a place on replaced.

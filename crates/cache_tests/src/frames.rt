@@ -1,6 +1,6 @@
 //! Frames that are read, refused, written and packed.
 
-use crate::{FrameFault, decode, encode, pack, sweep};
+use fleet_gossip::{FrameFault, decode, encode, pack, sweep};
 use fleet_cache::Cache;
 use fleet_observe::{Kind, Observation};
 use std::alloc::{AllocError, Global};

@@ -1,6 +1,6 @@
 //! The faults of a frame, each in its second entry.
 
-use crate::{FrameFault, decode};
+use fleet_gossip::{FrameFault, decode};
 use std::alloc::{AllocError, Global};
 use std::test::Fail;
 

@@ -1,6 +1,6 @@
 //! What caches of several sites hold after frames went between them.
 
-use crate::{decode, sweep};
+use fleet_gossip::{decode, sweep};
 use fleet_cache::Cache;
 use fleet_observe::Moment;
 use std::alloc::Global;

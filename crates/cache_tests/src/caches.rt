@@ -1,7 +1,6 @@
 //! Small caches, and what they answer.
 
-use crate::item::Item;
-use crate::{Answer, Cache};
+use fleet_cache::{Answer, Cache, Item};
 use fleet_front::Front;
 use fleet_name::{Name, Octets};
 use fleet_observe::{Moment, Observation, Soa};

@@ -4,7 +4,7 @@
 
 use super::messages::MESSAGES;
 use super::{arrival, at, frame_event, local, octets};
-use crate::{Event, Stepped, World};
+use fleet_world::{Event, Stepped, World};
 use fleet_gossip::FrameFault;
 use fleet_observe::DigestFault;
 use fleet_site::{Config, Refusal};

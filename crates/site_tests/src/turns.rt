@@ -2,7 +2,7 @@
 
 ghost use Rattle.rand_core.specs.Steps.{stream_of, steps_u32};
 
-use crate::{Config, ListClock, MemoryPort, Note, Port, Report, Site, serve};
+use fleet_site::{Config, ListClock, MemoryPort, Note, Port, Report, Site, serve};
 use fleet_name::Octets;
 use fleet_observe::Moment;
 use fleet_pending::Addr;

@@ -1,6 +1,6 @@
 //! Names and octets made with ample memory.
 
-use crate::{Name, NameFault, Octets, is_lower, suffix_in};
+use fleet_name::{Name, NameFault, Octets, is_lower, suffix_in};
 use std::alloc::Global;
 use std::cmp::Ordering;
 use std::test::Fail;

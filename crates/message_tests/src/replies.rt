@@ -1,6 +1,6 @@
 //! Replies as octets, and what they tell.
 
-use crate::{DigestFault, End, Kind, Moment, Observation, digest, observations, relay};
+use fleet_observe::{DigestFault, End, Kind, Moment, Observation, digest, observations, relay};
 use fleet_wire::{read_query, read_reply};
 use std::alloc::Global;
 use std::test::Fail;

@@ -1,6 +1,6 @@
 //! Rows of calls with their answers.
 
-use crate::{Addr, Asked, Due, Pending, PendingFault, Waiter, Waiters};
+use fleet_pending::{Addr, Asked, Due, Pending, PendingFault, Waiter, Waiters};
 use fleet_observe::Moment;
 use fleet_wire::{Question, read_query};
 use std::alloc::Global;

@@ -1,0 +1,7 @@
+//! Tests of a site: its calls, and the turns of its server.
+#![tactic(auto)]
+
+#[cfg(test)]
+mod calls;
+#[cfg(test)]
+mod turns;
