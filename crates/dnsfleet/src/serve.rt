@@ -53,26 +53,22 @@ impl<'a> Words<'a> {
     }
 }
 
-/// The options of `serve`. All are required.
-pub fn options<'a>(alloc: Global, command: Command<'a>) -> Result<Command<'a>, AllocError> {
-    let config = Arg::new(alloc, "config")
-        .long("config")
-        .value_name("FILE")
-        .help("The configuration, a TOML file")
-        .required(true)
-        .action(ArgAction::Set);
-    let key = Arg::new(alloc, "key")
-        .long("key")
-        .value_name("HEX")
-        .help("64 hexadecimal digits, from which the identifiers of queries are drawn")
-        .required(true)
-        .action(ArgAction::Set);
-    let turns = Arg::new(alloc, "turns")
-        .long("turns")
-        .value_name("N")
-        .help("How many turns to serve, 1 to 4294967295")
+/// An option that is required, and takes one value.
+fn required<'a>(alloc: Global, name: &'a str, value: &'a str, help: &'a str) -> Arg<'a> {
+    Arg::new(alloc, name)
+        .long(name)
+        .value_name(value)
+        .help(help)
         .required(true)
         .action(ArgAction::Set)
+}
+
+/// The options of `serve`.
+pub fn options<'a>(alloc: Global, command: Command<'a>) -> Result<Command<'a>, AllocError> {
+    let config = required(alloc, "config", "FILE", "The configuration, a TOML file");
+    let help = "64 hexadecimal digits, from which the identifiers of queries are drawn";
+    let key = required(alloc, "key", "HEX", help);
+    let turns = required(alloc, "turns", "N", "How many turns to serve, 1 to 4294967295")
         .value_parser(value_parser!(u32).range(1..));
     command.arg(config)?.arg(key)?.arg(turns)
 }
