@@ -20,7 +20,9 @@ from pathlib import Path
 
 ROOT = Path(__file__).resolve().parent.parent
 
-FILE = "crates/fleet_cache/src/rows.rt"
+CRATE = "crates/cache_tests"
+
+FILE = "src/caches.rt"
 
 TEST = "an_answer_is_read_before_the_cache_changes"
 
@@ -48,13 +50,13 @@ def said_of(change):
         shutil.copy(ROOT / "crates.txt", root)
         shutil.copy(ROOT / "HANDLES", root)
         shutil.copytree(ROOT / "crates", root / "crates", ignore=shutil.ignore_patterns("out"))
-        given = edited((root / FILE).read_text(), change)
+        given = edited((root / CRATE / FILE).read_text(), change)
         if not given:
             return "not found", False
-        (root / FILE).write_text(given[0])
-        ran = subprocess.run(["rt", "try", "--test"], cwd=root / "crates/fleet_cache", capture_output=True, text=True)
+        (root / CRATE / FILE).write_text(given[0])
+        ran = subprocess.run(["rt", "try", "--test"], cwd=root / CRATE, capture_output=True, text=True)
     text = ran.stdout + ran.stderr
-    refused = re.search(rf"^src/rows\.rt:{given[1]}:\d+: error\[borrow-e0502\].*", text, re.M)
+    refused = re.search(rf"^{re.escape(FILE)}:{given[1]}:\d+: error\[borrow-e0502\].*", text, re.M)
     return (refused[0] if refused else (text.strip().splitlines() or [""])[-1]), bool(refused)
 
 
