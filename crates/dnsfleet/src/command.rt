@@ -226,8 +226,7 @@ fn read_arrival<'a>(words: &[&'a str]) -> Result<Step<'a>, What> {
 }
 
 /// The events, as a line begins with them.
-const EVENTS: &str =
-    "sites learn ask show datagram tick sweep frame deliver merge restart same";
+const EVENTS: &str = "sites learn ask show datagram tick sweep frame deliver merge restart same";
 
 /// What is wrong with words that are no line: their number, or the first of them.
 fn word_fault(words: &[&str]) -> What {

@@ -68,8 +68,13 @@ pub fn options<'a>(alloc: Global, command: Command<'a>) -> Result<Command<'a>, A
     let config = required(alloc, "config", "FILE", "The configuration, a TOML file");
     let help = "64 hexadecimal digits, from which the identifiers of queries are drawn";
     let key = required(alloc, "key", "HEX", help);
-    let turns = required(alloc, "turns", "N", "How many turns to serve, 1 to 4294967295")
-        .value_parser(value_parser!(u32).range(1..));
+    let turns = required(
+        alloc,
+        "turns",
+        "N",
+        "How many turns to serve, 1 to 4294967295",
+    )
+    .value_parser(value_parser!(u32).range(1..));
     command.arg(config)?.arg(key)?.arg(turns)
 }
 

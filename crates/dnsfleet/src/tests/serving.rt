@@ -23,28 +23,37 @@ fn run_words(rt: &HostRuntime, words: &str) -> Result<(ExitCode, String, String)
     Ok((code, told.output.into_inner(), told.errors.into_inner()))
 }
 
+/// Words that the program does not take, a line each.
+const NOT_TAKEN: &str = "\
+dnsfleet
+dnsfleet serf
+dnsfleet serve
+dnsfleet serve --key 00 --turns 1
+dnsfleet serve --config / --turns 1
+dnsfleet serve --config / --key 00
+dnsfleet serve --config / --key 00 --turns 0
+dnsfleet serve --config / --key 00 --turns -1
+dnsfleet serve --config / --key 00 --turns one
+dnsfleet serve --config / --key 00 --turns 4294967296
+dnsfleet serve --config / --key 00 --turns 1 --turns 1
+dnsfleet serve --config / --key 00 --turns 1 more
+dnsfleet script more";
+
+/// The program does not take the words.
+fn check_not_taken(stop: &impl Abort, rt: &HostRuntime, words: &str) -> Result<(), Fail> {
+    let (code, output, errors) = run_words(rt, words)?;
+    assert!(stop; code == ExitCode::from(2), "{words}");
+    assert_eq!(stop; output.as_str(), "", "{words}");
+    assert!(stop; errors.starts_with("error: "), "{words}");
+    Ok(())
+}
+
 #[test]
 fn looks_at_its_words_before_its_key(rt: HostRuntime) -> Result<(), Fail> {
-    for words in [
-        "dnsfleet",
-        "dnsfleet serf",
-        "dnsfleet serve",
-        "dnsfleet serve --key 00 --turns 1",
-        "dnsfleet serve --config / --turns 1",
-        "dnsfleet serve --config / --key 00",
-        "dnsfleet serve --config / --key 00 --turns 0",
-        "dnsfleet serve --config / --key 00 --turns -1",
-        "dnsfleet serve --config / --key 00 --turns one",
-        "dnsfleet serve --config / --key 00 --turns 4294967296",
-        "dnsfleet serve --config / --key 00 --turns 1 --turns 1",
-        "dnsfleet serve --config / --key 00 --turns 1 more",
-        "dnsfleet script more",
-    ] {
-        let (code, output, errors) = run_words(&rt, words)?;
-        assert!(rt; code == ExitCode::from(2), "{words}");
-        assert_eq!(rt; output.as_str(), "", "{words}");
-        assert!(rt; errors.starts_with("error: "), "{words}");
+    for words in NOT_TAKEN.lines() {
+        check_not_taken(&rt, &rt, words)?;
     }
+    assert_eq!(rt; NOT_TAKEN.lines().count(), 13);
     Ok(())
 }
 
@@ -78,20 +87,27 @@ fn takes_its_words(rt: HostRuntime) -> Result<(), Fail> {
     check_words(&rt, rt.alloc(), words, ("", "", u32::MAX))
 }
 
+/// The program tells how it is used, with an example.
+fn check_help(stop: &impl Abort, rt: &HostRuntime, words: &str, example: &str) -> Result<(), Fail> {
+    let (code, output, errors) = run_words(rt, words)?;
+    assert!(stop; code == ExitCode::SUCCESS, "{words}");
+    assert!(stop; output.contains(example), "{words}");
+    assert_eq!(stop; errors.as_str(), "", "{words}");
+    Ok(())
+}
+
 #[test]
 fn helps(rt: HostRuntime) -> Result<(), Fail> {
-    for (words, example) in [
-        ("dnsfleet --help", "dnsfleet script < examples/fleet.script"),
-        ("dnsfleet script --help", "  learn 0 100 0001"),
-        ("dnsfleet serve --help", "  listen = \"127.0.0.1:5400\""),
-        ("dnsfleet help serve", "  listen = \"127.0.0.1:5400\""),
-    ] {
-        let (code, output, errors) = run_words(&rt, words)?;
-        assert!(rt; code == ExitCode::SUCCESS, "{words}");
-        assert!(rt; output.contains(example), "{words}");
-        assert_eq!(rt; errors.as_str(), "", "{words}");
-    }
-    Ok(())
+    check_help(
+        &rt,
+        &rt,
+        "dnsfleet --help",
+        "dnsfleet script < examples/fleet.script",
+    )?;
+    check_help(&rt, &rt, "dnsfleet script --help", "  learn 0 100 0001")?;
+    let settings = "  listen = \"127.0.0.1:5400\"";
+    check_help(&rt, &rt, "dnsfleet serve --help", settings)?;
+    check_help(&rt, &rt, "dnsfleet help serve", settings)
 }
 
 /// Runs the program with a key and a configuration that is not readable.
@@ -108,22 +124,27 @@ fn check_run(rt: &impl Abort, run: (ExitCode, String, String), status: u8, told:
     assert_eq!(rt; errors.as_str(), told);
 }
 
+/// A key of so many digits is refused.
+fn check_key_length(stop: &impl Abort, rt: &HostRuntime, length: usize) -> Result<(), Fail> {
+    let mut key = String::new(rt.alloc());
+    for _ in 0..length {
+        key.push('0')?;
+    }
+    let told = "dnsfleet: key: 64 hexadecimal digits wanted\n";
+    check_run(stop, run_key(rt, key.as_str())?, 2, told);
+    Ok(())
+}
+
 #[test]
 fn looks_at_its_key_before_its_configuration(rt: HostRuntime) -> Result<(), Fail> {
-    for length in [0usize, 2, 62, 63, 65, 66] {
-        let mut key = String::new(rt.alloc());
-        for _ in 0..length {
-            key.push('0')?;
-        }
-        let told = "dnsfleet: key: 64 hexadecimal digits wanted\n";
-        check_run(&rt, run_key(&rt, key.as_str())?, 2, told);
-    }
-    check_run(
-        &rt,
-        run_key(&rt, KEY)?,
-        1,
-        "dnsfleet: config: not readable\n",
-    );
+    check_key_length(&rt, &rt, 0)?;
+    check_key_length(&rt, &rt, 2)?;
+    check_key_length(&rt, &rt, 62)?;
+    check_key_length(&rt, &rt, 63)?;
+    check_key_length(&rt, &rt, 65)?;
+    check_key_length(&rt, &rt, 66)?;
+    let told = "dnsfleet: config: not readable\n";
+    check_run(&rt, run_key(&rt, KEY)?, 1, told);
     Ok(())
 }
 
@@ -144,63 +165,6 @@ fn reads_a_file(rt: HostRuntime) {
     assert_eq!(rt; fault_at(&rt, "/dev/zero"), Some(long));
 }
 
-/// The faults of a configuration, with what is printed of each.
-const TEXTS: [(ConfigurationFault, &str); 14] = [
-    (ConfigurationFault::NotReadable, "not readable"),
-    (
-        ConfigurationFault::Settings(SettingsFault::TooLong),
-        "too long",
-    ),
-    (
-        ConfigurationFault::Settings(SettingsFault::NotToml),
-        "not TOML",
-    ),
-    (
-        ConfigurationFault::Settings(SettingsFault::UnknownKey),
-        "unknown key",
-    ),
-    (
-        ConfigurationFault::Settings(SettingsFault::MissingKey),
-        "missing key",
-    ),
-    (
-        ConfigurationFault::Settings(SettingsFault::WrongKind),
-        "wrong kind",
-    ),
-    (
-        ConfigurationFault::Settings(SettingsFault::BadAddress),
-        "bad address",
-    ),
-    (
-        ConfigurationFault::Settings(SettingsFault::NotLoopback),
-        "listen is not 127.0.0.1",
-    ),
-    (
-        ConfigurationFault::Settings(SettingsFault::BadSweep),
-        "bad sweep",
-    ),
-    (
-        ConfigurationFault::Settings(SettingsFault::NoUpstream),
-        "no upstream",
-    ),
-    (
-        ConfigurationFault::Settings(SettingsFault::TooManyUpstreams),
-        "too many upstreams",
-    ),
-    (
-        ConfigurationFault::Settings(SettingsFault::TooManyPeers),
-        "too many peers",
-    ),
-    (
-        ConfigurationFault::Settings(SettingsFault::AddressTwice),
-        "address twice",
-    ),
-    (
-        ConfigurationFault::Settings(SettingsFault::OutOfMemory),
-        "out of memory",
-    ),
-];
-
 /// Serves three turns with settings, and gives the status with what was printed.
 fn serve_turns(
     rt: &HostRuntime,
@@ -211,13 +175,58 @@ fn serve_turns(
     Ok((code, told.output.into_inner(), told.errors.into_inner()))
 }
 
+/// A configuration without settings is told so, with status 1.
+fn check_told(
+    stop: &impl Abort,
+    rt: &HostRuntime,
+    fault: ConfigurationFault,
+    text: &str,
+) -> Result<(), Fail> {
+    let told = format!(in rt.alloc(); "dnsfleet: config: {text}\n")?;
+    check_run(stop, serve_turns(rt, Err(fault))?, 1, told.as_str());
+    Ok(())
+}
+
+/// A fault of what a configuration says is told so.
+fn check_fault(
+    stop: &impl Abort,
+    rt: &HostRuntime,
+    fault: SettingsFault,
+    text: &str,
+) -> Result<(), Fail> {
+    check_told(stop, rt, ConfigurationFault::Settings(fault), text)
+}
+
 #[test]
 fn tells_faults_of_its_configuration(rt: HostRuntime) -> Result<(), Fail> {
-    for (fault, text) in TEXTS {
-        let told = format!(in rt.alloc(); "dnsfleet: config: {text}\n")?;
-        check_run(&rt, serve_turns(&rt, Err(fault))?, 1, told.as_str());
-    }
-    Ok(())
+    check_told(&rt, &rt, ConfigurationFault::NotReadable, "not readable")?;
+    check_fault(&rt, &rt, SettingsFault::TooLong, "too long")?;
+    check_fault(&rt, &rt, SettingsFault::NotToml, "not TOML")?;
+    check_fault(&rt, &rt, SettingsFault::UnknownKey, "unknown key")?;
+    check_fault(&rt, &rt, SettingsFault::MissingKey, "missing key")?;
+    check_fault(&rt, &rt, SettingsFault::WrongKind, "wrong kind")?;
+    check_fault(&rt, &rt, SettingsFault::BadAddress, "bad address")
+}
+
+#[test]
+fn tells_faults_of_its_addresses(rt: HostRuntime) -> Result<(), Fail> {
+    check_fault(
+        &rt,
+        &rt,
+        SettingsFault::NotLoopback,
+        "listen is not 127.0.0.1",
+    )?;
+    check_fault(&rt, &rt, SettingsFault::BadSweep, "bad sweep")?;
+    check_fault(&rt, &rt, SettingsFault::NoUpstream, "no upstream")?;
+    check_fault(
+        &rt,
+        &rt,
+        SettingsFault::TooManyUpstreams,
+        "too many upstreams",
+    )?;
+    check_fault(&rt, &rt, SettingsFault::TooManyPeers, "too many peers")?;
+    check_fault(&rt, &rt, SettingsFault::AddressTwice, "address twice")?;
+    check_fault(&rt, &rt, SettingsFault::OutOfMemory, "out of memory")
 }
 
 /// Settings of a site at a port of 127.0.0.1.
