@@ -302,26 +302,22 @@ fn reads_addresses(rt: HostRuntime) -> Result<(), Fail> {
     Ok(())
 }
 
+/// Runs an empty line and one of so many octets.
+fn run_long(alloc: Global, length: usize) -> Result<Result<(), ScriptFault>, Fail> {
+    let mut lines = Vec::from_slice(alloc, b"\n")?;
+    for _ in 0..length {
+        lines.push(b'#')?;
+    }
+    let mut printed = Vec::new(alloc);
+    Ok(run_script(alloc, &mut lines.as_slice(), &mut printed))
+}
+
 #[test]
 fn bounds_a_line(rt: HostRuntime) -> Result<(), Fail> {
-    for (length, wanted) in [
-        (65536usize, Ok(())),
-        (
-            65537,
-            Err(ScriptFault {
-                line: 2,
-                what: What::LineTooLong,
-            }),
-        ),
-    ] {
-        let mut lines = Vec::from_slice(rt.alloc(), b"\n")?;
-        for _ in 0..length {
-            lines.push(b'#')?;
-        }
-        let mut printed = Vec::new(rt.alloc());
-        let fault = run_script(rt.alloc(), &mut lines.as_slice(), &mut printed);
-        assert_eq!(rt; fault, wanted);
-    }
+    assert_eq!(rt; run_long(rt.alloc(), 65536)?, Ok(()));
+    let what = What::LineTooLong;
+    let wanted = Err(ScriptFault { line: 2, what });
+    assert_eq!(rt; run_long(rt.alloc(), 65537)?, wanted);
     Ok(())
 }
 
@@ -329,29 +325,34 @@ fn bounds_a_line(rt: HostRuntime) -> Result<(), Fail> {
 const FIRST_EXAMPLE: &str =
     "a reply is learnt, and answers ten seconds later with a TTL that is ten less";
 
+/// A reader fails behind these octets, in this line, and this was printed before.
+fn check_failing(rt: &impl Abort, alloc: Global, rest: &str, line: u64, printed: &str) {
+    let mut out = Vec::new(alloc);
+    let mut reader = Failing {
+        rest: rest.as_bytes(),
+    };
+    let what = What::Read;
+    let ended = run_script(alloc, &mut reader, &mut out);
+    assert_eq!(rt; ended, Err(ScriptFault { line, what }));
+    assert_eq!(rt; out.as_slice(), printed.as_bytes());
+}
+
+/// A writer fails after so many calls, in this line.
+fn check_full(rt: &impl Abort, alloc: Global, lines: &str, left: u32, line: u64) {
+    let what = What::Write;
+    let ended = run_script(alloc, &mut lines.as_bytes(), &mut Full { left });
+    assert_eq!(rt; ended, Err(ScriptFault { line, what }));
+}
+
 #[test]
 fn tells_of_its_reader_and_writer(rt: HostRuntime) -> Result<(), Fail> {
     let example = example_of(rt.alloc(), FIRST_EXAMPLE)?;
     let (lines, wanted) = example.parts(rt.alloc())?;
-    for (rest, line, told) in [
-        ("", 1, ""),
-        (lines.as_str(), 3, wanted.as_str()),
-        ("# half a line", 1, ""),
-    ] {
-        let mut printed = Vec::new(rt.alloc());
-        let mut reader = Failing {
-            rest: rest.as_bytes(),
-        };
-        let what = What::Read;
-        let ended = run_script(rt.alloc(), &mut reader, &mut printed);
-        assert_eq!(rt; ended, Err(ScriptFault { line, what }));
-        assert_eq!(rt; printed.as_slice(), told.as_bytes());
-    }
-    for (left, line) in [(0, 1), (1, 2)] {
-        let what = What::Write;
-        let ended = run_script(rt.alloc(), &mut lines.as_bytes(), &mut Full { left });
-        assert_eq!(rt; ended, Err(ScriptFault { line, what }));
-    }
+    check_failing(&rt, rt.alloc(), "", 1, "");
+    check_failing(&rt, rt.alloc(), lines.as_str(), 3, wanted.as_str());
+    check_failing(&rt, rt.alloc(), "# half a line", 1, "");
+    check_full(&rt, rt.alloc(), lines.as_str(), 0, 1);
+    check_full(&rt, rt.alloc(), lines.as_str(), 1, 2);
     Ok(())
 }
 
@@ -385,27 +386,38 @@ fn ends_with_a_status(rt: HostRuntime) -> Result<(), Fail> {
     )
 }
 
-#[test]
-fn names_each_fault(rt: HostRuntime) -> Result<(), Fail> {
-    let table = [
-        (What::Read, "line 7: read"),
-        (What::LineTooLong, "line 7: line too long"),
-        (What::NotAscii, "line 7: not ASCII"),
-        (What::UnknownEvent, "line 7: unknown event"),
-        (What::WordCount, "line 7: wrong number of words"),
-        (What::BadNumber, "line 7: bad number"),
-        (What::BadAddress, "line 7: bad address"),
-        (What::BadHex, "line 7: bad hex"),
-        (What::SitesNotFirst, "line 7: sites must come first"),
-        (What::NoSuchSite, "line 7: no such site"),
-        (What::NoSuchFrame, "line 7: no such frame"),
-        (What::OutOfMemory, "line 7: out of memory"),
-        (What::Write, "line 7: write"),
-    ];
-    for (what, text) in table {
-        let fault = ScriptFault { line: 7, what };
-        let told = format!(in rt.alloc(); "{fault}")?;
-        assert_eq!(rt; told.as_str(), text);
-    }
+/// What is told of a fault in line 7.
+fn check_name(rt: &impl Abort, alloc: Global, what: What, text: &str) -> Result<(), Fail> {
+    let fault = ScriptFault { line: 7, what };
+    let told = format!(in alloc; "{fault}")?;
+    assert_eq!(rt; told.as_str(), text);
     Ok(())
+}
+
+#[test]
+fn names_each_fault_of_words(rt: HostRuntime) -> Result<(), Fail> {
+    let alloc = rt.alloc();
+    check_name(&rt, alloc, What::NotAscii, "line 7: not ASCII")?;
+    check_name(&rt, alloc, What::UnknownEvent, "line 7: unknown event")?;
+    check_name(&rt, alloc, What::WordCount, "line 7: wrong number of words")?;
+    check_name(&rt, alloc, What::BadNumber, "line 7: bad number")?;
+    check_name(&rt, alloc, What::BadAddress, "line 7: bad address")?;
+    check_name(&rt, alloc, What::BadHex, "line 7: bad hex")
+}
+
+#[test]
+fn names_each_other_fault(rt: HostRuntime) -> Result<(), Fail> {
+    let alloc = rt.alloc();
+    check_name(&rt, alloc, What::Read, "line 7: read")?;
+    check_name(&rt, alloc, What::LineTooLong, "line 7: line too long")?;
+    check_name(
+        &rt,
+        alloc,
+        What::SitesNotFirst,
+        "line 7: sites must come first",
+    )?;
+    check_name(&rt, alloc, What::NoSuchSite, "line 7: no such site")?;
+    check_name(&rt, alloc, What::NoSuchFrame, "line 7: no such frame")?;
+    check_name(&rt, alloc, What::OutOfMemory, "line 7: out of memory")?;
+    check_name(&rt, alloc, What::Write, "line 7: write")
 }
