@@ -1,217 +1,343 @@
 //! Frames that are read, refused, written and packed.
+//!
+//! In a row `@` stands for the magic and the version. A frame is told by how many observations are
+//! read of it, and whether they are written as it is again; or by why it is refused.
 
-use fleet_gossip::{FrameFault, decode, encode, pack, sweep};
+use crate::observations::push_observation;
+use crate::rows::{Row, Words, check_told, is_row, octets_of, push_octets, read_row};
 use fleet_cache::Cache;
-use fleet_observe::{Kind, Observation};
-use std::alloc::{AllocError, Global};
+use fleet_gossip::{FrameFault, decode, encode, pack, sweep};
+use fleet_name::Octets;
+use fleet_observe::Observation;
+use std::alloc::Global;
+use std::process::Abort;
 use std::test::Fail;
 
 /// The frame of one observation: 192.0.2.1 at example.com., rank 3, stamp 100, life 300.
-const EXAMPLE: [u8; 42] =
-    *b"\x44\x47\x01\x00\x01\x03\x03\x00\x00\x00\x00\x00\x00\x00\x64\x00\x00\x01\x2c\x07example\x03com\x00\x00\x01\x00\x01\x00\x04\xc0\x00\x02\x01";
+pub(crate) const ONE: &str = "@00010303{00*7}640000012c07'example'03'com'00000100010004c0000201";
 
-/// Why the example is refused with these octets in place of those at the places before them.
-fn changed(alloc: Global, changes: &[(usize, u8)]) -> Option<FrameFault> {
-    let mut frame = EXAMPLE;
-    for (at, octet) in changes {
-        if *at < frame.len() {
-            frame[*at] = *octet;
+/// The frame of a denial: no name b.example., rank 3, stamp 100, life 300, on the word of the SOA
+/// of example.
+const DENIAL: &str =
+    "@00010103{00*7}640000012c01'b'07'example'00000007'example'00001600000000000100000e100000\
+    0258000151800000012c";
+
+/// Two entries of 37 octets, of example.com.: 192.0.2.1, then 192.0.2.2.
+pub(crate) const TWO: &str =
+    "@00020303{00*7}640000012c07'example'03'com'00000100010004c00002010303{00*7}640000012c07\
+    'example'03'com'00000100010004c0000202";
+
+/// An entry of example.com., then one of 60 octets: no name b.example., on the word of the SOA of
+/// example.
+pub(crate) const DENIED: &str =
+    "@00020303{00*7}640000012c07'example'03'com'00000100010004c00002010103{00*7}640000012c01\
+    'b'07'example'00000007'example'00001600000000000100000e1000000258000151800000012c";
+
+/// Adds whether observations are written as a frame.
+fn push_again(
+    alloc: Global,
+    told: &mut String,
+    observations: &[Observation],
+    frame: &[u8],
+) -> Result<(), Fail> {
+    let octets = encode(alloc, observations)?;
+    let is_same = octets.as_slice() == frame;
+    told.push_str(if is_same { " again" } else { " another" })?;
+    Ok(())
+}
+
+/// Adds how many observations a frame has, and whether they are written so again; or its fault.
+fn push_frame(alloc: Global, told: &mut String, frame: &[u8]) -> Result<(), Fail> {
+    match decode(alloc, frame) {
+        Ok(read) => {
+            write!(told, "{}", read.len())?;
+            push_again(alloc, told, &read, frame)
+        }
+        Err(fault) => Ok(write!(told, "{fault:?}")?),
+    }
+}
+
+/// Puts an octet where a change says: the place, `=`, and the octet in two digits.
+fn change(alloc: Global, frame: &mut [u8], text: &str) -> Result<(), Fail> {
+    let (at, digits) = text.split_once('=').ok_or("no change")?;
+    let octets = octets_of(alloc, digits)?;
+    let place = frame.get_mut(at.parse::<usize>()?).ok_or("no place")?;
+    *place = octets.first().copied().ok_or("no octet")?;
+    Ok(())
+}
+
+/// A frame with changes, `-` for none.
+fn changed(alloc: Global, frame: &str, changes: &str) -> Result<Vec<u8>, Fail> {
+    let mut octets = octets_of(alloc, frame)?;
+    if changes != "-" {
+        for text in changes.split(',') {
+            change(alloc, octets.as_mut_slice(), text)?;
         }
     }
-    decode(alloc, &frame).err()
+    Ok(octets)
+}
+
+/// What a frame with changes tells.
+fn tell_changed(
+    alloc: Global,
+    frame: &str,
+    mut words: Words<'_>,
+    told: &mut String,
+) -> Result<(), Fail> {
+    let octets = changed(alloc, frame, words.word())?;
+    push_frame(alloc, told, octets.as_slice())
+}
+
+/// What a frame tells.
+fn tell_frame(alloc: Global, mut words: Words<'_>, told: &mut String) -> Result<(), Fail> {
+    let octets = words.octets(alloc)?;
+    push_frame(alloc, told, octets.as_slice())
+}
+
+/// What the observations of `ONE` say.
+fn tell_read(alloc: Global, told: &mut String) -> Result<(), Fail> {
+    let frame = octets_of(alloc, ONE)?;
+    for observation in &decode(alloc, frame.as_slice())? {
+        push_observation(alloc, told, observation)?;
+    }
+    Ok(())
+}
+
+/// Adds what a call tells.
+fn tell(alloc: Global, call: &str, words: Words<'_>, told: &mut String) -> Result<(), Fail> {
+    match call {
+        "one" => tell_changed(alloc, ONE, words, told),
+        "denial" => tell_changed(alloc, DENIAL, words, told),
+        "two" => tell_changed(alloc, TWO, words, told),
+        "denied" => tell_changed(alloc, DENIED, words, told),
+        "frame" => tell_frame(alloc, words, told),
+        "read" => tell_read(alloc, told),
+        "packed" => tell_packed(alloc, words, told),
+        "swept" => tell_swept(alloc, words, told),
+        _ => Err("no such call".into()),
+    }
+}
+
+/// Checks a row.
+fn check_frame(rt: &impl Abort, alloc: Global, row: &str) -> Result<(), Fail> {
+    let Row {
+        call,
+        words,
+        wanted,
+    } = read_row(row)?;
+    let mut told = String::new(alloc);
+    tell(alloc, call, words, &mut told)?;
+    check_told(rt, alloc, row, wanted, told.as_str())
+}
+
+/// Checks each row of a table.
+pub(crate) fn check_frames(rt: &impl Abort, alloc: Global, rows: &str) -> Result<(), Fail> {
+    for row in rows.lines() {
+        if is_row(row) {
+            check_frame(rt, alloc, row)?;
+        }
+    }
+    Ok(())
+}
+
+/// Checks that a frame of so many octets is truncated wherever it ends early.
+pub(crate) fn check_prefixes(
+    rt: &impl Abort,
+    alloc: Global,
+    frame: &str,
+    size: usize,
+) -> Result<(), Fail> {
+    let octets = octets_of(alloc, frame)?;
+    assert_eq!(rt; octets.len(), size);
+    for end in 0..octets.len() {
+        assert_eq!(rt;
+            decode(alloc, &octets[..end]).err(),
+            Some(FrameFault::Truncated)
+        );
+    }
+    Ok(())
 }
 
 #[test]
 fn reads_and_writes(rt: HostRuntime) -> Result<(), Fail> {
-    let read = decode(rt.alloc(), &EXAMPLE)?;
-    assert_eq!(rt; read.len(), 1);
-    let a = &read[0];
-    assert!(rt; a.kind() == Kind::Positive && a.rank() == 3 && a.rtype() == 1);
-    assert!(rt; a.stamp().value() == 100 && a.life() == 300);
-    assert_eq!(rt; a.name().octets(), b"\x07example\x03com\x00".as_slice());
-    assert_eq!(rt; a.rdatas().len(), 1);
-    assert_eq!(rt; a.rdatas()[0].as_slice(), b"\xc0\x00\x02\x01".as_slice());
-    assert_eq!(rt; encode(rt.alloc(), &read)?.as_slice(), EXAMPLE.as_slice());
-    assert_eq!(rt; decode(rt.alloc(), b"\x44\x47\x01\x00\x00")?.len(), 0);
-    let dotted =
-        b"\x44\x47\x01\x00\x01\x03\x01\x00\x00\x00\x00\x00\x00\x00\x00\x00\x00\x00\x01\x03a.b\x01\x5c\x01\x00\x00\x00\x10\x00\x01\x00\x02\x01x";
-    assert_eq!(rt;
-        encode(rt.alloc(), &decode(rt.alloc(), dotted)?)?.as_slice(),
-        dotted.as_slice()
-    );
-    Ok(())
+    let rows = "
+read => Positive example.com. 1 3 100 300 00010004c0000201;
+one - => 1 again
+frame @0000 => 0 again
+frame @00010301{00*7}000000000103'a.b'015c0100000010000100020178 => 1 again";
+    check_frames(&rt, rt.alloc(), rows)
 }
 
 #[test]
 fn refuses_by_the_first_fault(rt: HostRuntime) -> Result<(), Fail> {
-    for end in 0..EXAMPLE.len() {
-        let fault = decode(rt.alloc(), &EXAMPLE[..end]).err();
-        assert_eq!(rt; fault, Some(FrameFault::Truncated));
-    }
-    let alloc = rt.alloc();
-    assert_eq!(rt; changed(alloc, &[(1, 0x48)]), Some(FrameFault::BadMagic));
-    assert_eq!(rt; changed(alloc, &[(2, 9)]), Some(FrameFault::BadVersion));
-    assert_eq!(rt; changed(alloc, &[(4, 2)]), Some(FrameFault::Truncated));
-    assert_eq!(rt; changed(alloc, &[(4, 0)]), Some(FrameFault::Trailing));
-    assert_eq!(rt; changed(alloc, &[(5, 4)]), Some(FrameFault::BadKind));
-    assert_eq!(rt; changed(alloc, &[(6, 0)]), Some(FrameFault::BadRank));
-    assert_eq!(rt; changed(alloc, &[(6, 4)]), Some(FrameFault::BadRank));
-    assert_eq!(rt;
-        changed(alloc, &[(9, 1), (14, 1)]),
-        Some(FrameFault::BadMoment)
-    );
-    assert_eq!(rt;
-        changed(alloc, &[(17, 0), (18, 0)]),
-        Some(FrameFault::BadLife)
-    );
-    assert_eq!(rt;
-        changed(alloc, &[(16, 1), (17, 0x51), (18, 0x81)]),
-        Some(FrameFault::BadLife)
-    );
-    assert_eq!(rt; changed(alloc, &[(20, b'E')]), Some(FrameFault::BadName));
-    assert_eq!(rt; changed(alloc, &[(19, 0xc0)]), Some(FrameFault::BadName));
-    assert_eq!(rt; changed(alloc, &[(33, 0x29)]), Some(FrameFault::BadKind));
-    assert_eq!(rt; changed(alloc, &[(35, 0)]), Some(FrameFault::BadBody));
-    let descending =
-        b"\x44\x47\x01\x00\x01\x03\x03\x00\x00\x00\x00\x00\x00\x00\x64\x00\x00\x01\x2c\x07example\x03com\x00\x00\x01\x00\x02\x00\x04\xc0\x00\x02\x02\x00\x04\xc0\x00\x02\x01";
-    assert_eq!(rt; decode(alloc, descending).err(), Some(FrameFault::BadBody));
-    let mut longer = EXAMPLE.to_vec(alloc)?;
-    longer.push(0)?;
-    assert_eq!(rt; decode(alloc, &longer).err(), Some(FrameFault::Trailing));
-    let long = vec![in alloc; 0u8; 16385]?;
-    assert_eq!(rt; decode(alloc, &long).err(), Some(FrameFault::TooLong));
-    Ok(())
-}
-
-/// The frame of a denial: no name b.example., rank 3, stamp 100, life 300, on the word of the SOA
-/// of example.
-const DENIAL: [u8; 65] =
-    *b"\x44\x47\x01\x00\x01\x01\x03\x00\x00\x00\x00\x00\x00\x00\x64\x00\x00\x01\x2c\x01b\x07example\x00\x00\x00\x07example\x00\x00\x16\x00\x00\x00\x00\x00\x01\x00\x00\x0e\x10\x00\x00\x02\x58\x00\x01\x51\x80\x00\x00\x01\x2c";
-
-fn denied(alloc: Global, at: usize, octet: u8) -> Option<FrameFault> {
-    let mut frame = DENIAL;
-    if at < frame.len() {
-        frame[at] = octet;
-    }
-    decode(alloc, &frame).err()
+    check_prefixes(&rt, rt.alloc(), ONE, 42)?;
+    let rows = "
+one 1=48 => BadMagic
+one 2=09 => BadVersion
+one 4=02 => Truncated
+one 4=00 => Trailing
+one 5=04 => BadKind
+one 6=00 => BadRank
+one 6=04 => BadRank
+one 9=01,14=01 => BadMoment
+one 17=00,18=00 => BadLife
+one 16=01,17=51,18=81 => BadLife
+one 20=45 => BadName
+one 19=c0 => BadName
+one 33=29 => BadKind
+one 35=00 => BadBody
+# RDATAs that descend.
+frame @00010303{00*7}640000012c07'example'03'com'00000100020004c00002020004c0000201 => BadBody
+frame @00010303{00*7}640000012c07'example'03'com'00000100010004c000020100 => Trailing
+frame {00*16385} => TooLong";
+    check_frames(&rt, rt.alloc(), rows)
 }
 
 #[test]
 fn reads_denials(rt: HostRuntime) -> Result<(), Fail> {
-    let alloc = rt.alloc();
-    let read = decode(alloc, &DENIAL)?;
-    assert_eq!(rt; encode(alloc, &read)?.as_slice(), DENIAL.as_slice());
-    assert_eq!(rt; read.len(), 1);
-    assert!(rt; read[0].kind() == Kind::NameError);
-    assert_eq!(rt; denied(alloc, 6, 2), Some(FrameFault::BadRank));
-    assert_eq!(rt; denied(alloc, 17, 0x2b), Some(FrameFault::BadLife));
-    assert_eq!(rt; denied(alloc, 31, 1), Some(FrameFault::BadKind));
-    assert_eq!(rt; denied(alloc, 33, b'E'), Some(FrameFault::BadBody));
-    assert_eq!(rt; denied(alloc, 33, b'f'), Some(FrameFault::BadBody));
-    assert_eq!(rt; denied(alloc, 32, 0x40), Some(FrameFault::BadBody));
-    assert_eq!(rt; denied(alloc, 42, 0x17), Some(FrameFault::Truncated));
-    assert_eq!(rt; denied(alloc, 42, 0x15), Some(FrameFault::BadBody));
-    assert_eq!(rt; denied(alloc, 43, 0xc0), Some(FrameFault::BadBody));
-    Ok(())
+    let rows = "
+denial - => 1 again
+denial 6=02 => BadRank
+denial 17=2b => BadLife
+denial 31=01 => BadKind
+denial 33=45 => BadBody
+denial 33=66 => BadBody
+denial 32=40 => BadBody
+denial 42=17 => Truncated
+denial 42=15 => BadBody
+denial 43=c0 => BadBody";
+    check_frames(&rt, rt.alloc(), rows)
+}
+
+/// Whether `ONE` with this octet at a place is refused, or read and written again.
+fn returns_with(alloc: Global, at: usize, octet: &str) -> Result<bool, Fail> {
+    let changes = format!(in alloc; "{at}={octet}")?;
+    let mut told = String::new(alloc);
+    tell_changed(alloc, ONE, Words::new(changes.as_str()), &mut told)?;
+    Ok(!told.as_str().ends_with(" another"))
 }
 
 #[test]
 fn returns_whatever_octet_changes(rt: HostRuntime) -> Result<(), Fail> {
-    for at in 0..EXAMPLE.len() {
-        for octet in [0x00, 0x3f, 0x40, 0xc0, 0xff] {
-            let mut frame = EXAMPLE;
-            frame[at] = octet;
-            if let Ok(read) = decode(rt.alloc(), &frame) {
-                assert_eq!(rt; encode(rt.alloc(), &read)?.as_slice(), frame.as_slice());
-            }
+    for at in 0..42usize {
+        for octet in "00 3f 40 c0 ff".split(' ') {
+            assert!(rt; returns_with(rt.alloc(), at, octet)?, "{at} {octet}");
         }
     }
     Ok(())
 }
 
-/// TXT data of so many octets at example.com., stamp 100, life 300, rank 1.
-fn text(alloc: Global, size: u16) -> Result<Vec<u8>, AllocError> {
-    let mut frame = EXAMPLE[..32].to_vec(alloc)?;
-    if frame.len() > 6 {
-        frame[6] = 1;
-    }
-    frame.extend_from_slice(b"\x00\x10\x00\x01")?;
-    frame.extend_from_slice(&size.to_be_bytes())?;
-    for _ in 0..size {
-        frame.push(b'a')?;
+/// TXT data of example.com.
+#[test]
+fn a_body_has_8192_octets_at_most(rt: HostRuntime) -> Result<(), Fail> {
+    let rows = "
+frame @00010301{00*7}640000012c07'example'03'com'00001000011ffc{61*8188} => 1 again
+frame @00010301{00*7}640000012c07'example'03'com'00001000011ffd{61*8189} => BadBody";
+    check_frames(&rt, rt.alloc(), rows)
+}
+
+/// The frame of `ONE` with a decimal number of seven digits for `example`.
+fn numbered_frame(alloc: Global, number: u32) -> Result<Vec<u8>, Fail> {
+    let digits = format!(in alloc; "{number:07}")?;
+    let mut frame = octets_of(alloc, ONE)?;
+    for (place, digit) in frame.iter_mut().skip(20).zip(digits.as_bytes()) {
+        *place = *digit;
     }
     Ok(frame)
 }
 
-#[test]
-fn a_body_has_8192_octets_at_most(rt: HostRuntime) -> Result<(), Fail> {
-    assert_eq!(rt; decode(rt.alloc(), &text(rt.alloc(), 0x1ffc)?)?.len(), 1);
-    let fault = decode(rt.alloc(), &text(rt.alloc(), 0x1ffd)?).err();
-    assert_eq!(rt; fault, Some(FrameFault::BadBody));
+/// Adds the observations of a frame.
+fn add_read(alloc: Global, all: &mut Vec<Observation>, frame: &[u8]) -> Result<(), Fail> {
+    for observation in decode(alloc, frame)? {
+        all.push(observation)?;
+    }
     Ok(())
 }
 
-/// Observations like the example's, with decimal numbers for `example`.
+/// Observations like that of `ONE`, with decimal numbers for `example`.
 fn numbered(alloc: Global, count: u32) -> Result<Vec<Observation>, Fail> {
     let mut all = Vec::new(alloc);
     for number in 0..count {
-        let mut frame = EXAMPLE;
-        let mut rest = number;
-        for at in 0..7usize {
-            frame[26 - at] = b'0' + (rest % 10) as u8;
-            rest /= 10;
-        }
-        for observation in decode(alloc, &frame)? {
-            all.push(observation)?;
-        }
+        let frame = numbered_frame(alloc, number)?;
+        add_read(alloc, &mut all, frame.as_slice())?;
     }
     Ok(all)
 }
 
+/// Adds how long each frame is, and its octets, of a long one the first five.
+fn push_frames(told: &mut String, frames: &[Octets]) -> Result<(), Fail> {
+    for frame in frames {
+        let octets = frame.as_slice();
+        write!(told, "{} ", octets.len())?;
+        push_octets(
+            told,
+            if octets.len() > 100 {
+                &octets[..5]
+            } else {
+                octets
+            },
+        )?;
+        told.push_str(";")?;
+    }
+    Ok(())
+}
+
+/// The frames of so many observations, and whether one frame holds them all.
+fn tell_packed(alloc: Global, mut words: Words<'_>, told: &mut String) -> Result<(), Fail> {
+    let all = numbered(alloc, words.word().parse()?)?;
+    match encode(alloc, &all) {
+        Ok(_) => told.push_str("one;")?,
+        Err(fault) => write!(told, "{fault:?};")?,
+    }
+    let frames = pack(alloc, &all)?;
+    push_frames(told, frames.as_slice())
+}
+
 #[test]
 fn packs_as_many_as_fit(rt: HostRuntime) -> Result<(), Fail> {
-    let all = numbered(rt.alloc(), 443)?;
-    assert_eq!(rt; encode(rt.alloc(), &all).err(), Some(FrameFault::TooLong));
-    let frames = pack(rt.alloc(), &all)?;
-    assert_eq!(rt; frames.len(), 2);
-    assert_eq!(rt; frames[0].as_slice().len(), 16359);
-    assert!(rt; frames[0].as_slice().starts_with(b"\x44\x47\x01\x01\xba"));
-    let mut last = EXAMPLE;
-    last[20..27].copy_from_slice(b"0000442");
-    assert_eq!(rt; frames[1].as_slice(), last.as_slice());
-    assert_eq!(rt; pack(rt.alloc(), &all[..0])?.len(), 0);
+    let rows = "
+packed 443 => TooLong;16359 @01ba;42 @00010303{00*7}640000012c07'0000442'03'com'00\
+    000100010004c0000201;
+packed 0 => one;";
+    check_frames(&rt, rt.alloc(), rows)
+}
+
+/// The frames of a cache of so many observations.
+fn swept(alloc: Global, count: u32) -> Result<Vec<Octets>, Fail> {
+    let mut cache = Cache::new(alloc);
+    cache.take_list(numbered(alloc, count)?)?;
+    Ok(sweep(alloc, &cache)?)
+}
+
+/// Whether the frames of a cache of so many observations are those of the list.
+fn tell_swept(alloc: Global, mut words: Words<'_>, told: &mut String) -> Result<(), Fail> {
+    let count = words.word().parse()?;
+    let frames = swept(alloc, count)?;
+    push_frames(told, frames.as_slice())?;
+    let all = numbered(alloc, count)?;
+    push_same(alloc, told, &all, frames.as_slice())
+}
+
+/// Adds whether observations are packed as these frames.
+fn push_same(
+    alloc: Global,
+    told: &mut String,
+    all: &[Observation],
+    frames: &[Octets],
+) -> Result<(), Fail> {
+    let packed = pack(alloc, all)?;
+    let is_same = frames
+        .iter()
+        .map(|frame| frame.as_slice())
+        .eq(packed.iter().map(|frame| frame.as_slice()));
+    told.push_str(if is_same { "packed" } else { "another" })?;
     Ok(())
 }
 
 #[test]
 fn sweeps_all_items(rt: HostRuntime) -> Result<(), Fail> {
-    // 192.0.2.1 at stamp 100 for 300 seconds, then 192.0.2.2 at stamp 200 for 10 seconds
-    let mut first = EXAMPLE;
-    first[6] = 1;
-    let mut second = first;
-    second[14] = 200;
-    second[17..19].copy_from_slice(b"\x00\x0a");
-    second[41] = 2;
-    let mut cache = Cache::new(rt.alloc());
-    for frame in [first, second] {
-        for observation in decode(rt.alloc(), &frame)? {
-            assert!(rt; cache.take(observation)?);
-        }
-    }
-    let mut both = second.to_vec(rt.alloc())?;
-    both.extend_from_slice(&first[5..])?;
-    both[4] = 2;
-    let frames = sweep(rt.alloc(), &cache)?;
-    assert_eq!(rt; frames.len(), 1);
-    assert_eq!(rt; frames[0].as_slice(), both.as_slice());
-    let mut cache = Cache::new(rt.alloc());
-    cache.take_list(numbered(rt.alloc(), 443)?)?;
-    let frames = sweep(rt.alloc(), &cache)?;
-    let packed = pack(rt.alloc(), &numbered(rt.alloc(), 443)?)?;
-    assert_eq!(rt; frames.len(), 2);
-    assert_eq!(rt; packed.len(), 2);
-    for (frame, other) in frames.iter().zip(&packed) {
-        assert!(rt; frame.as_slice() == other.as_slice());
-    }
-    Ok(())
+    let rows = "
+swept 443 => 16359 @01ba;42 @00010303{00*7}640000012c07'0000442'03'com'00\
+    000100010004c0000201;packed";
+    check_frames(&rt, rt.alloc(), rows)
 }

@@ -4,10 +4,20 @@
 #[cfg(test)]
 mod caches;
 #[cfg(test)]
+mod calls;
+#[cfg(test)]
 mod exchanges;
 #[cfg(test)]
 mod frames;
 #[cfg(test)]
+mod fronts;
+#[cfg(test)]
+mod observations;
+#[cfg(test)]
+mod purges;
+#[cfg(test)]
 mod questions;
+#[cfg(test)]
+mod rows;
 #[cfg(test)]
 mod second_entries;

@@ -1,195 +1,302 @@
-//! Rows of calls with their answers.
+//! Open questions: rows of calls with their answers.
+//!
+//! A question is spelled by its name and its class, and is for type 1 (A). One who asks is at
+//! 127.0.0.1, and is spelled by a port and an identifier.
 
-use fleet_pending::{Addr, Asked, Due, Pending, PendingFault, Waiter, Waiters};
-use fleet_observe::Moment;
-use fleet_wire::{Question, read_query};
+use crate::observations::{moment_of, push_name, question_of};
+use crate::rows::{Row, Words, check_told, is_row, read_row};
+use fleet_pending::{Addr, Asked, Due, Entry, Pending, PendingFault, Waiter, Waiters};
+use fleet_wire::Question;
 use std::alloc::Global;
+use std::process::Abort;
 use std::test::Fail;
 
-/// The question of type 1 (A) and class 1 (IN) for a name of one label of four digits.
-fn question(alloc: Global, number: u16) -> Result<Question, Fail> {
-    let mut message = [
-        0, 7, 1, 0, 0, 1, 0, 0, 0, 0, 0, 0, 4, 0, 0, 0, 0, 0, 0, 1, 0, 1,
-    ];
-    message[13] = b'0' + (number / 1000 % 10) as u8;
-    message[14] = b'0' + (number / 100 % 10) as u8;
-    message[15] = b'0' + (number / 10 % 10) as u8;
-    message[16] = b'0' + (number % 10) as u8;
-    let (_, question) = read_query(alloc, &message)?;
-    Ok(question)
+/// Reads a question.
+fn question_in(alloc: Global, words: &mut Words<'_>) -> Result<Question, Fail> {
+    let name = words.word();
+    let class = words.word().parse()?;
+    question_of(alloc, name, 1, class)
 }
 
-fn moment(seconds: u64) -> Result<Moment, Fail> {
-    Ok(Moment::new(seconds).ok_or("moment")?)
+/// Adds how a question is asked, or why not.
+fn push_asked(told: &mut String, asked: Result<Asked, PendingFault>) -> Result<(), Fail> {
+    match asked {
+        Ok(Asked::Send { upstream, id }) => Ok(write!(told, "send {upstream} {id}")?),
+        Ok(Asked::Joined) => Ok(told.push_str("joined")?),
+        Ok(Asked::Again) => Ok(told.push_str("again")?),
+        Err(fault) => Ok(write!(told, "{fault:?}")?),
+    }
 }
 
-/// Asks at 100 from a port of 127.0.0.1, under an id.
-fn ask_at_100(
+/// How a question is asked: it, the port and the identifier of its asker, the moment, and a word.
+fn ask(
+    alloc: Global,
     table: &mut Pending,
-    question: Question,
-    asker: (u16, u16),
-    word: u16,
+    mut words: Words<'_>,
 ) -> Result<Result<Asked, PendingFault>, Fail> {
-    let (port, id) = asker;
-    let host = 0x7f00_0001;
-    let from = Addr { host, port };
-    let waiter = Waiter { from, id, question };
-    match table.ask(waiter, moment(100)?, word) {
+    let question = question_in(alloc, &mut words)?;
+    let port = words.word().parse()?;
+    let id = words.word().parse()?;
+    let moment = moment_of(words.word())?;
+    let word = words.word().parse()?;
+    let from = Addr {
+        host: 0x7f00_0001,
+        port,
+    };
+    match table.ask(Waiter { from, id, question }, moment, word) {
         Ok(asked) => Ok(Ok(asked)),
         Err(unasked) => Ok(Err(unasked.fault)),
     }
 }
 
-/// A query with this id goes to the first upstream.
-fn sends(id: u16) -> Result<Asked, PendingFault> {
-    Ok(Asked::Send { upstream: 0, id })
+/// Whether an entry waits for this reply: its upstream, identifier and question.
+fn tell_found(
+    alloc: Global,
+    table: &Pending,
+    mut words: Words<'_>,
+    told: &mut String,
+) -> Result<(), Fail> {
+    let upstream = words.word().parse()?;
+    let id = words.word().parse()?;
+    let question = question_in(alloc, &mut words)?;
+    let is_found = table.find(upstream, id, &question).is_some();
+    Ok(write!(told, "{is_found}")?)
+}
+
+/// Adds the port and the identifier of each who waits.
+fn push_waiters(told: &mut String, waiters: &Waiters) -> Result<(), Fail> {
+    for waiter in waiters.as_slice() {
+        let (port, id) = (waiter.from.port, waiter.id);
+        write!(told, "{port}/{id};")?;
+    }
+    Ok(())
+}
+
+/// Who waited for the reply with an identifier.
+fn settle(table: &mut Pending, mut words: Words<'_>, told: &mut String) -> Result<(), Fail> {
+    match table.settle(words.word().parse()?) {
+        Some(entry) => push_waiters(told, &entry.waiters),
+        None => Ok(told.push_str("none")?),
+    }
+}
+
+/// Adds a retry.
+fn push_retry(
+    alloc: Global,
+    told: &mut String,
+    upstream: u8,
+    id: u16,
+    entry: &Entry,
+) -> Result<(), Fail> {
+    write!(told, "retry {upstream} {id} ")?;
+    push_name(alloc, told, &entry.name)
+}
+
+/// What is due first at a moment.
+fn tell_due(
+    alloc: Global,
+    table: &Pending,
+    mut words: Words<'_>,
+    told: &mut String,
+) -> Result<(), Fail> {
+    match table.due(moment_of(words.word())?) {
+        Some(
+            Due::Retry {
+                upstream,
+                id,
+                entry,
+            },
+        ) => push_retry(alloc, told, upstream, id, entry),
+        Some(Due::Failed { id, .. }) => Ok(write!(told, "failed {id}")?),
+        None => Ok(told.push_str("none")?),
+    }
+}
+
+/// Whether an entry goes on to its next upstream.
+fn advance(table: &mut Pending, mut words: Words<'_>, told: &mut String) -> Result<(), Fail> {
+    let id = words.word().parse()?;
+    let moment = moment_of(words.word())?;
+    let is_next = table.advance(id, moment);
+    Ok(write!(told, "{is_next}")?)
+}
+
+/// Whether there is an entry with an identifier.
+fn tell_entry(table: &Pending, mut words: Words<'_>, told: &mut String) -> Result<(), Fail> {
+    let is_there = table.entry(words.word().parse()?).is_some();
+    Ok(write!(told, "{is_there}")?)
+}
+
+/// Adds what a call tells.
+fn tell(
+    alloc: Global,
+    table: &mut Pending,
+    call: &str,
+    words: Words<'_>,
+    told: &mut String,
+) -> Result<(), Fail> {
+    match call {
+        "ask" => push_asked(told, ask(alloc, table, words)?),
+        "find" => tell_found(alloc, table, words, told),
+        "settle" => settle(table, words, told),
+        "due" => tell_due(alloc, table, words, told),
+        "advance" => advance(table, words, told),
+        "entry" => tell_entry(table, words, told),
+        _ => Err("no such call".into()),
+    }
+}
+
+/// Checks one call.
+fn check_call(rt: &impl Abort, alloc: Global, table: &mut Pending, row: &str) -> Result<(), Fail> {
+    let Row {
+        call,
+        words,
+        wanted,
+    } = read_row(row)?;
+    let mut told = String::new(alloc);
+    tell(alloc, table, call, words, &mut told)?;
+    check_told(rt, alloc, row, wanted, told.as_str())
+}
+
+/// Checks calls of a table.
+fn check_calls(
+    rt: &impl Abort,
+    alloc: Global,
+    table: &mut Pending,
+    rows: &str,
+) -> Result<(), Fail> {
+    for row in rows.lines() {
+        if is_row(row) {
+            check_call(rt, alloc, table, row)?;
+        }
+    }
+    Ok(())
 }
 
 #[test]
 fn each_waiter_is_answered_once(rt: HostRuntime) -> Result<(), Fail> {
+    let rows = "
+ask 0000 1 6001 7 100 4660 => send 0 4660
+ask 0000 1 6002 8 100 9 => joined
+ask 0000 1 6001 7 100 4660 => again
+ask 0000 1 6001 9 100 4660 => joined
+find 1 4660 0000 1 => false
+find 0 4661 0000 1 => false
+find 0 4660 0001 1 => false
+find 0 4660 0000 1 => true
+settle 4660 => 6001/7;6002/8;6001/9;
+find 0 4660 0000 1 => false
+settle 4660 => none";
     let mut table = Pending::new(rt.alloc(), 2);
-    let asks = [
-        (6001, 7, 0x1234, sends(0x1234)),
-        (6002, 8, 9, Ok(Asked::Joined)),
-        (6001, 7, 0x1234, Ok(Asked::Again)),
-        (6001, 9, 0x1234, Ok(Asked::Joined)),
-    ];
-    for (port, id, word, answer) in asks {
-        let asked = question(rt.alloc(), 0)?;
-        assert_eq!(rt; ask_at_100(&mut table, asked, (port, id), word)?, answer);
-    }
+    check_calls(&rt, rt.alloc(), &mut table, rows)
+}
 
-    let asked = question(rt.alloc(), 0)?;
-    assert!(rt; table.find(1, 0x1234, &asked).is_none());
-    assert!(rt; table.find(0, 0x1235, &asked).is_none());
-    assert!(rt; table.find(0, 0x1234, &question(rt.alloc(), 1)?).is_none());
-    assert!(rt; table.find(0, 0x1234, &asked).is_some());
-    let entry = table.settle(0x1234).ok_or("no entry")?;
-    let ids = entry.waiters.as_slice().iter().map(|w| (w.from.port, w.id));
-    assert!(rt; ids.eq([(6001, 7), (6002, 8), (6001, 9)]));
-    assert!(rt; table.find(0, 0x1234, &asked).is_none());
-    assert!(rt; table.settle(0x1234).is_none());
+/// Asks so many questions, with the greatest word: the identifiers go on behind it from zero.
+fn check_questions(
+    rt: &impl Abort,
+    alloc: Global,
+    table: &mut Pending,
+    count: u16,
+) -> Result<(), Fail> {
+    for number in 0..count {
+        let id = number.wrapping_sub(1);
+        let row = format!(in alloc; "ask {number:04} 1 6001 7 100 65535 => send 0 {id}")?;
+        check_call(rt, alloc, table, row.as_str())?;
+    }
     Ok(())
 }
 
 #[test]
 fn at_most_256_are_open(rt: HostRuntime) -> Result<(), Fail> {
+    let rows = "
+ask 0256 1 6001 7 100 65535 => Full
+ask 0255 1 6002 7 100 65535 => joined
+due 101 => none
+due 102 => retry 1 0 0001.
+advance 0 102 => true
+advance 0 102 => false
+entry 0 => true
+due 103 => retry 1 1 0002.";
     let mut table = Pending::new(rt.alloc(), 2);
-    for number in 0..256u16 {
-        let asked = question(rt.alloc(), number)?;
-        let answer = sends(number.wrapping_sub(1));
-        assert_eq!(rt; ask_at_100(&mut table, asked, (6001, 7), 65535)?, answer);
+    check_questions(&rt, rt.alloc(), &mut table, 256)?;
+    check_calls(&rt, rt.alloc(), &mut table, rows)
+}
+
+/// Joins a question from so many ports behind 6001.
+fn check_joins(
+    rt: &impl Abort,
+    alloc: Global,
+    table: &mut Pending,
+    ports: u16,
+) -> Result<(), Fail> {
+    for port in 0..ports {
+        let port = port.wrapping_add(6002);
+        let row = format!(in alloc; "ask 0000 1 {port} 7 100 4660 => joined")?;
+        check_call(rt, alloc, table, row.as_str())?;
     }
-    let last = question(rt.alloc(), 256)?;
-    assert_eq!(rt;
-        ask_at_100(&mut table, last, (6001, 7), 65535)?,
-        Err(PendingFault::Full)
-    );
-    let joins = question(rt.alloc(), 255)?;
-    assert_eq!(rt;
-        ask_at_100(&mut table, joins, (6002, 7), 65535)?,
-        Ok(Asked::Joined)
-    );
-    assert!(rt; table.due(moment(101)?).is_none());
-    let name = question(rt.alloc(), 1)?.name;
-    match table.due(moment(102)?) {
-        Some(
-            Due::Retry {
-                upstream: 1,
-                id: 0,
-                entry,
-            },
-        ) => assert!(rt; entry.name.same(&name)),
-        _ => return Err("no retry".into()),
-    }
-    assert!(rt; table.advance(0, moment(102)?));
-    assert!(rt; !table.advance(0, moment(102)?));
-    assert!(rt; table.entry(0).is_some());
-    assert!(rt; matches!(table.due(moment(103)?), Some(Due::Retry { id: 1, .. })));
     Ok(())
 }
 
 #[test]
 fn at_most_32_wait_for_one_question(rt: HostRuntime) -> Result<(), Fail> {
+    let first = "ask 0000 1 6001 7 100 4660 => send 0 4660";
+    let rows = "
+ask 0000 1 6033 7 100 4660 => WaitersFull
+ask 0000 1 6001 7 100 4660 => again
+due 102 => failed 4660";
     let mut table = Pending::new(rt.alloc(), 1);
-    for port in 6001..6034u16 {
-        let asked = question(rt.alloc(), 0)?;
-        let answer = match port {
-            6001 => sends(0x1234),
-            6033 => Err(PendingFault::WaitersFull),
-            _ => Ok(Asked::Joined),
-        };
-        assert_eq!(rt; ask_at_100(&mut table, asked, (port, 7), 0x1234)?, answer);
-    }
-    let again = question(rt.alloc(), 0)?;
-    assert_eq!(rt;
-        ask_at_100(&mut table, again, (6001, 7), 0x1234)?,
-        Ok(Asked::Again)
-    );
-    assert!(rt;
-        matches!(
-            table.due(moment(102)?),
-            Some(Due::Failed { id: 0x1234, .. })
-        )
-    );
-    Ok(())
+    check_calls(&rt, rt.alloc(), &mut table, first)?;
+    check_joins(&rt, rt.alloc(), &mut table, 31)?;
+    check_calls(&rt, rt.alloc(), &mut table, rows)
 }
 
 #[test]
 fn a_question_of_another_class_waits(rt: HostRuntime) -> Result<(), Fail> {
+    let rows = "
+ask 0000 3 6001 7 100 1 => send 0 1
+ask 0000 1 6002 7 100 1 => joined
+find 0 1 0000 1 => true
+find 0 1 0000 3 => false";
     let mut table = Pending::new(rt.alloc(), 1);
-    let mut chaos = question(rt.alloc(), 0)?;
-    chaos.class = 3;
-    assert_eq!(rt; ask_at_100(&mut table, chaos, (6001, 7), 1)?, sends(1));
-    let internet = question(rt.alloc(), 0)?;
-    assert_eq!(rt;
-        ask_at_100(&mut table, internet, (6002, 7), 1)?,
-        Ok(Asked::Joined)
-    );
-    let mut replied = question(rt.alloc(), 0)?;
-    assert!(rt; table.find(0, 1, &replied).is_some());
-    replied.class = 3;
-    assert!(rt; table.find(0, 1, &replied).is_none());
-    Ok(())
+    check_calls(&rt, rt.alloc(), &mut table, rows)
 }
 
 #[test]
 fn a_cleared_table_is_as_new(rt: HostRuntime) -> Result<(), Fail> {
+    let rows = "
+ask 0000 1 6001 7 100 1 => send 0 1
+ask 0001 1 6001 7 100 1 => send 0 2
+ask 0002 1 6001 7 100 1 => send 0 3";
     let mut table = Pending::new(rt.alloc(), 2);
-    for number in 0..3u16 {
-        let asked = question(rt.alloc(), number)?;
-        assert_eq!(rt;
-            ask_at_100(&mut table, asked, (6001, 7), 1)?,
-            sends(number + 1)
-        );
-    }
+    check_calls(&rt, rt.alloc(), &mut table, rows)?;
     table.clear();
-    assert!(rt; table.entry(1).is_none());
-    assert!(rt; table.due(moment(102)?).is_none());
-    let asked = question(rt.alloc(), 2)?;
-    assert_eq!(rt; ask_at_100(&mut table, asked, (6001, 7), 1)?, sends(1));
-    assert!(rt;
-        matches!(
-            table.due(moment(102)?),
-            Some(Due::Retry {
-                upstream: 1,
-                id: 1,
-                ..
-            })
-        )
-    );
-    Ok(())
+    let rows = "
+entry 1 => false
+due 102 => none
+ask 0002 1 6001 7 100 1 => send 0 1
+due 102 => retry 1 1 0002.";
+    check_calls(&rt, rt.alloc(), &mut table, rows)
+}
+
+/// Those who wait for a question, by their identifiers.
+fn waiters_of(alloc: Global, ids: &[u16]) -> Result<Waiters, Fail> {
+    let mut items = Vec::new(alloc);
+    for id in ids {
+        let from = Addr { host: 1, port: 53 };
+        let question = question_of(alloc, "0000", 1, 1)?;
+        items.push(Waiter {
+            from,
+            id: *id,
+            question,
+        })?;
+    }
+    Ok(Waiters::new(items))
 }
 
 #[test]
 fn waiters_stand_in_order(rt: HostRuntime) -> Result<(), Fail> {
-    let mut items = Vec::new(rt.alloc());
-    for id in [9, 7, 8] {
-        let from = Addr { host: 1, port: 53 };
-        let question = question(rt.alloc(), 0)?;
-        items.push(Waiter { from, id, question })?;
-    }
-    let waiters = Waiters::new(items);
-    assert!(rt; waiters.as_slice().iter().map(|w| w.id).eq([9, 7, 8]));
+    let waiters = waiters_of(rt.alloc(), &[9, 7, 8])?;
+    let mut told = String::new(rt.alloc());
+    push_waiters(&mut told, &waiters)?;
+    assert_eq!(rt; told.as_str(), "53/9;53/7;53/8;");
     Ok(())
 }

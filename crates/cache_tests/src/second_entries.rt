@@ -1,164 +1,83 @@
 //! The faults of a frame, each in its second entry.
 
-use fleet_gossip::{FrameFault, decode};
-use std::alloc::{AllocError, Global};
+use crate::frames::{DENIED, TWO, check_frames, check_prefixes};
 use std::test::Fail;
-
-/// Two entries of 37 octets, of example.com.: 192.0.2.1, then 192.0.2.2.
-const TWO: [u8; 79] =
-    *b"\x44\x47\x01\x00\x02\x03\x03\x00\x00\x00\x00\x00\x00\x00\x64\x00\x00\x01\x2c\x07example\x03com\x00\x00\x01\x00\x01\x00\x04\xc0\x00\x02\x01\x03\x03\x00\x00\x00\x00\x00\x00\x00\x64\x00\x00\x01\x2c\x07example\x03com\x00\x00\x01\x00\x01\x00\x04\xc0\x00\x02\x02";
-
-/// An entry of example.com., then one of 60 octets: no name b.example., on the word of the SOA of
-/// example.
-const DENIED: [u8; 102] =
-    *b"\x44\x47\x01\x00\x02\x03\x03\x00\x00\x00\x00\x00\x00\x00\x64\x00\x00\x01\x2c\x07example\x03com\x00\x00\x01\x00\x01\x00\x04\xc0\x00\x02\x01\x01\x03\x00\x00\x00\x00\x00\x00\x00\x64\x00\x00\x01\x2c\x01b\x07example\x00\x00\x00\x07example\x00\x00\x16\x00\x00\x00\x00\x00\x01\x00\x00\x0e\x10\x00\x00\x02\x58\x00\x01\x51\x80\x00\x00\x01\x2c";
-
-/// Why a frame is refused, if it is, with these octets in place of those at the places before them.
-fn fault_with(
-    alloc: Global,
-    frame: &[u8],
-    changes: &[(usize, u8)],
-) -> Result<Option<FrameFault>, AllocError> {
-    let mut other = frame.to_vec(alloc)?;
-    for (at, octet) in changes {
-        if *at < other.len() {
-            other[*at] = *octet;
-        }
-    }
-    Ok(decode(alloc, &other).err())
-}
-
-/// Changes of a frame's octets, each with why the frame is refused then.
-type Changed = (&'static [(usize, u8)], Option<FrameFault>);
-
-const FIELDS: [Changed; 19] = [
-    (&[], None),
-    (&[(42, 0)], Some(FrameFault::BadKind)),
-    (&[(42, 4), (43, 4)], Some(FrameFault::BadKind)),
-    (&[(43, 0)], Some(FrameFault::BadRank)),
-    (&[(43, 4), (46, 2)], Some(FrameFault::BadRank)),
-    (&[(46, 1), (51, 0)], None),
-    (&[(46, 1), (51, 1)], Some(FrameFault::BadMoment)),
-    (&[(46, 2), (54, 0), (55, 0)], Some(FrameFault::BadMoment)),
-    (&[(54, 0), (55, 0)], Some(FrameFault::BadLife)),
-    (&[(53, 1), (54, 0x51), (55, 0x80)], None),
-    (
-        &[(53, 1), (54, 0x51), (55, 0x81)],
-        Some(FrameFault::BadLife),
-    ),
-    (&[(53, 2), (57, b'E')], Some(FrameFault::BadLife)),
-    (&[(57, b'E')], Some(FrameFault::BadName)),
-    (&[(56, 0x40), (70, 0)], Some(FrameFault::BadName)),
-    (&[(56, 0xc0)], Some(FrameFault::BadName)),
-    (&[(70, 0)], Some(FrameFault::BadKind)),
-    (&[(70, 41), (72, 0)], Some(FrameFault::BadKind)),
-    (&[(70, 128)], Some(FrameFault::BadKind)),
-    (&[(70, 255)], Some(FrameFault::BadKind)),
-];
-
-const BODIES: [Changed; 6] = [
-    (&[(72, 0)], Some(FrameFault::BadBody)),
-    (&[(70, 5), (72, 2)], Some(FrameFault::BadBody)),
-    (&[(70, 5)], Some(FrameFault::BadBody)),
-    (&[(72, 2)], Some(FrameFault::Truncated)),
-    (&[(74, 5)], Some(FrameFault::Truncated)),
-    (&[(74, 3)], Some(FrameFault::Trailing)),
-];
 
 #[test]
 fn tells_the_faults_of_a_second_entry(rt: HostRuntime) -> Result<(), Fail> {
-    let alloc = rt.alloc();
-    for end in 0..TWO.len() {
-        assert_eq!(rt;
-            decode(alloc, &TWO[..end]).err(),
-            Some(FrameFault::Truncated)
-        );
-    }
-    for (changes, fault) in &FIELDS {
-        assert_eq!(rt; fault_with(alloc, &TWO, changes)?, *fault);
-    }
-    for (changes, fault) in &BODIES {
-        assert_eq!(rt; fault_with(alloc, &TWO, changes)?, *fault);
-    }
-    let mut longer = TWO.to_vec(alloc)?;
-    longer.push(0)?;
-    assert_eq!(rt; decode(alloc, &longer).err(), Some(FrameFault::Trailing));
-    Ok(())
+    check_prefixes(&rt, rt.alloc(), TWO, 79)?;
+    let fields = "
+two - => 2 again
+two 42=00 => BadKind
+two 42=04,43=04 => BadKind
+two 43=00 => BadRank
+two 43=04,46=02 => BadRank
+two 46=01,51=00 => 2 again
+two 46=01,51=01 => BadMoment
+two 46=02,54=00,55=00 => BadMoment
+two 54=00,55=00 => BadLife
+two 53=01,54=51,55=80 => 2 again
+two 53=01,54=51,55=81 => BadLife
+two 53=02,57=45 => BadLife
+two 57=45 => BadName
+two 56=40,70=00 => BadName
+two 56=c0 => BadName
+two 70=00 => BadKind
+two 70=29,72=00 => BadKind
+two 70=80 => BadKind
+two 70=ff => BadKind";
+    check_frames(&rt, rt.alloc(), fields)?;
+    let bodies = "
+two 72=00 => BadBody
+two 70=05,72=02 => BadBody
+two 70=05 => BadBody
+two 72=02 => Truncated
+two 74=05 => Truncated
+two 74=03 => Trailing
+frame @00020303{00*7}640000012c07'example'03'com'00000100010004c00002010303{00*7}640000012c07\
+    'example'03'com'00000100010004c000020200 => Trailing";
+    check_frames(&rt, rt.alloc(), bodies)
 }
-
-const DENIALS: [Changed; 12] = [
-    (&[], None),
-    (&[(42, 2)], Some(FrameFault::BadKind)),
-    (&[(42, 2), (68, 1)], None),
-    (&[(43, 2)], Some(FrameFault::BadRank)),
-    (&[(54, 0x2a), (55, 0x31)], Some(FrameFault::BadLife)),
-    (&[(68, 1)], Some(FrameFault::BadKind)),
-    (&[(70, b'E')], Some(FrameFault::BadBody)),
-    (&[(70, b'f')], Some(FrameFault::BadBody)),
-    (&[(69, 0x40)], Some(FrameFault::BadBody)),
-    (&[(79, 0x17)], Some(FrameFault::Truncated)),
-    (&[(79, 0x15)], Some(FrameFault::BadBody)),
-    (&[(80, 0xc0)], Some(FrameFault::BadBody)),
-];
 
 #[test]
 fn tells_the_faults_of_a_second_entry_that_denies(rt: HostRuntime) -> Result<(), Fail> {
-    let alloc = rt.alloc();
-    for end in 0..DENIED.len() {
-        assert_eq!(rt;
-            decode(alloc, &DENIED[..end]).err(),
-            Some(FrameFault::Truncated)
-        );
-    }
-    for (changes, fault) in &DENIALS {
-        assert_eq!(rt; fault_with(alloc, &DENIED, changes)?, *fault);
-    }
-    Ok(())
+    check_prefixes(&rt, rt.alloc(), DENIED, 102)?;
+    let rows = "
+denied - => 2 again
+denied 42=02 => BadKind
+denied 42=02,68=01 => 2 again
+denied 43=02 => BadRank
+denied 54=2a,55=31 => BadLife
+denied 68=01 => BadKind
+denied 70=45 => BadBody
+denied 70=66 => BadBody
+denied 69=40 => BadBody
+denied 79=17 => Truncated
+denied 79=15 => BadBody
+denied 80=c0 => BadBody";
+    check_frames(&rt, rt.alloc(), rows)
 }
 
-/// The first entry of `TWO`, and one with these octets from its name on.
-fn behind_first(alloc: Global, rest: &[u8]) -> Result<Vec<u8>, AllocError> {
-    let mut frame = TWO[..56].to_vec(alloc)?;
-    frame.extend_from_slice(rest)?;
-    Ok(frame)
-}
-
+/// Behind the first entry of `TWO`.
 #[test]
 fn tells_long_names_and_bodies_of_a_second_entry(rt: HostRuntime) -> Result<(), Fail> {
-    let alloc = rt.alloc();
-    // 127 labels of one octet make a name of 255 octets with its zero; one more is too many.
-    for (labels, fault) in [(127, None), (128, Some(FrameFault::BadName))] {
-        let mut rest = Vec::new(alloc);
-        for _ in 0..labels {
-            rest.extend_from_slice(b"\x01a")?;
-        }
-        rest.extend_from_slice(b"\x00\x00\x01\x00\x01\x00\x04\xc0\x00\x02\x01")?;
-        let frame = behind_first(alloc, &rest)?;
-        assert_eq!(rt; decode(alloc, &frame).err(), fault);
-    }
-    // RDATAs that ascend, that are the same, and that descend.
-    for (last, fault) in [
-        (2, None),
-        (1, Some(FrameFault::BadBody)),
-        (0, Some(FrameFault::BadBody)),
-    ] {
-        let mut rest = b"\x00\x00\x01\x00\x02\x00\x04\xc0\x00\x02\x01\x00\x04\xc0\x00\x02".to_vec(
-            alloc,
-        )?;
-        rest.push(last)?;
-        let frame = behind_first(alloc, &rest)?;
-        assert_eq!(rt; decode(alloc, &frame).err(), fault);
-    }
-    // One RDATA of 8188 octets makes a body of 8192.
-    for (size, fault) in [(8188, None), (8189, Some(FrameFault::BadBody))] {
-        let mut rest = b"\x00\x00\x10\x00\x01".to_vec(alloc)?;
-        let count: u16 = size;
-        rest.extend_from_slice(&count.to_be_bytes())?;
-        for _ in 0..count {
-            rest.push(b'a')?;
-        }
-        let frame = behind_first(alloc, &rest)?;
-        assert_eq!(rt; decode(alloc, &frame).err(), fault);
-    }
-    Ok(())
+    let rows = "
+# 127 labels of one octet make a name of 255 octets with its zero; one more is too many.
+frame @00020303{00*7}640000012c07'example'03'com'00000100010004c00002010303{00*7}640000012c\
+    {0161*127}00000100010004c0000201 => 2 again
+frame @00020303{00*7}640000012c07'example'03'com'00000100010004c00002010303{00*7}640000012c\
+    {0161*128}00000100010004c0000201 => BadName
+# RDATAs that ascend, that are the same, and that descend.
+frame @00020303{00*7}640000012c07'example'03'com'00000100010004c00002010303{00*7}640000012c0000\
+    0100020004c00002010004c0000202 => 2 again
+frame @00020303{00*7}640000012c07'example'03'com'00000100010004c00002010303{00*7}640000012c0000\
+    0100020004c00002010004c0000201 => BadBody
+frame @00020303{00*7}640000012c07'example'03'com'00000100010004c00002010303{00*7}640000012c0000\
+    0100020004c00002010004c0000200 => BadBody
+# One RDATA of 8188 octets makes a body of 8192.
+frame @00020303{00*7}640000012c07'example'03'com'00000100010004c00002010303{00*7}640000012c0000\
+    1000011ffc{61*8188} => 2 again
+frame @00020303{00*7}640000012c07'example'03'com'00000100010004c00002010303{00*7}640000012c0000\
+    1000011ffd{61*8189} => BadBody";
+    check_frames(&rt, rt.alloc(), rows)
 }

@@ -11,3 +11,5 @@ mod names;
 mod observations;
 #[cfg(test)]
 mod replies;
+#[cfg(test)]
+mod rows;

@@ -1,265 +1,271 @@
 //! Replies as octets, and what they tell.
 
-use fleet_observe::{DigestFault, End, Kind, Moment, Observation, digest, observations, relay};
-use fleet_wire::{read_query, read_reply};
+use crate::names::push_text;
+use crate::observations::push_observation;
+use crate::rows::{Words, check_rows, push_octets};
+use fleet_observe::{Digest, DigestFault, End, Moment, digest, observations, relay};
+use fleet_wire::{Question, read_query, read_reply};
 use std::alloc::Global;
 use std::test::Fail;
 
-/// www.example. is an alias of a.example., and this one of b.example., which is not there.
-const TWO_ALIASES: [u8; 99] =
-    *b"\0\x02\x81\x83\0\x01\0\x02\0\x01\0\0\x03www\x07example\0\0\x01\0\x01\xc0\x0c\0\x05\0\x01\0\0\0\x3c\0\x04\x01a\xc0\x10\xc0\x29\0\x05\0\x01\0\0\0\x3c\0\x04\x01b\xc0\x10\xc0\x10\0\x06\0\x01\0\0\x0e\x10\0\x1a\x02ns\xc0\x10\0\0\0\0\x01\0\0\x0e\x10\0\0\x02\x58\0\x01\x51\x80\0\0\x01\x2c";
+/// The digest of a message, or why it has none.
+fn digest_of(alloc: Global, message: &[u8]) -> Result<Result<Digest, DigestFault>, Fail> {
+    let reply = read_reply(alloc, message)?;
+    Ok(digest(alloc, &reply))
+}
 
 /// The observations of a message at second 100.
-fn seen(alloc: Global, message: &[u8]) -> Result<Vec<Observation>, Fail> {
+pub(crate) fn tell_seen(
+    alloc: Global,
+    mut words: Words<'_>,
+    told: &mut String,
+) -> Result<(), Fail> {
     let stamp = Moment::new(100).ok_or("a moment")?;
-    let reply = read_reply(alloc, message)?;
-    let told = digest(alloc, &reply)?;
-    Ok(observations(alloc, &told, stamp)?)
+    let message = words.octets(alloc)?;
+    let digest = digest_of(alloc, message.as_slice())??;
+    let all = observations(alloc, &digest, stamp)?;
+    told.push_str(if all.is_empty() { "none" } else { "" })?;
+    for observation in &all {
+        push_observation(alloc, told, observation)?;
+    }
+    Ok(())
 }
 
-/// What a client that asked so, with identifier 7 and RD, is told of a message.
-fn relayed(alloc: Global, asked: &[u8], message: &[u8]) -> Result<Vec<u8>, Fail> {
-    let head = b"\0\x07\x01\0\0\x01\0\0\0\0\0\0";
-    let query = joined(alloc, head.as_slice(), asked)?;
-    let (header, question) = read_query(alloc, &query)?;
-    let reply = read_reply(alloc, message)?;
-    let told = digest(alloc, &reply)?;
-    Ok(relay(alloc, &told, &question, header.id, header.rd)?)
+/// Adds what is relayed of a message to one who asked so.
+fn push_relayed(
+    alloc: Global,
+    told: &mut String,
+    digest: &Digest,
+    query: &[u8],
+) -> Result<(), Fail> {
+    let (header, question) = read_query(alloc, query)?;
+    let octets = relay(alloc, digest, &question, header.id, header.rd)?;
+    push_octets(told, octets.as_slice())
 }
 
-/// One after the other.
-fn joined(alloc: Global, front: &[u8], back: &[u8]) -> Result<Vec<u8>, Fail> {
-    let mut all = Vec::from_slice(alloc, front)?;
-    all.extend_from_slice(back)?;
-    Ok(all)
+/// What a client that asked so is told of a message.
+pub(crate) fn tell_relay(
+    alloc: Global,
+    mut words: Words<'_>,
+    told: &mut String,
+) -> Result<(), Fail> {
+    let query = words.octets(alloc)?;
+    let message = words.octets(alloc)?;
+    let digest = digest_of(alloc, message.as_slice())??;
+    push_relayed(alloc, told, &digest, query.as_slice())
 }
 
+/// Adds how a reply ends.
+fn push_end(told: &mut String, end: &End) -> Result<(), Fail> {
+    match end {
+        End::Records(_) => told.push_str("Records")?,
+        End::NoData(_) => told.push_str("NoData")?,
+        End::NxDomain(_) => told.push_str("NxDomain")?,
+        End::Code(code) => write!(told, "Code {code}")?,
+        End::Truncated => told.push_str("Truncated")?,
+    }
+    Ok(())
+}
+
+/// Adds what a digest holds: how it ends, its question, whether AA was set, and how many links and
+/// RRsets of name servers there are.
+fn push_digest(alloc: Global, told: &mut String, digest: &Digest) -> Result<(), Fail> {
+    push_end(told, digest.end())?;
+    told.push_str(" ")?;
+    push_text(alloc, told, digest.name())?;
+    let aa = if digest.aa() { "aa " } else { "" };
+    let (links, sets) = (digest.chain().len(), digest.ns().len());
+    write!(told, " {} {aa}{links} {sets}", digest.rtype())?;
+    Ok(())
+}
+
+/// What the digest of a message holds, or why there is none.
+pub(crate) fn tell_digest(
+    alloc: Global,
+    mut words: Words<'_>,
+    told: &mut String,
+) -> Result<(), Fail> {
+    let message = words.octets(alloc)?;
+    match digest_of(alloc, message.as_slice())? {
+        Ok(digest) => push_digest(alloc, told, &digest),
+        Err(fault) => Ok(write!(told, "{fault:?}")?),
+    }
+}
+
+/// www.example. is an alias of a.example., and this one of b.example., which is not there.
 #[test]
 fn two_aliases_of_a_name_that_is_not_there(rt: HostRuntime) -> Result<(), Fail> {
-    let all = seen(rt.alloc(), TWO_ALIASES.as_slice())?;
-    assert_eq!(rt; all.len(), 3);
-    let first = &all[0];
-    assert_eq!(rt; first.kind(), Kind::Positive);
-    assert_eq!(rt; first.name().octets(), b"\x03www\x07example\0".as_slice());
-    assert_eq!(rt; (first.rtype(), first.rank(), first.life()), (5, 1, 60));
-    assert_eq!(rt; first.stamp().value(), 100);
-    let body = first.write_body(rt.alloc())?;
-    assert_eq!(rt;
-        body.as_slice(),
-        b"\0\x01\0\x0b\x01a\x07example\0".as_slice()
-    );
-    let second = &all[1];
-    assert_eq!(rt; second.name().octets(), b"\x01a\x07example\0".as_slice());
-    assert_eq!(rt; (second.rtype(), second.rank(), second.life()), (5, 1, 60));
-    let last = &all[2];
-    assert_eq!(rt; last.kind(), Kind::NameError);
-    assert_eq!(rt; last.name().octets(), b"\x01b\x07example\0".as_slice());
-    assert_eq!(rt; (last.rtype(), last.rank(), last.life()), (0, 1, 300));
-    let body = last.write_body(rt.alloc())?;
-    assert_eq!(rt;
-        body.as_slice(),
-        b"\x07example\0\0\x21\x02ns\x07example\0\0\0\0\0\x01\0\0\x0e\x10\0\0\x02\x58\0\x01\x51\x80\0\0\x01\x2c".as_slice()
-    );
-    Ok(())
+    let rows = "
+seen aliases => \
+    Positive www.example. 5 1 100 60 0001000b01'a'07'example'00;\
+    Positive a.example. 5 1 100 60 0001000b01'b'07'example'00;\
+    NameError b.example. 0 1 100 300 07'example'00002102'ns'07'example'0000\
+    0000000100000e1000000258000151800000012c;";
+    check_rows(&rt, rt.alloc(), rows)
 }
 
 #[test]
 fn denials_and_the_data_below_them(rt: HostRuntime) -> Result<(), Fail> {
-    let denial =
-        b"\0\x03\x85\x83\0\x01\0\0\0\x01\0\0\x01b\x07example\0\0\x01\0\x01\xc0\x0e\0\x06\0\x01\0\0\x0e\x10\0\x16\0\0\0\0\0\x01\0\0\x0e\x10\0\0\x02\x58\0\x01\x51\x80\0\0\x01\x2c";
-    assert_eq!(rt; seen(rt.alloc(), denial.as_slice())?.len(), 1);
-    let below =
-        b"\0\x04\x85\x80\0\x01\0\x01\0\0\0\0\x01x\x01y\x01b\x07example\0\0\x01\0\x01\xc0\x0c\0\x01\0\x01\0\0\x01\x2c\0\x04\xc0\0\x02\x01";
-    assert_eq!(rt; seen(rt.alloc(), below.as_slice())?.len(), 1);
-    Ok(())
+    let rows = "\
+seen 00038583000100000001000001'b'07'example'0000010001c00e0006000100000e1000160000000000010000\
+    0e1000000258000151800000012c => \
+    NameError b.example. 0 3 100 300 07'example'00001600000000000100000e100000025800015180000001\
+    2c;
+seen 00048580000100010000000001'x'01'y'01'b'07'example'0000010001c00c000100010000012c0004c00002\
+    01 => \
+    Positive x.y.b.example. 1 3 100 300 00010004c0000201;";
+    check_rows(&rt, rt.alloc(), rows)
 }
 
 #[test]
 fn no_data_by_its_soa(rt: HostRuntime) -> Result<(), Fail> {
-    let head = b"\0\x05\x85\x80\0\x01\0\0\0\x01\0\0\x07example\x03com\0\0\x1c\0\x01";
-    let com = joined(
-        rt.alloc(),
-        head.as_slice(),
-        b"\xc0\x14\0\x06\0\x01\0\x01\x86\xa0\0\x16\0\0\0\0\0\x01\0\0\x0e\x10\0\0\x02\x58\0\x01\x51\x80",
-    )?;
-    let known = joined(rt.alloc(), &com, b"\0\0\x4e\x20")?;
-    let all = seen(rt.alloc(), &known)?;
-    assert_eq!(rt; all.len(), 1);
-    assert_eq!(rt;
-        (all[0].kind(), all[0].rank(), all[0].life()),
-        (Kind::NoData, 3, 10800)
-    );
-    let large = joined(rt.alloc(), &com, b"\x80\0\0\x01")?;
-    assert_eq!(rt; seen(rt.alloc(), &large)?.len(), 0);
-    let other = joined(
-        rt.alloc(),
-        head.as_slice(),
-        b"\x03net\0\0\x06\0\x01\0\x01\x86\xa0\0\x16\0\0\0\0\0\x01\0\0\x0e\x10\0\0\x02\x58\0\x01\x51\x80\0\0\x4e\x20",
-    )?;
-    assert_eq!(rt; seen(rt.alloc(), &other)?.len(), 0);
-    Ok(())
+    let rows = "\
+seen 00058580000100000001000007'example'03'com'00001c0001c01400060001000186a0001600000000000100\
+    000e10000002580001518000004e20 => \
+    NoData example.com. 28 3 100 10800 03'com'00001600000000000100000e10000002580001518000004e20\
+    ;
+# A MINIMUM with its top bit set is zero.
+seen 00058580000100000001000007'example'03'com'00001c0001c01400060001000186a0001600000000000100\
+    000e10000002580001518080000001 => none
+# net. is no ancestor of the name.
+seen 00058580000100000001000007'example'03'com'00001c000103'net'0000060001000186a000160000000000\
+    0100000e10000002580001518000004e20 => none";
+    check_rows(&rt, rt.alloc(), rows)
 }
 
 #[test]
 fn name_servers_of_an_authority(rt: HostRuntime) -> Result<(), Fail> {
-    let rest =
-        b"\0\x01\0\x01\0\x01\0\0\x07example\x03com\0\0\x01\0\x01\xc0\x0c\0\x01\0\x01\0\0\x01\x2c\0\x04\xc0\0\x02\x01\xc0\x0c\0\x02\0\x01\0\0\x02\x58\0\x05\x02ns\xc0\x0c";
-    let known = joined(rt.alloc(), b"\0\x01\x85\x80", rest.as_slice())?;
-    assert_eq!(rt; seen(rt.alloc(), &known)?.len(), 2);
-    let unknown = joined(rt.alloc(), b"\0\x01\x81\x80", rest.as_slice())?;
-    assert_eq!(rt; seen(rt.alloc(), &unknown)?.len(), 1);
-    Ok(())
+    let rows = "\
+seen 00018580000100010001000007'example'03'com'0000010001c00c000100010000012c0004c0000201c00c00\
+    02000100000258000502'ns'c00c => \
+    Positive example.com. 1 3 100 300 00010004c0000201;\
+    Positive example.com. 2 2 100 600 0001001002'ns'07'example'03'com'00;
+# AA is clear.
+seen 00018180000100010001000007'example'03'com'0000010001c00c000100010000012c0004c0000201c00c00\
+    02000100000258000502'ns'c00c => \
+    Positive example.com. 1 1 100 300 00010004c0000201;";
+    check_rows(&rt, rt.alloc(), rows)
 }
 
+/// A message of 509 octets.
 #[test]
 fn thirty_addresses(rt: HostRuntime) -> Result<(), Fail> {
-    let mut message = Vec::from_slice(
-        rt.alloc(),
-        b"\0\x01\x85\x80\0\x01\0\x1e\0\0\0\0\x07example\x03com\0\0\x01\0\x01",
-    )?;
-    for host in 1..31u8 {
-        message.extend_from_slice(b"\xc0\x0c\0\x01\0\x01\0\0\x01\x2c\0\x04\xc0\0\x02")?;
-        message.push(host)?;
-    }
-    assert_eq!(rt; message.len(), 509);
-    let all = seen(rt.alloc(), &message)?;
-    assert_eq!(rt; all.len(), 1);
-    assert_eq!(rt; all[0].rdatas().len(), 30);
-    Ok(())
+    let rows = "\
+seen 000185800001001e0000000007'example'03'com'0000010001c00c000100010000012c0004c0000201c00c00\
+    0100010000012c0004c0000202c00c000100010000012c0004c0000203c00c000100010000012c0004c0000204c0\
+    0c000100010000012c0004c0000205c00c000100010000012c0004c0000206c00c000100010000012c0004c00002\
+    07c00c000100010000012c0004c0000208c00c000100010000012c0004c0000209c00c000100010000012c0004c0\
+    00020ac00c000100010000012c0004c000020bc00c000100010000012c0004c000020cc00c000100010000012c00\
+    04c000020dc00c000100010000012c0004c000020ec00c000100010000012c0004c000020fc00c00010001000001\
+    2c0004c0000210c00c000100010000012c0004c0000211c00c000100010000012c0004c0000212c00c0001000100\
+    00012c0004c0000213c00c000100010000012c0004c0000214c00c000100010000012c0004c0000215c00c000100\
+    010000012c0004c0000216c00c000100010000012c0004c0000217c00c000100010000012c0004c0000218c00c00\
+    0100010000012c0004c0000219c00c000100010000012c0004c000021ac00c000100010000012c0004c000021bc0\
+    0c000100010000012c0004c000021cc00c000100010000012c0004c000021dc00c000100010000012c0004c00002\
+    1e => \
+    Positive example.com. 1 3 100 300 001e0004c00002010004c00002020004c00002030004c00002040004c0\
+    0002050004c00002060004c00002070004c00002080004c00002090004c000020a0004c000020b0004c000020c00\
+    04c000020d0004c000020e0004c000020f0004c00002100004c00002110004c00002120004c00002130004c00002\
+    140004c00002150004c00002160004c00002170004c00002180004c00002190004c000021a0004c000021b0004c0\
+    00021c0004c000021d0004c000021e;";
+    check_rows(&rt, rt.alloc(), rows)
 }
 
 #[test]
 fn a_chain_of_nine(rt: HostRuntime) -> Result<(), Fail> {
-    let mut message = Vec::from_slice(
-        rt.alloc(),
-        b"\0\x01\x81\x80\0\x01\0\x0a\0\0\0\0\x02c0\0\0\x01\0\x01",
-    )?;
-    for link in b'0'..b'9' {
-        message.extend_from_slice(b"\x02c")?;
-        message.push(link)?;
-        message.extend_from_slice(b"\0\0\x05\0\x01\0\0\x01\x2c\0\x04\x02c")?;
-        message.push(link + 1)?;
-        message.push(0)?;
-    }
-    message.extend_from_slice(b"\x02c9\0\0\x01\0\x01\0\0\x01\x2c\0\x04\xc0\0\x02\x01")?;
-    let reply = read_reply(rt.alloc(), &message)?;
-    let fault = digest(rt.alloc(), &reply).err();
-    assert!(rt; fault == Some(DigestFault::BadChain));
-    Ok(())
+    let rows = "\
+digest 000181800001000a0000000002'c0'000001000102'c0'00000500010000012c000402'c1'0002'c1'000005\
+    00010000012c000402'c2'0002'c2'00000500010000012c000402'c3'0002'c3'00000500010000012c000402\
+    'c4'0002'c4'00000500010000012c000402'c5'0002'c5'00000500010000012c000402'c6'0002'c6'00000500\
+    010000012c000402'c7'0002'c7'00000500010000012c000402'c8'0002'c8'00000500010000012c000402'c9'\
+    0002'c9'00000100010000012c0004c0000201 => BadChain";
+    check_rows(&rt, rt.alloc(), rows)
 }
 
 #[test]
 fn relays_a_large_ttl_and_a_denial(rt: HostRuntime) -> Result<(), Fail> {
-    let asked = b"\x07example\x03com\0\0\x01\0\x01";
-    let twice =
-        b"\x12\x34\x81\x80\0\x01\0\x02\0\0\0\0\x07example\x03com\0\0\x01\0\x01\xc0\x0c\0\x01\0\x01\0\0\x01\x2c\0\x04\xc0\0\x02\x01\xc0\x0c\0\x01\0\x01\x80\0\0\x01\0\x04\xc0\0\x02\x01";
-    assert_eq!(rt;
-        relayed(rt.alloc(), asked.as_slice(), twice.as_slice())?.as_slice(),
-        b"\0\x07\x81\x80\0\x01\0\x01\0\0\0\0\x07example\x03com\0\0\x01\0\x01\x07example\x03com\0\0\x01\0\x01\0\0\0\0\0\x04\xc0\0\x02\x01".as_slice()
-    );
-    let denial = b"\x12\x34\x81\x83\0\x01\0\0\0\0\0\0\x07example\x03com\0\0\x01\0\x01";
-    assert_eq!(rt;
-        relayed(rt.alloc(), asked.as_slice(), denial.as_slice())?.as_slice(),
-        b"\0\x07\x81\x83\0\x01\0\0\0\0\0\0\x07example\x03com\0\0\x01\0\x01".as_slice()
-    );
-    Ok(())
+    let rows = "\
+relay 00070100000100000000000007'example'03'com'0000010001 12348180000100020000000007'example'03\
+    'com'0000010001c00c000100010000012c0004c0000201c00c00010001800000010004c0000201 => 00078180\
+    000100010000000007'example'03'com'000001000107'example'03'com'0000010001000000000004c0000201
+relay 00070100000100000000000007'example'03'com'0000010001 12348183000100000000000007'example'03\
+    'com'0000010001 => 00078183000100000000000007'example'03'com'0000010001";
+    check_rows(&rt, rt.alloc(), rows)
 }
 
 /// The flags of a reply with an NS record, and those of what its client is told: RCODE 0 and TC
 /// where TC is set, else its own RCODE.
 #[test]
 fn relays_what_was_cut_off_and_other_codes(rt: HostRuntime) -> Result<(), Fail> {
-    let alloc = rt.alloc();
-    let rest =
-        b"\0\x01\0\0\0\x01\0\0\x07example\x03com\0\0\x01\0\x01\xc0\x0c\0\x02\0\x01\0\0\x02\x58\0\x05\x02ns\xc0\x0c";
-    let asked = b"\x07Example\x03COM\0\0\x01\0\x01";
-    let counts = b"\0\x01\0\0\0\0\0\0";
-    for (flags, told) in [
-        (b"\x12\x34\x87\x80", b"\0\x07\x83\x80"),
-        (b"\x12\x34\x87\x83", b"\0\x07\x83\x80"),
-        (b"\x12\x34\x85\x82", b"\0\x07\x81\x82"),
-        (b"\x12\x34\x85\x85", b"\0\x07\x81\x85"),
-    ] {
-        let message = joined(alloc, flags.as_slice(), rest.as_slice())?;
-        assert_eq!(rt; seen(alloc, &message)?.len(), 0);
-        let head = joined(alloc, told.as_slice(), counts.as_slice())?;
-        let reply = joined(alloc, &head, asked.as_slice())?;
-        assert_eq!(rt;
-            relayed(alloc, asked.as_slice(), &message)?.as_slice(),
-            reply.as_slice()
-        );
-    }
-    Ok(())
+    let rows = "\
+seen 12348780000100000001000007'example'03'com'0000010001c00c0002000100000258000502'ns'c00c => \
+    none
+relay 00070100000100000000000007'Example'03'COM'0000010001 12348780000100000001000007'example'03\
+    'com'0000010001c00c0002000100000258000502'ns'c00c => 00078380000100000000000007'Example'03\
+    'COM'0000010001
+seen 12348783000100000001000007'example'03'com'0000010001c00c0002000100000258000502'ns'c00c => \
+    none
+relay 00070100000100000000000007'Example'03'COM'0000010001 12348783000100000001000007'example'03\
+    'com'0000010001c00c0002000100000258000502'ns'c00c => 00078380000100000000000007'Example'03\
+    'COM'0000010001
+seen 12348582000100000001000007'example'03'com'0000010001c00c0002000100000258000502'ns'c00c => \
+    none
+relay 00070100000100000000000007'Example'03'COM'0000010001 12348582000100000001000007'example'03\
+    'com'0000010001c00c0002000100000258000502'ns'c00c => 00078182000100000000000007'Example'03\
+    'COM'0000010001
+seen 12348585000100000001000007'example'03'com'0000010001c00c0002000100000258000502'ns'c00c => \
+    none
+relay 00070100000100000000000007'Example'03'COM'0000010001 12348585000100000001000007'example'03\
+    'com'0000010001c00c0002000100000258000502'ns'c00c => 00078185000100000000000007'Example'03\
+    'COM'0000010001";
+    check_rows(&rt, rt.alloc(), rows)
 }
 
 /// The same flags: what the digest holds.
 #[test]
 fn digests_what_was_cut_off_and_other_codes(rt: HostRuntime) -> Result<(), Fail> {
-    let alloc = rt.alloc();
-    let cut = b"\x12\x34\x87\x83\0\x01\0\x05\0\x01\0\0\x07example\x03com\0\0\x01\0\x01";
-    let told = digest(alloc, &read_reply(alloc, cut.as_slice())?)?;
-    assert!(rt; matches!(told.end(), End::Truncated));
-    assert_eq!(rt; told.name().octets(), b"\x07example\x03com\0".as_slice());
-    assert!(rt; told.aa() && told.rtype() == 1 && told.chain().is_empty() && told.ns().is_empty());
-    let refused = b"\x12\x34\x81\x85\0\x01\0\0\0\0\0\0\x07example\x03com\0\0\x1c\0\x01";
-    let told = digest(alloc, &read_reply(alloc, refused.as_slice())?)?;
-    assert!(rt; matches!(told.end(), End::Code(5)));
-    assert_eq!(rt; told.name().octets(), b"\x07example\x03com\0".as_slice());
-    assert!(rt;
-        !told.aa() && told.rtype() == 28 && told.chain().is_empty() && told.ns().is_empty()
-    );
-    Ok(())
+    let rows = "\
+digest 12348783000100050001000007'example'03'com'0000010001 => Truncated example.com. 1 aa 0 0
+digest 12348185000100000000000007'example'03'com'00001c0001 => Code 5 example.com. 28 0 0";
+    check_rows(&rt, rt.alloc(), rows)
 }
 
 #[test]
 fn relays_aliases_of_a_name_that_is_not_there(rt: HostRuntime) -> Result<(), Fail> {
-    let asked = b"\x03www\x07example\0\0\x01\0\x01";
-    assert_eq!(rt;
-        relayed(rt.alloc(), asked.as_slice(), TWO_ALIASES.as_slice())?.as_slice(),
-        b"\0\x07\x81\x83\0\x01\0\x02\0\x01\0\0\x03www\x07example\0\0\x01\0\x01\x03www\x07example\0\0\x05\0\x01\0\0\0\x3c\0\x0b\x01a\x07example\0\x01a\x07example\0\0\x05\0\x01\0\0\0\x3c\0\x0b\x01b\x07example\0\x07example\0\0\x06\0\x01\0\0\x01\x2c\0\x21\x02ns\x07example\0\0\0\0\0\x01\0\0\x0e\x10\0\0\x02\x58\0\x01\x51\x80\0\0\x01\x2c".as_slice()
-    );
-    Ok(())
+    let rows = "\
+relay 00070100000100000000000003'www'07'example'0000010001 aliases => 00078183000100020001000003\
+    'www'07'example'000001000103'www'07'example'00000500010000003c000b01'a'07'example'0001'a'07\
+    'example'00000500010000003c000b01'b'07'example'0007'example'00000600010000012c002102'ns'07\
+    'example'00000000000100000e1000000258000151800000012c";
+    check_rows(&rt, rt.alloc(), rows)
 }
 
 #[test]
 fn no_data_behind_an_alias(rt: HostRuntime) -> Result<(), Fail> {
-    let message =
-        b"\0\x02\x85\x80\0\x01\0\x01\0\x01\0\0\x03www\x07example\0\0\x1c\0\x01\xc0\x0c\0\x05\0\x01\0\0\0\x3c\0\x04\x01a\xc0\x10\xc0\x10\0\x06\0\x01\0\0\x0e\x10\0\x1a\x02ns\xc0\x10\0\0\0\0\x01\0\0\x0e\x10\0\0\x02\x58\0\x01\x51\x80\0\0\x01\x2c";
-    let all = seen(rt.alloc(), message.as_slice())?;
-    assert_eq!(rt; all.len(), 2);
-    assert_eq!(rt; all[0].name().octets(), b"\x03www\x07example\0".as_slice());
-    assert_eq!(rt; (all[0].rtype(), all[0].rank(), all[0].life()), (5, 3, 60));
-    assert_eq!(rt; all[1].kind(), Kind::NoData);
-    assert_eq!(rt; all[1].name().octets(), b"\x01a\x07example\0".as_slice());
-    assert_eq!(rt;
-        (all[1].rtype(), all[1].rank(), all[1].life()),
-        (28, 1, 300)
-    );
-    let asked = b"\x03www\x07example\0\0\x1c\0\x01";
-    assert_eq!(rt;
-        relayed(rt.alloc(), asked.as_slice(), message.as_slice())?.as_slice(),
-        b"\0\x07\x81\x80\0\x01\0\x01\0\x01\0\0\x03www\x07example\0\0\x1c\0\x01\x03www\x07example\0\0\x05\0\x01\0\0\0\x3c\0\x0b\x01a\x07example\0\x07example\0\0\x06\0\x01\0\0\x01\x2c\0\x21\x02ns\x07example\0\0\0\0\0\x01\0\0\x0e\x10\0\0\x02\x58\0\x01\x51\x80\0\0\x01\x2c".as_slice()
-    );
-    Ok(())
+    let rows = "\
+seen 00028580000100010001000003'www'07'example'00001c0001c00c000500010000003c000401'a'c010c01000\
+    06000100000e10001a02'ns'c010000000000100000e1000000258000151800000012c => \
+    Positive www.example. 5 3 100 60 0001000b01'a'07'example'00;\
+    NoData a.example. 28 1 100 300 07'example'00002102'ns'07'example'00000000000100000e10000002\
+    58000151800000012c;
+relay 00070100000100000000000003'www'07'example'00001c0001 00028580000100010001000003'www'07\
+    'example'00001c0001c00c000500010000003c000401'a'c010c0100006000100000e10001a02'ns'c010000000\
+    000100000e1000000258000151800000012c => 00078180000100010001000003'www'07'example'00001c0001\
+    03'www'07'example'00000500010000003c000b01'a'07'example'0007'example'00000600010000012c0021\
+    02'ns'07'example'00000000000100000e1000000258000151800000012c";
+    check_rows(&rt, rt.alloc(), rows)
 }
 
 /// com. first, with TTLs of 600 and 700, then example.com.; net. is no ancestor of the question's
 /// name.
 #[test]
 fn two_sets_of_name_servers(rt: HostRuntime) -> Result<(), Fail> {
-    let message =
-        b"\0\x01\x85\x80\0\x01\0\x01\0\x04\0\0\x07example\x03com\0\0\x01\0\x01\xc0\x0c\0\x01\0\x01\0\0\x01\x2c\0\x04\xc0\0\x02\x01\xc0\x14\0\x02\0\x01\0\0\x02\xbc\0\x05\x02nt\xc0\x14\xc0\x0c\0\x02\0\x01\0\0\x01\xf4\0\x05\x02ns\xc0\x0c\x03net\0\0\x02\0\x01\0\0\x02\x58\0\x05\x02ns\xc0\x0c\xc0\x14\0\x02\0\x01\0\0\x02\x58\0\x05\x02ns\xc0\x14";
-    let all = seen(rt.alloc(), message.as_slice())?;
-    assert_eq!(rt; all.len(), 3);
-    assert_eq!(rt; (all[0].rtype(), all[0].rank(), all[0].life()), (1, 3, 300));
-    assert_eq!(rt; all[1].name().octets(), b"\x03com\0".as_slice());
-    assert_eq!(rt; (all[1].rtype(), all[1].rank(), all[1].life()), (2, 2, 600));
-    let body = all[1].write_body(rt.alloc())?;
-    assert_eq!(rt;
-        body.as_slice(),
-        b"\0\x02\0\x08\x02ns\x03com\0\0\x08\x02nt\x03com\0".as_slice()
-    );
-    assert_eq!(rt; all[2].name().octets(), b"\x07example\x03com\0".as_slice());
-    assert_eq!(rt; (all[2].rtype(), all[2].rank(), all[2].life()), (2, 2, 500));
-    Ok(())
+    let rows = "\
+seen 00018580000100010004000007'example'03'com'0000010001c00c000100010000012c0004c0000201c01400\
+    020001000002bc000502'nt'c014c00c00020001000001f4000502'ns'c00c03'net'0000020001000002580005\
+    02'ns'c00cc0140002000100000258000502'ns'c014 => \
+    Positive example.com. 1 3 100 300 00010004c0000201;\
+    Positive com. 2 2 100 600 0002000802'ns'03'com'00000802'nt'03'com'00;\
+    Positive example.com. 2 2 100 500 0001001002'ns'07'example'03'com'00;";
+    check_rows(&rt, rt.alloc(), rows)
 }
