@@ -4,4 +4,8 @@
 #[cfg(test)]
 mod calls;
 #[cfg(test)]
+mod octets;
+#[cfg(test)]
+mod rows;
+#[cfg(test)]
 mod turns;

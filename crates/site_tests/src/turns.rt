@@ -2,14 +2,16 @@
 
 ghost use Rattle.rand_core.specs.Steps.{stream_of, steps_u32};
 
-use fleet_site::{Config, ListClock, MemoryPort, Note, Port, Report, Site, serve};
+use crate::octets::{octets, spelt_out};
+use crate::rows::{addr, check_rows, moment, new_site, number, tell_packet};
 use fleet_name::Octets;
-use fleet_observe::Moment;
 use fleet_pending::Addr;
+use fleet_site::{ListClock, MemoryPort, Note, Port, Report, Site, serve};
 use rand_core::utils::NextWord;
 use rand_core::{Rng, utils};
 use std::alloc::{AllocError, Global};
 use std::marker::Model;
+use std::process::Abort;
 use std::test::Fail;
 
 /// Gives one word, again and again.
@@ -40,131 +42,154 @@ impl Rng for OneWord {
     }
 }
 
-/// The question for example.com., type A.
-const QUESTION: &[u8] =
-    b"\x00\x07\x01\x00\x00\x01\x00\x00\x00\x00\x00\x00\x07example\x03com\x00\x00\x01\x00\x01";
-
-/// Its query, under the identifier 1234.
-const QUERY: &[u8] =
-    b"\x12\x34\x01\x00\x00\x01\x00\x00\x00\x00\x00\x00\x07example\x03com\x00\x00\x01\x00\x01";
-
-/// That no upstream answered it.
-const FAILURE: &[u8] =
-    b"\x00\x07\x81\x82\x00\x01\x00\x00\x00\x00\x00\x00\x07example\x03com\x00\x00\x01\x00\x01";
-
-/// A frame of its address, stamped 100, with life 300.
-const FRAME: &[u8] =
-    b"\x44\x47\x01\x00\x01\x03\x03\x00\x00\x00\x00\x00\x00\x00\x64\x00\x00\x01\x2c\x07example\x03com\x00\x00\x01\x00\x01\x00\x04\xc0\x00\x02\x01";
-
-fn addr(port: u16) -> Addr {
-    Addr {
-        host: 0x7f00_0001,
-        port,
-    }
-}
-
-fn site(alloc: Global) -> Result<Site, Fail> {
-    let upstreams = Vec::from_slice(alloc, &[addr(5301), addr(5302)])?;
-    let peers = Vec::from_slice(alloc, &[addr(5401), addr(5402)])?;
-    Ok(Site::new(alloc, Config::new(upstreams, peers)?))
-}
-
-fn clock(alloc: Global, seconds: &[u64]) -> Result<ListClock, Fail> {
+/// A clock that tells these moments.
+fn clock(alloc: Global, seconds: &str) -> Result<ListClock, Fail> {
     let mut moments = Vec::new(alloc);
-    for second in seconds {
-        moments.push(Moment::new(*second).ok_or("no moment")?)?;
+    for second in seconds.split(' ') {
+        moments.push(moment(second)?)?;
     }
     Ok(ListClock::new(moments))
 }
 
 /// A port at which one question arrives, and which fails at one call.
-fn question_port(alloc: Global, fail_at: Option<u64>) -> Result<MemoryPort, AllocError> {
+fn question_port(
+    alloc: Global,
+    question: Octets,
+    fail_at: Option<u64>,
+) -> Result<MemoryPort, AllocError> {
     let mut arrivals = Vec::with_capacity(alloc, 1)?;
-    arrivals.push_reserved(Some((addr(6001), Octets::copy_of(alloc, QUESTION)?)));
+    arrivals.push_reserved(Some((addr(6001), question)));
     Ok(MemoryPort::new(alloc, arrivals, fail_at))
 }
 
 /// So many turns from the moment 100 on, two seconds each, without sweeps.
 fn run(alloc: Global, port: &mut MemoryPort, turns: u32) -> Result<Report, Fail> {
-    let mut clock = clock(alloc, &[100, 102, 104])?;
-    let mut site = site(alloc)?;
+    let mut clock = clock(alloc, "100 102 104")?;
+    let mut site = new_site(alloc, &[addr(5401), addr(5402)])?;
     let mut words = OneWord(0xabcd_1234);
     Ok(serve(port, &mut clock, &mut words, &mut site, turns, 0))
 }
 
-/// A report without refusals, where memory was found.
-fn report_of(turns: u64, received: u64, sent: u64, lost: u64, faults: u64) -> Report {
-    Report {
+/// Compares a report with its counts: turns, datagrams received, packets sent, packets lost,
+/// receives that failed, refusals, and steps that found no memory.
+fn check_report(rt: &impl Abort, alloc: Global, report: Report, counts: &str) -> Result<(), Fail> {
+    let Report {
         turns,
         received,
         sent,
         lost,
         faults,
-        refused: 0,
-        short: 0,
+        refused,
+        short,
+    } = report;
+    let told = format!(in alloc; "{turns} {received} {sent} {lost} {faults} {refused} {short}")?;
+    assert_eq!(rt; told.as_str(), counts);
+    Ok(())
+}
+
+/// Adds how a call of a port ended, with where a packet came from or went, and its octets.
+fn tell_moved(told: &mut String, end: &str, addr: Addr, octets: &Octets) -> Result<(), Fail> {
+    told.push_str(end)?;
+    tell_packet(told, addr, octets.as_slice())
+}
+
+/// Adds a call of a port, and how it ended.
+fn tell_note(told: &mut String, note: &Note) -> Result<(), Fail> {
+    match note {
+        Note::Received(from, octets) => tell_moved(told, " received", *from, octets),
+        Note::NoDatagram => Ok(told.push_str(" nothing")?),
+        Note::Fault => Ok(told.push_str(" fault")?),
+        Note::Sent(to, octets) => tell_moved(told, " sent", *to, octets),
+        Note::Lost(to, octets) => tell_moved(told, " lost", *to, octets),
     }
 }
 
-/// The call with this number was the send of these octets there.
-fn has_sent(port: &MemoryPort, number: usize, to: u16, octets: &[u8]) -> bool {
-    match port.notes().unwrap_or(&[]).get(number) {
-        Some(Note::Sent(there, bytes)) => *there == addr(to) && bytes.as_slice() == octets,
-        _ => false,
+/// Compares the first six calls of a port, and how they ended.
+fn check_notes(
+    rt: &impl Abort,
+    alloc: Global,
+    port: &MemoryPort,
+    wanted: &str,
+) -> Result<(), Fail> {
+    let mut told = String::new(alloc);
+    for note in port.notes().unwrap_or(&[]).iter().take(6) {
+        tell_note(&mut told, note)?;
     }
+    assert_eq!(rt; told.as_str(), spelt_out(alloc, wanted)?.as_str());
+    Ok(())
+}
+
+/// A question goes to each upstream in so many turns, and fails.
+fn check_turns(rt: &impl Abort, alloc: Global, turns: u32, counts: &str) -> Result<(), Fail> {
+    let mut port = question_port(alloc, octets(alloc, "question")?, None)?;
+    check_report(rt, alloc, run(alloc, &mut port, turns)?, counts)?;
+    assert_eq!(rt; port.failures(), 0);
+    check_notes(
+        rt,
+        alloc,
+        &port,
+        "received 6001 question sent 5301 query nothing sent 5302 query nothing sent 6001 failure",
+    )
 }
 
 #[test]
 fn a_question_goes_to_each_upstream_and_fails(rt: HostRuntime) -> Result<(), Fail> {
-    let alloc = rt.alloc();
-    for turns in [3u32, 300] {
-        let mut port = question_port(alloc, None)?;
-        let report = run(alloc, &mut port, turns)?;
-        assert_eq!(rt; report, report_of(u64::from(turns), 1, 3, 0, 0));
-        assert_eq!(rt; port.failures(), 0);
-        assert!(rt; has_sent(&port, 1, 5301, QUERY));
-        assert!(rt; has_sent(&port, 3, 5302, QUERY));
-        assert!(rt; has_sent(&port, 5, 6001, FAILURE));
-    }
-    Ok(())
+    check_turns(&rt, rt.alloc(), 3, "3 1 3 0 0 0 0")?;
+    check_turns(&rt, rt.alloc(), 300, "300 1 3 0 0 0 0")
+}
+
+/// The call that fails, of three turns in which a question goes to each upstream, and the counts of
+/// their report.
+const FAILURES: &str = "\
+1 => 3 1 2 0 1 0 0
+2 => 3 1 2 1 0 0 0
+3 => 3 1 3 0 1 0 0
+4 => 3 1 2 1 0 0 0
+5 => 3 1 3 0 1 0 0
+6 => 3 1 2 1 0 0 0
+7 => 3 1 3 0 0 0 0
+";
+
+/// Compares the report of three turns where a call fails.
+fn check_failure(rt: &impl Abort, alloc: Global, row: &str) -> Result<(), Fail> {
+    let (fail_at, counts) = row.split_once(" => ").ok_or("no counts")?;
+    let fail_at = u64::from(number(fail_at)?);
+    let mut port = question_port(alloc, octets(alloc, "question")?, Some(fail_at))?;
+    let report = run(alloc, &mut port, 3)?;
+    assert_eq!(rt;
+        port.failures(),
+        report.lost.saturating_add(report.faults),
+        "{row}"
+    );
+    check_report(rt, alloc, report, counts)
 }
 
 #[test]
 fn a_call_that_fails_is_lost_or_a_fault(rt: HostRuntime) -> Result<(), Fail> {
-    let alloc = rt.alloc();
-    let rows = [
-        (1u64, report_of(3, 1, 2, 0, 1)),
-        (2, report_of(3, 1, 2, 1, 0)),
-        (3, report_of(3, 1, 3, 0, 1)),
-        (4, report_of(3, 1, 2, 1, 0)),
-        (5, report_of(3, 1, 3, 0, 1)),
-        (6, report_of(3, 1, 2, 1, 0)),
-        (7, report_of(3, 1, 3, 0, 0)),
-    ];
-    for (fail_at, report) in rows {
-        let mut port = question_port(alloc, Some(fail_at))?;
-        assert_eq!(rt; run(alloc, &mut port, 3)?, report, "call {fail_at}");
-        assert_eq!(rt; port.failures(), report.lost.saturating_add(report.faults));
+    for row in FAILURES.lines() {
+        check_failure(&rt, rt.alloc(), row)?;
     }
     Ok(())
 }
 
-/// Four turns of a site that holds the observation of a frame, with a sweep every 30 seconds.
-fn run_with_sweeps(alloc: Global, port: &mut MemoryPort) -> Result<Report, Fail> {
-    let now = Moment::new(100).ok_or("no moment")?;
-    let mut clock = clock(alloc, &[100, 129, 130, 159])?;
-    let mut site = site(alloc)?;
-    site.frame(now, FRAME)?;
-    let mut words = OneWord(0);
-    Ok(serve(port, &mut clock, &mut words, &mut site, 4, 30))
+/// Four turns of a site, with a sweep every 30 seconds.
+fn run_with_sweeps(alloc: Global, port: &mut MemoryPort, site: &mut Site) -> Result<Report, Fail> {
+    let mut clock = clock(alloc, "100 129 130 159")?;
+    Ok(serve(port, &mut clock, &mut OneWord(0), site, 4, 30))
 }
 
 #[test]
 fn sweeps_go_to_each_peer_in_their_time(rt: HostRuntime) -> Result<(), Fail> {
     let alloc = rt.alloc();
     let mut port = MemoryPort::new(alloc, Vec::new(alloc), None);
-    let report = run_with_sweeps(alloc, &mut port)?;
-    assert_eq!(rt; report, report_of(4, 0, 2, 0, 0));
-    assert!(rt; has_sent(&port, 3, 5401, FRAME));
-    assert!(rt; has_sent(&port, 4, 5402, FRAME));
-    Ok(())
+    let mut site = new_site(alloc, &[addr(5401), addr(5402)])?;
+    check_rows(&rt, alloc, &mut site, "100 frame frame-100 => taken 1")?;
+    let report = run_with_sweeps(alloc, &mut port, &mut site)?;
+    check_report(&rt, alloc, report, "4 0 2 0 0 0 0")?;
+    check_notes(
+        &rt,
+        alloc,
+        &port,
+        "nothing nothing nothing sent 5401 frame-100 sent 5402 frame-100 nothing",
+    )
 }

@@ -1,0 +1,128 @@
+//! The questions, queries, replies and frames of the tests, written by hand, each by a name.
+
+use fleet_name::Octets;
+use std::alloc::Global;
+use std::test::Fail;
+
+/// Each name, and its octets in hexadecimal digits: those of a field stand together, `example.com`
+/// stands for the name that it is, and `61*63` for 63 times `61`.
+const OCTETS: &str = "\
+-:
+question: 0007 0100 0001 0000 0000 0000 example.com 0001 0001
+question-8: 0008 0100 0001 0000 0000 0000 example.com 0001 0001
+query: 1234 0100 0001 0000 0000 0000 example.com 0001 0001
+query-1235: 1235 0100 0001 0000 0000 0000 example.com 0001 0001
+reply: 1234 8180 0001 0001 0000 0000 example.com 0001 0001 \
+    c00c 0001 0001 0000012c 0004 c0000201
+relay: 0007 8180 0001 0001 0000 0000 example.com 0001 0001 \
+    example.com 0001 0001 0000012c 0004 c0000201
+relay-8: 0008 8180 0001 0001 0000 0000 example.com 0001 0001 \
+    example.com 0001 0001 0000012c 0004 c0000201
+relay-290: 0007 8180 0001 0001 0000 0000 example.com 0001 0001 \
+    example.com 0001 0001 00000122 0004 c0000201
+relay-150: 0007 8180 0001 0001 0000 0000 example.com 0001 0001 \
+    example.com 0001 0001 00000096 0004 c0000201
+ended-reply: 1234 8180 0001 0002 0000 0000 example.com 0001 0001 \
+    c00c 0001 0001 0000012c 0004 c0000201 c00c 0001 0001 80000001 0004 c0000201
+ended-relay: 0007 8180 0001 0001 0000 0000 example.com 0001 0001 \
+    example.com 0001 0001 00000000 0004 c0000201
+circle: 1234 8180 0001 0001 0000 0000 example.com 0001 0001 c00c 0005 0001 0000012c 0002 c00c
+no-soa: 1234 8183 0001 0000 0000 0000 example.com 0001 0001
+no-soa-relay: 0007 8183 0001 0000 0000 0000 example.com 0001 0001
+failure: 0007 8182 0001 0000 0000 0000 example.com 0001 0001
+unread: 0007 8181 0000 0000 0000 0000
+header: 0007 0100 0001 0000 0000 0000
+longest: 0007 0100 0001 0000 0000 0000 3f 61*63 3f 61*63 3f 61*63 3d 61*61 00 0001 0001
+longest-query: ffff 0100 0001 0000 0000 0000 3f 61*63 3f 61*63 3f 61*63 3d 61*61 00 0001 0001
+longer: 0007 0100 0001 0000 0000 0000 3f 61*63 3f 61*63 3f 61*63 3e 61*62 00 0001 0001
+any: 0007 0100 0001 0000 0000 0000 example.com 00ff 0001
+any-denial: 0007 8184 0001 0000 0000 0000 example.com 00ff 0001
+chaos: 0007 0100 0001 0000 0000 0000 example.com 0001 0003
+chaos-denial: 0007 8184 0001 0000 0000 0000 example.com 0001 0003
+chaos-reply: 0007 8180 0001 0000 0000 0000 example.com 0001 0003
+inverse: 0007 1100 0001 0000 0000 0000 example.com 0001 0001
+inverse-denial: 0007 9184 0000 0000 0000 0000
+no-question: 0007 0100 0000 0000 0000 0000 example.com 0001 0001
+two-questions: 0007 0100 0002 0000 0000 0000 example.com 0001 0001
+question-0256: 0007 0100 0001 0000 0000 0000 04 30323536 00 0001 0001
+failure-0256: 0007 8182 0001 0000 0000 0000 04 30323536 00 0001 0001
+query-0001: 0000 0100 0001 0000 0000 0000 04 30303031 00 0001 0001
+local: 0007 0000 0001 0000 0000 0000 example.com 0001 0001
+local-denial: 0007 8085 0001 0000 0000 0000 example.com 0001 0001
+frame-100: 4447 01 0001 03 03 0000000000000064 0000012c example.com 0001 0001 0004 c0000201
+frame-101: 4447 01 0001 03 01 0000000000000065 0000012c example.com 0001 0001 0004 c0000201
+empty-frame: 4447 01 0000
+other-magic: 4448 01 0000
+half-frame: 4447
+long-frame: 44*16385
+";
+
+/// Adds the digits of a part of octets.
+fn add_part(text: &mut String, part: &str) -> Result<(), Fail> {
+    if part == "example.com" {
+        text.push_str("076578616d706c6503636f6d00")?;
+        return Ok(());
+    }
+    let (digits, count) = part.split_once('*').unwrap_or((part, "1"));
+    for _ in 0..count.parse::<u16>()? {
+        text.push_str(digits)?;
+    }
+    Ok(())
+}
+
+/// The parts of the octets that have this name.
+fn parts_of(name: &str) -> Option<&'static str> {
+    for line in OCTETS.lines() {
+        if let Some((other, parts)) = line.split_once(':') {
+            if other == name {
+                return Some(parts);
+            }
+        }
+    }
+    None
+}
+
+/// Adds a word: if it is the name of octets, their digits.
+fn add_word(text: &mut String, word: &str) -> Result<(), Fail> {
+    match parts_of(word) {
+        Some(parts) => {
+            for part in parts.split_whitespace() {
+                add_part(text, part)?;
+            }
+        }
+        None => text.push_str(word)?,
+    }
+    Ok(())
+}
+
+/// A text whose words stand each behind a space, with their digits in the place of the names of
+/// octets.
+pub fn spelt_out(alloc: Global, words: &str) -> Result<String, Fail> {
+    let mut text = String::new(alloc);
+    for word in words.split_whitespace() {
+        text.push(' ')?;
+        add_word(&mut text, word)?;
+    }
+    Ok(text)
+}
+
+/// The octets of a name, or of digits.
+pub fn octets(alloc: Global, word: &str) -> Result<Octets, Fail> {
+    let mut digits = String::new(alloc);
+    add_word(&mut digits, word)?;
+    Ok(Octets::new(hex::decode(alloc, digits.as_str())?))
+}
+
+/// Adds the digits of octets.
+pub fn add_octets(text: &mut String, octets: &[u8]) -> Result<(), Fail> {
+    for octet in octets {
+        write!(text, "{octet:02x}")?;
+    }
+    Ok(())
+}
+
+/// Adds octets as a word of digits behind a space.
+pub fn tell_octets(told: &mut String, octets: &[u8]) -> Result<(), Fail> {
+    told.push(' ')?;
+    add_octets(told, octets)
+}

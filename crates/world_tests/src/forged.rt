@@ -1,0 +1,74 @@
+//! Replies that are forged by one who does not know the id of the query.
+
+use crate::octets::octets;
+use crate::rows::{at, check_rows, fleet, local, tell_stepped};
+use fleet_name::Octets;
+use fleet_world::{Event, World};
+use std::alloc::Global;
+use std::process::Abort;
+use std::test::Fail;
+
+/// A message with an id, which comes from the first upstream.
+fn forged_event(alloc: Global, message: &[u8], id: u16) -> Result<Event, Fail> {
+    let mut bytes = message.to_vec(alloc)?;
+    for (place, octet) in bytes.iter_mut().zip(id.to_be_bytes()) {
+        *place = octet;
+    }
+    Ok(Event::Datagram {
+        site: 0,
+        now: at(101)?,
+        from: local(5301),
+        word: 0,
+        bytes: Octets::new(bytes),
+    })
+}
+
+/// The message is for no question under this id, and nothing comes of it.
+fn check_id(
+    rt: &impl Abort,
+    alloc: Global,
+    world: &mut World,
+    message: &[u8],
+    id: u16,
+) -> Result<(), Fail> {
+    let mut told = String::new(alloc);
+    let event = forged_event(alloc, message, id)?;
+    tell_stepped(&mut told, &world.step(&event)?)?;
+    assert_eq!(rt; told.as_str(), " refused Unmatched", "{id}");
+    Ok(())
+}
+
+/// The reply is for no question under each id but the right one.
+fn check_ids(rt: &impl Abort, alloc: Global, world: &mut World) -> Result<(), Fail> {
+    let reply = octets(alloc, "reply")?;
+    for id in 0..=u16::MAX {
+        if id != 0x1234 {
+            check_id(rt, alloc, world, reply.as_slice(), id)?;
+        }
+    }
+    Ok(())
+}
+
+#[test]
+fn a_reply_under_each_other_id_is_for_no_question(rt: HostRuntime) -> Result<(), Fail> {
+    let mut world = fleet(rt.alloc(), 1)?;
+    check_rows(
+        &rt,
+        rt.alloc(),
+        &mut world,
+        "datagram 0 100 6001 4660 question => 5301 query",
+    )?;
+    check_ids(&rt, rt.alloc(), &mut world)?;
+    check_rows(
+        &rt,
+        rt.alloc(),
+        &mut world,
+        "\
+datagram 0 101 5301 0 other-type => refused Unmatched
+kept 0 => none
+datagram 0 101 5301 0 reply => 6001 relay frame 0 taken 1
+kept 0 => learnt
+kept 1 => none
+",
+    )
+}

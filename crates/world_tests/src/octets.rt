@@ -1,0 +1,110 @@
+//! The questions, queries, replies and frames of the tests, written by hand, each by a name.
+
+use fleet_name::Octets;
+use std::alloc::Global;
+use std::test::Fail;
+
+/// Each name, and its octets in hexadecimal digits: those of a field stand together, `example.com`
+/// and `example.org` stand for the names that they are, and `61*63` for 63 times `61`.
+///
+/// The frames are of 192.0.2.1 at rank 1 from 100 to 400, of 192.0.2.2 at rank 1 from 200 to 210,
+/// and of both, the preferred first; of what the reply tells at 101; and of 192.0.2.9 at rank 1
+/// from 100 to 400. The query has the id 1234, the reply has 192.0.2.1 for 300 seconds, and who
+/// asked is told so at once, or 10 seconds later, or code 2 where no upstream answers.
+const OCTETS: &str = "\
+question: 0007 0100 0001 0000 0000 0000 example.com 0001 0001
+query: 1234 0100 0001 0000 0000 0000 example.com 0001 0001
+reply: 1234 8180 0001 0001 0000 0000 example.com 0001 0001 \
+    c00c 0001 0001 0000012c 0004 c0000201
+other-type: 1234 8180 0001 0001 0000 0000 example.com 001c 0001 \
+    c00c 0001 0001 0000012c 0004 c0000201
+relay: 0007 8180 0001 0001 0000 0000 example.com 0001 0001 \
+    example.com 0001 0001 0000012c 0004 c0000201
+later: 0007 8180 0001 0001 0000 0000 example.com 0001 0001 \
+    example.com 0001 0001 00000122 0004 c0000201
+failure: 0007 8182 0001 0000 0000 0000 example.com 0001 0001
+older: 4447 01 0001 03 01 0000000000000064 0000012c example.com 0001 0001 0004 c0000201
+newer: 4447 01 0001 03 01 00000000000000c8 0000000a example.com 0001 0001 0004 c0000202
+both: 4447 01 0002 03 01 00000000000000c8 0000000a example.com 0001 0001 0004 c0000202 \
+    03 01 0000000000000064 0000012c example.com 0001 0001 0004 c0000201
+learnt: 4447 01 0001 03 01 0000000000000065 0000012c example.com 0001 0001 0004 c0000201
+held: 4447 01 0001 03 01 0000000000000064 0000012c example.org 0001 0001 0004 c0000209
+asked: 0007 0100 0001 0000 0000 0000 example.org 001c 0001
+asked-1111: 1111 0100 0001 0000 0000 0000 example.org 001c 0001
+";
+
+/// Adds the digits of a part of octets.
+fn add_part(text: &mut String, part: &str) -> Result<(), Fail> {
+    let part = match part {
+        "example.com" => "076578616d706c6503636f6d00",
+        "example.org" => "076578616d706c65036f726700",
+        part => part,
+    };
+    let (digits, count) = part.split_once('*').unwrap_or((part, "1"));
+    for _ in 0..count.parse::<u16>()? {
+        text.push_str(digits)?;
+    }
+    Ok(())
+}
+
+/// Adds the digits of all parts of octets.
+fn add_parts(text: &mut String, parts: &str) -> Result<(), Fail> {
+    for part in parts.split_whitespace() {
+        add_part(text, part)?;
+    }
+    Ok(())
+}
+
+/// The parts of the octets that have this name.
+fn parts_of(name: &str) -> Option<&'static str> {
+    for line in OCTETS.lines() {
+        if let Some((other, parts)) = line.split_once(':') {
+            if other == name {
+                return Some(parts);
+            }
+        }
+    }
+    None
+}
+
+/// Adds a word: if it is the name of octets, their digits.
+fn add_word(text: &mut String, word: &str) -> Result<(), Fail> {
+    match parts_of(word) {
+        Some(parts) => add_parts(text, parts),
+        None => Ok(text.push_str(word)?),
+    }
+}
+
+/// A text whose words stand each behind a space, with their digits in the place of the names of
+/// octets.
+pub fn spelt_out(alloc: Global, words: &str) -> Result<String, Fail> {
+    let mut text = String::new(alloc);
+    for word in words.split_whitespace() {
+        text.push(' ')?;
+        add_word(&mut text, word)?;
+    }
+    Ok(text)
+}
+
+/// The octets of parts.
+pub fn joined(alloc: Global, parts: &str) -> Result<Octets, Fail> {
+    let mut digits = String::new(alloc);
+    add_parts(&mut digits, parts)?;
+    Ok(Octets::new(hex::decode(alloc, digits.as_str())?))
+}
+
+/// The octets of a name, or of digits.
+pub fn octets(alloc: Global, word: &str) -> Result<Octets, Fail> {
+    let mut digits = String::new(alloc);
+    add_word(&mut digits, word)?;
+    Ok(Octets::new(hex::decode(alloc, digits.as_str())?))
+}
+
+/// Adds octets as a word of digits.
+pub fn tell_octets(told: &mut String, octets: &[u8]) -> Result<(), Fail> {
+    told.push(' ')?;
+    for octet in octets {
+        write!(told, "{octet:02x}")?;
+    }
+    Ok(())
+}
