@@ -5,6 +5,7 @@ use crate::rows::Words;
 use fleet_cache::Cache;
 use linked_list_allocator::LocalHeap;
 use std::alloc::Global;
+use std::process::Abort;
 use std::test::Fail;
 
 /// A cache over a heap.
@@ -40,7 +41,7 @@ fn used_after(held: &mut Held<'_>, moment: &str) -> Result<usize, Fail> {
 
 /// How much of the heap is in use: by an empty cache, which keeps the room for a key; by 5000
 /// fronts; and after four purges.
-fn go_round(global: Global, heap: &LocalHeap) -> Result<[usize; 6], Fail> {
+fn go_round(rt: &impl Abort, global: Global, heap: &LocalHeap) -> Result<[usize; 6], Fail> {
     let cache = Cache::new(heap);
     let mut held = Held {
         global,
@@ -50,14 +51,14 @@ fn go_round(global: Global, heap: &LocalHeap) -> Result<[usize; 6], Fail> {
     take(&mut held, 0, 5)?;
     let empty = used_after(&mut held, "105")?;
     take_all(&mut held)?;
-    Ok([
-        empty,
-        heap.used(),
-        used_after(&mut held, "110")?,
-        used_after(&mut held, "111")?,
-        used_after(&mut held, "112")?,
-        used_after(&mut held, "400")?,
-    ])
+    let all = heap.used();
+    let first = used_after(&mut held, "110")?;
+    assert_eq!(rt; held.cache.len(), 2500);
+    let second = used_after(&mut held, "111")?;
+    let third = used_after(&mut held, "112")?;
+    let last = used_after(&mut held, "400")?;
+    assert!(rt; held.cache.is_empty());
+    Ok([empty, all, first, second, third, last])
 }
 
 /// A purge sweeps 4096 fronts, so that the first one drops 2048 of the 2500 that ended, 81.92 of
@@ -65,12 +66,11 @@ fn go_round(global: Global, heap: &LocalHeap) -> Result<[usize; 6], Fail> {
 #[test]
 fn purges_go_round(rt: HostRuntime) -> Result<(), Fail> {
     let heap = LocalHeap::new(rt.alloc(), 1 << 23)?;
-    let [empty, all, first, second, third, last] = go_round(rt.alloc(), &heap)?;
+    let [empty, all, first, second, third, last] = go_round(&rt, rt.alloc(), &heap)?;
     let dropped = all.saturating_sub(first).saturating_mul(100);
     let ended = all.saturating_sub(second);
     assert!(rt; dropped > ended.saturating_mul(81) && dropped < ended.saturating_mul(83));
     assert_eq!(rt; third, second);
-    // As many fronts are left as went, and took as much.
     assert!(rt; second > empty);
     assert_eq!(rt; last, empty);
     assert_eq!(rt; heap.used(), 0);

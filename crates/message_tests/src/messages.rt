@@ -46,7 +46,7 @@ fn push_query(alloc: Global, message: &[u8], told: &mut String) -> Result<(), Fa
 }
 
 /// Adds what a message asks for, and what it has as a reply.
-fn push_both(alloc: Global, message: &[u8], told: &mut String) -> Result<(), Fail> {
+pub(crate) fn push_both(alloc: Global, message: &[u8], told: &mut String) -> Result<(), Fail> {
     push_query(alloc, message, told)?;
     told.push_str(" ")?;
     push_reply(alloc, message, told)

@@ -3,15 +3,26 @@
 use crate::names::push_text;
 use crate::observations::push_observation;
 use crate::rows::{Words, check_rows, push_octets};
-use fleet_observe::{Digest, DigestFault, End, Moment, digest, observations, relay};
-use fleet_wire::{Question, read_query, read_reply};
+use fleet_observe::{Digest, End, Moment, digest, observations, relay};
+use fleet_wire::{read_query, read_reply};
 use std::alloc::Global;
 use std::test::Fail;
 
-/// The digest of a message, or why it has none.
-fn digest_of(alloc: Global, message: &[u8]) -> Result<Result<Digest, DigestFault>, Fail> {
+/// Adds the observations of a digest at second 100.
+fn push_seen(alloc: Global, told: &mut String, digest: &Digest) -> Result<(), Fail> {
+    let stamp = Moment::new(100).ok_or("a moment")?;
+    let all = observations(alloc, digest, stamp)?;
+    told.push_str(if all.is_empty() { "none" } else { "" })?;
+    for observation in &all {
+        push_observation(alloc, told, observation)?;
+    }
+    Ok(())
+}
+
+/// The digest of a message.
+fn digest_of(alloc: Global, message: &[u8]) -> Result<Digest, Fail> {
     let reply = read_reply(alloc, message)?;
-    Ok(digest(alloc, &reply))
+    Ok(digest(alloc, &reply)?)
 }
 
 /// The observations of a message at second 100.
@@ -20,15 +31,9 @@ pub(crate) fn tell_seen(
     mut words: Words<'_>,
     told: &mut String,
 ) -> Result<(), Fail> {
-    let stamp = Moment::new(100).ok_or("a moment")?;
     let message = words.octets(alloc)?;
-    let digest = digest_of(alloc, message.as_slice())??;
-    let all = observations(alloc, &digest, stamp)?;
-    told.push_str(if all.is_empty() { "none" } else { "" })?;
-    for observation in &all {
-        push_observation(alloc, told, observation)?;
-    }
-    Ok(())
+    let digest = digest_of(alloc, message.as_slice())?;
+    push_seen(alloc, told, &digest)
 }
 
 /// Adds what is relayed of a message to one who asked so.
@@ -51,7 +56,7 @@ pub(crate) fn tell_relay(
 ) -> Result<(), Fail> {
     let query = words.octets(alloc)?;
     let message = words.octets(alloc)?;
-    let digest = digest_of(alloc, message.as_slice())??;
+    let digest = digest_of(alloc, message.as_slice())?;
     push_relayed(alloc, told, &digest, query.as_slice())
 }
 
@@ -86,7 +91,8 @@ pub(crate) fn tell_digest(
     told: &mut String,
 ) -> Result<(), Fail> {
     let message = words.octets(alloc)?;
-    match digest_of(alloc, message.as_slice())? {
+    let reply = read_reply(alloc, message.as_slice())?;
+    match digest(alloc, &reply) {
         Ok(digest) => push_digest(alloc, told, &digest),
         Err(fault) => Ok(write!(told, "{fault:?}")?),
     }

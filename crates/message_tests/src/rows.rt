@@ -147,6 +147,15 @@ pub(crate) fn is_row(line: &str) -> bool {
     !line.is_empty() && !line.starts_with('#')
 }
 
+/// How many rows a table has.
+pub(crate) fn rows_of(rows: &str) -> usize {
+    let mut count = 0usize;
+    for row in rows.lines() {
+        count = count.saturating_add(usize::from(is_row(row)));
+    }
+    count
+}
+
 /// Checks each row of a table.
 pub(crate) fn check_rows(rt: &impl Abort, alloc: Global, rows: &str) -> Result<(), Fail> {
     for row in rows.lines() {
