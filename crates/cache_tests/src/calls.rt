@@ -89,19 +89,28 @@ fn push_links(
     Ok(())
 }
 
+/// Adds what is shown of each link to records, and of them.
+fn push_records(
+    global: Global,
+    told: &mut String,
+    answer: &Answer<'_, &LocalHeap>,
+) -> Result<(), Fail> {
+    match answer {
+        Answer::Found { chain, set } => {
+            push_links(global, told, chain)?;
+            push_shown(global, told, set)
+        }
+        _ => Ok(told.push_str("none")?),
+    }
+}
+
 /// What is shown of each link to records, and of them.
 fn tell_links(caches: &Caches<'_>, mut words: Words<'_>, told: &mut String) -> Result<(), Fail> {
     let name = words.word();
     let rtype = words.word().parse()?;
     let moment = moment_of(words.word())?;
     let question = question_of(caches.global, name, rtype, 1)?;
-    match caches.ours.answer(&question, moment) {
-        Answer::Found { chain, set } => {
-            push_links(caches.global, told, &chain)?;
-            push_shown(caches.global, told, &set)
-        }
-        _ => Ok(told.push_str("none")?),
-    }
+    push_records(caches.global, told, &caches.ours.answer(&question, moment))
 }
 
 /// Whether the cache takes a record.
@@ -169,16 +178,21 @@ fn tell_sweep(caches: &Caches<'_>, told: &mut String) -> Result<(), Fail> {
     Ok(())
 }
 
+/// Adds the rank and the life of each item.
+fn push_items(told: &mut String, cache: &Cache<&LocalHeap>) -> Result<(), Fail> {
+    for item in cache.items() {
+        let (rank, life) = (item.rank(), item.life());
+        write!(told, " {rank}/{life}")?;
+    }
+    Ok(())
+}
+
 /// How many items the cache holds, and of each the rank and the life.
 fn tell_items(caches: &Caches<'_>, told: &mut String) -> Result<(), Fail> {
     let count = caches.ours.len();
     write!(told, "{count}")?;
     told.push_str(if caches.ours.is_empty() { " empty" } else { "" })?;
-    for item in caches.ours.items() {
-        let (rank, life) = (item.rank(), item.life());
-        write!(told, " {rank}/{life}")?;
-    }
-    Ok(())
+    push_items(told, &caches.ours)
 }
 
 /// What is left at once after a purge.

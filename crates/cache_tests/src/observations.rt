@@ -2,7 +2,7 @@
 
 use crate::rows::{Words, octets_of, push_octets};
 use fleet_name::{Name, Octets};
-use fleet_observe::{Moment, Observation, Soa};
+use fleet_observe::{Kind, Moment, Observation, Soa};
 use fleet_wire::{Question, read_query};
 use linked_list_allocator::LocalHeap;
 use std::alloc::{Allocator, Global};
@@ -28,13 +28,19 @@ pub(crate) fn name_of<A: Allocator + Copy>(alloc: A, word: &str) -> Result<Name<
     Ok(name)
 }
 
+/// Adds a name, a type and a class.
+fn add_question(octets: &mut Vec<u8>, name: &[u8], rtype: u16, class: u16) -> Result<(), Fail> {
+    octets.extend_from_slice(name)?;
+    octets.extend_from_slice(&rtype.to_be_bytes())?;
+    octets.extend_from_slice(&class.to_be_bytes())?;
+    Ok(())
+}
+
 /// The octets of a question for a type and a class at a name.
 fn query_of(alloc: Global, word: &str, rtype: u16, class: u16) -> Result<Vec<u8>, Fail> {
     let name = name_of(alloc, word)?;
     let mut message = octets_of(alloc, "000701000001000000000000")?;
-    message.extend_from_slice(name.octets())?;
-    message.extend_from_slice(&rtype.to_be_bytes())?;
-    message.extend_from_slice(&class.to_be_bytes())?;
+    add_question(&mut message, name.octets(), rtype, class)?;
     Ok(message)
 }
 
@@ -144,14 +150,23 @@ pub(crate) fn push_name<A: Allocator>(
     Ok(told.push_str(text.as_str())?)
 }
 
+/// The word for a kind.
+fn kind_text(kind: Kind) -> &'static str {
+    match kind {
+        Kind::Positive => "Positive",
+        Kind::NoData => "NoData",
+        Kind::NameError => "NameError",
+    }
+}
+
 /// Adds an observation's kind and name.
 fn push_kind<A: Allocator>(
     global: Global,
     told: &mut String,
     observation: &Observation<A>,
 ) -> Result<(), Fail> {
-    let kind = observation.kind();
-    write!(told, "{kind:?} ")?;
+    told.push_str(kind_text(observation.kind()))?;
+    told.push_str(" ")?;
     push_name(global, told, observation.name())
 }
 

@@ -196,6 +196,22 @@ fn list_of(alloc: Global, word: &str) -> Result<Vec<Vec<u8>>, Fail> {
     Ok(all)
 }
 
+/// Adds TXT records of the root to the sections.
+fn add_texts<'a>(
+    outline: &mut Outline<'a>,
+    root: &'a Name,
+    answer: &'a [Vec<u8>],
+    authority: &'a [Vec<u8>],
+) -> Result<(), Fail> {
+    for rdata in answer {
+        outline.answer(root, 16, 300, rdata)?;
+    }
+    for rdata in authority {
+        outline.authority(root, 16, 300, rdata)?;
+    }
+    Ok(())
+}
+
 /// A reply with the identifier 7 and TXT records of the root.
 fn written<'a>(
     alloc: Global,
@@ -205,21 +221,8 @@ fn written<'a>(
     authority: &'a [Vec<u8>],
 ) -> Result<Vec<u8>, Fail> {
     let [opcode, rcode] = codes;
-    let mut outline: Outline<'a> = Outline::new(
-        alloc,
-        7,
-        opcode % 16,
-        false,
-        rcode % 16,
-        false,
-        None,
-    );
-    for rdata in answer {
-        outline.answer(root, 16, 300, rdata)?;
-    }
-    for rdata in authority {
-        outline.authority(root, 16, 300, rdata)?;
-    }
+    let mut outline = Outline::new(alloc, 7, opcode % 16, false, rcode % 16, false, None);
+    add_texts(&mut outline, root, answer, authority)?;
     Ok(write_reply(alloc, &outline)?)
 }
 

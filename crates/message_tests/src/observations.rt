@@ -3,7 +3,7 @@
 use crate::names::{name_of, push_text};
 use crate::rows::{Words, check_rows, octets_of, push_octets};
 use fleet_name::Octets;
-use fleet_observe::{Moment, Observation, ObservationFault, Soa};
+use fleet_observe::{Kind, Moment, Observation, ObservationFault, Soa};
 use std::alloc::Global;
 use std::test::Fail;
 
@@ -15,10 +15,19 @@ fn push_numbers(told: &mut String, numbers: &[u64]) -> Result<(), Fail> {
     Ok(())
 }
 
+/// The word for a kind.
+fn kind_text(kind: Kind) -> &'static str {
+    match kind {
+        Kind::Positive => "Positive",
+        Kind::NoData => "NoData",
+        Kind::NameError => "NameError",
+    }
+}
+
 /// Adds an observation's kind and name.
 fn push_kind(alloc: Global, told: &mut String, observation: &Observation) -> Result<(), Fail> {
-    let kind = observation.kind();
-    write!(told, "{kind:?} ")?;
+    told.push_str(kind_text(observation.kind()))?;
+    told.push_str(" ")?;
     push_text(alloc, told, observation.name())
 }
 

@@ -60,14 +60,22 @@ pub(crate) fn tell_relay(
     push_relayed(alloc, told, &digest, query.as_slice())
 }
 
+/// The word for how a reply ends.
+fn end_text(end: &End) -> &'static str {
+    match end {
+        End::Records(_) => "Records",
+        End::NoData(_) => "NoData",
+        End::NxDomain(_) => "NxDomain",
+        End::Code(_) => "Code",
+        End::Truncated => "Truncated",
+    }
+}
+
 /// Adds how a reply ends.
 fn push_end(told: &mut String, end: &End) -> Result<(), Fail> {
-    match end {
-        End::Records(_) => told.push_str("Records")?,
-        End::NoData(_) => told.push_str("NoData")?,
-        End::NxDomain(_) => told.push_str("NxDomain")?,
-        End::Code(code) => write!(told, "Code {code}")?,
-        End::Truncated => told.push_str("Truncated")?,
+    told.push_str(end_text(end))?;
+    if let End::Code(code) = end {
+        write!(told, " {code}")?;
     }
     Ok(())
 }
