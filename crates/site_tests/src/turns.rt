@@ -173,18 +173,23 @@ fn a_call_that_fails_is_lost_or_a_fault(rt: HostRuntime) -> Result<(), Fail> {
 }
 
 /// Four turns of a site, with a sweep every 30 seconds.
-fn run_with_sweeps(alloc: Global, port: &mut MemoryPort, site: &mut Site) -> Result<Report, Fail> {
+fn sweep_turns(alloc: Global, port: &mut MemoryPort, site: &mut Site) -> Result<Report, Fail> {
     let mut clock = clock(alloc, "100 129 130 159")?;
     Ok(serve(port, &mut clock, &mut OneWord(0), site, 4, 30))
+}
+
+/// The same, of a site that holds the observation of a frame.
+fn run_with_sweeps(rt: &impl Abort, alloc: Global, port: &mut MemoryPort) -> Result<Report, Fail> {
+    let mut site = new_site(alloc, &[addr(5401), addr(5402)])?;
+    check_rows(rt, alloc, &mut site, "100 frame frame-100 => taken 1")?;
+    sweep_turns(alloc, port, &mut site)
 }
 
 #[test]
 fn sweeps_go_to_each_peer_in_their_time(rt: HostRuntime) -> Result<(), Fail> {
     let alloc = rt.alloc();
     let mut port = MemoryPort::new(alloc, Vec::new(alloc), None);
-    let mut site = new_site(alloc, &[addr(5401), addr(5402)])?;
-    check_rows(&rt, alloc, &mut site, "100 frame frame-100 => taken 1")?;
-    let report = run_with_sweeps(alloc, &mut port, &mut site)?;
+    let report = run_with_sweeps(&rt, alloc, &mut port)?;
     check_report(&rt, alloc, report, "4 0 2 0 0 0 0")?;
     check_notes(
         &rt,
