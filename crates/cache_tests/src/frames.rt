@@ -57,12 +57,18 @@ fn push_frame(alloc: Global, told: &mut String, frame: &[u8]) -> Result<(), Fail
     }
 }
 
-/// Puts an octet where a change says: the place, `=`, and the octet in two digits.
-fn change(alloc: Global, frame: &mut [u8], text: &str) -> Result<(), Fail> {
+/// Puts an octet at a place.
+fn put(frame: &mut [u8], at: usize, octet: u8) {
+    if let Some(place) = frame.get_mut(at) {
+        *place = octet;
+    }
+}
+
+/// Puts an octet where a change says: the place, `=`, and the octet in hexadecimal digits.
+fn change(frame: &mut [u8], text: &str) -> Result<(), Fail> {
     let (at, digits) = text.split_once('=').ok_or("no change")?;
-    let octets = octets_of(alloc, digits)?;
-    let place = frame.get_mut(at.parse::<usize>()?).ok_or("no place")?;
-    *place = octets.first().copied().ok_or("no octet")?;
+    let octet = u8::from_str_radix(digits, 16)?;
+    put(frame, at.parse()?, octet);
     Ok(())
 }
 
@@ -71,7 +77,7 @@ fn changed(alloc: Global, frame: &str, changes: &str) -> Result<Vec<u8>, Fail> {
     let mut octets = octets_of(alloc, frame)?;
     if changes != "-" {
         for text in changes.split(',') {
-            change(alloc, octets.as_mut_slice(), text)?;
+            change(octets.as_mut_slice(), text)?;
         }
     }
     Ok(octets)
@@ -238,12 +244,11 @@ frame @00010301{00*7}640000012c07'example'03'com'00001000011ffd{61*8189} => BadB
 
 /// The frame of `ONE` with a decimal number of seven digits for `example`.
 fn numbered_frame(alloc: Global, number: u32) -> Result<Vec<u8>, Fail> {
-    let digits = format!(in alloc; "{number:07}")?;
-    let mut frame = octets_of(alloc, ONE)?;
-    for (place, digit) in frame.iter_mut().skip(20).zip(digits.as_bytes()) {
-        *place = *digit;
-    }
-    Ok(frame)
+    let mut word = String::new(alloc);
+    word.push_str("@00010303{00*7}640000012c07'")?;
+    write!(word, "{number:07}")?;
+    word.push_str("'03'com'00000100010004c0000201")?;
+    octets_of(alloc, word.as_str())
 }
 
 /// Adds the observations of a frame.

@@ -10,10 +10,11 @@ use std::test::Fail;
 
 /// Adds the rank of an observation, if there is one.
 fn push_rank(told: &mut String, item: Option<&Item>) -> Result<(), Fail> {
-    match item {
-        Some(item) => Ok(write!(told, "{} ", item.observation().rank())?),
-        None => Ok(told.push_str("none")?),
-    }
+    let Some(item) = item else {
+        return Ok(told.push_str("none")?);
+    };
+    let rank = item.observation().rank();
+    Ok(write!(told, "{rank} ")?)
 }
 
 /// Adds the ranks of a front's observations.
