@@ -142,10 +142,13 @@ fn records_in<'a>(
     mut words: Words<'_>,
 ) -> Result<Vec<Observation<&'a LocalHeap>, &'a LocalHeap>, Fail> {
     let mut list = Vec::new(heap);
-    while !words.is_empty() {
+    for _ in 0..u16::MAX {
+        if words.is_empty() {
+            return Ok(list);
+        }
         list.push(record_in(heap, global, &mut words)?)?;
     }
-    Ok(list)
+    Err("too many records".into())
 }
 
 /// How many records the cache takes at once.
