@@ -4,7 +4,7 @@
 
 use crate::messages::MESSAGES;
 use crate::octets::{joined, octets};
-use crate::rows::{at, config, events_of, local};
+use crate::rows::{at, events_of, fleet, local};
 use fleet_gossip::FrameFault;
 use fleet_name::Octets;
 use fleet_observe::Moment;
@@ -95,26 +95,19 @@ fn id_of(message: &[u8]) -> u16 {
     }
 }
 
-/// A world of one site with a peer.
-fn world_with_peer(alloc: Global) -> Result<World, Fail> {
-    let mut configs = Vec::new(alloc);
-    configs.push(config(alloc, &[local(5401)])?)?;
-    Ok(World::new(alloc, configs)?)
-}
-
-/// What the site of such a world takes in, sweeps and asks first: a question of its second
+/// What the site of a world takes in, sweeps and asks first: a question of its second
 /// upstream.
 const BEFORE: &str = "\
 frame 0 100 held => taken 1
 sweep 0 => frame 0
-datagram 0 100 6001 4369 asked => 5301 asked-1111
-tick 0 102 => 5302 asked-1111
+datagram 0 100 6001 4369 asked => send 5301 asked-1111
+tick 0 102 => send 5302 asked-1111
 ";
 
-/// A world of one site that did so, and asks its first upstream the question of a message, under
-/// the message's id.
+/// A world of one site with a peer, that did so, and asks its first upstream the question of a
+/// message, under the message's id.
 fn new_world(alloc: Global, before: &[Event], message: &[u8]) -> Result<World, Fail> {
-    let mut world = world_with_peer(alloc)?;
+    let mut world = fleet(alloc, 1, &[local(5401)])?;
     world.run(before)?;
     let question = question_of(alloc, message)?;
     world.step(&datagram(at(102)?, 6002, id_of(message), question))?;
@@ -171,7 +164,7 @@ fn check_tick(
 /// What both worlds ask from then on, until all their questions have failed, is the same, and at
 /// first there are some.
 fn check_questions(rt: &impl Abort, twins: &mut Twins) -> Result<(), Fail> {
-    let mut seconds = 104usize;
+    let mut seconds = 104u16;
     for _ in 0..64 {
         let (more, sent) = check_tick(rt, &mut twins.world, &mut twins.spared, at(seconds)?)?;
         assert!(rt; seconds > 104 || sent);

@@ -18,42 +18,42 @@ pub fn local(port: u16) -> Addr {
 }
 
 /// The configuration of a site with two upstreams and these peers.
-pub fn config(alloc: Global, peers: &[Addr]) -> Result<Config, Fail> {
+fn config(alloc: Global, peers: &[Addr]) -> Result<Config, Fail> {
     let upstreams = Vec::from_slice(alloc, &[local(5301), local(5302)])?;
     let peers = Vec::from_slice(alloc, peers)?;
     Ok(Config::new(upstreams, peers)?)
 }
 
-/// Sites with two upstreams each and no peers.
-pub fn fleet(alloc: Global, count: usize) -> Result<World, Fail> {
+/// Sites with two upstreams each, and with these peers.
+pub fn fleet(alloc: Global, count: usize, peers: &[Addr]) -> Result<World, Fail> {
     let mut configs = Vec::new(alloc);
     for _ in 0..count {
-        configs.push(config(alloc, &[])?)?;
+        configs.push(config(alloc, peers)?)?;
     }
     Ok(World::new(alloc, configs)?)
 }
 
 /// A moment of so many seconds.
-pub fn at(seconds: usize) -> Result<Moment, Fail> {
-    Ok(Moment::new(seconds as u64).ok_or("no moment")?)
+pub fn at(seconds: u16) -> Result<Moment, Fail> {
+    Ok(Moment::new(u64::from(seconds)).ok_or("no moment")?)
 }
 
-/// The number that is the first of words, and the others.
-fn first_number(words: &str) -> Result<(usize, &str), Fail> {
+/// The number of 16 bits that is the first of words, and the others.
+fn first_number(words: &str) -> Result<(u16, &str), Fail> {
     let (word, rest) = words.split_once(' ').unwrap_or((words, ""));
-    Ok((word.parse()?, rest))
+    Ok((word.parse::<u16>()?, rest))
 }
 
-/// A number of 16 bits that is the first of words, and the others.
-fn first_small(words: &str) -> Result<(u16, &str), Fail> {
-    let (word, rest) = words.split_once(' ').unwrap_or((words, ""));
-    Ok((word.parse()?, rest))
+/// The number of a site or a frame that is the first of words, and the others.
+fn first_place(words: &str) -> Result<(usize, &str), Fail> {
+    let (number, rest) = first_number(words)?;
+    Ok((usize::from(number), rest))
 }
 
 /// A datagram comes to a site at a moment, from a port, with a word.
 fn datagram(alloc: Global, site: usize, now: Moment, words: &str) -> Result<Event, Fail> {
-    let (port, words) = first_small(words)?;
-    let (word, name) = first_small(words)?;
+    let (port, words) = first_number(words)?;
+    let (word, name) = first_number(words)?;
     let bytes = octets(alloc, name)?;
     Ok(Event::Datagram {
         site,
@@ -66,7 +66,7 @@ fn datagram(alloc: Global, site: usize, now: Moment, words: &str) -> Result<Even
 
 /// A kept frame comes to a site at a moment.
 fn deliver(site: usize, now: Moment, words: &str) -> Result<Event, Fail> {
-    let (frame, _) = first_number(words)?;
+    let (frame, _) = first_place(words)?;
     Ok(Event::Deliver { site, now, frame })
 }
 
@@ -95,25 +95,29 @@ fn timed_event(alloc: Global, kind: &str, site: usize, words: &str) -> Result<Ev
 /// The event of a line: its kind, its site, and for most kinds its moment.
 fn event_of(alloc: Global, line: &str) -> Result<Event, Fail> {
     let (kind, words) = line.split_once(' ').ok_or("no event")?;
-    let (site, words) = first_number(words)?;
+    let (site, words) = first_place(words)?;
     match kind {
         "sweep" => Ok(Event::Sweep { site }),
         "restart" => Ok(Event::Restart { site }),
         "merge" => Ok(Event::Merge {
             into: site,
-            from: words.parse()?,
+            from: first_place(words)?.0,
         }),
         kind => timed_event(alloc, kind, site, words),
     }
 }
 
+/// Adds a word and a number, each behind a space.
+fn tell_number(told: &mut String, word: &str, number: usize) -> Result<(), Fail> {
+    write!(told, " {word} {number}")?;
+    Ok(())
+}
+
 /// Adds where a packet goes, and its octets.
 fn tell_packet(told: &mut String, packet: &Packet) -> Result<(), Fail> {
     let Addr { host, port } = packet.to;
-    if host != HOST {
-        write!(told, " {host:x}")?;
-    }
-    write!(told, " {port}")?;
+    let word = if host == HOST { "send" } else { "elsewhere" };
+    tell_number(told, word, usize::from(port))?;
     tell_octets(told, packet.bytes.as_slice())
 }
 
@@ -124,11 +128,10 @@ pub fn tell_stepped(told: &mut String, stepped: &Stepped) -> Result<(), Fail> {
         tell_packet(told, packet)?;
     }
     for number in stepped.frames.as_slice() {
-        write!(told, " frame {number}")?;
+        tell_number(told, "frame", *number)?;
     }
     if stepped.taken != 0 {
-        let taken = stepped.taken;
-        write!(told, " taken {taken}")?;
+        tell_number(told, "taken", stepped.taken)?;
     }
     if let Some(refusal) = stepped.refused {
         write!(told, " refused {refusal:?}")?;
@@ -161,7 +164,7 @@ fn tell_looked(told: &mut String, looked: &Looked) -> Result<(), Fail> {
 
 /// Looks a question up at a site, and adds what is answered.
 fn tell_ask(told: &mut String, world: &mut World, words: &str) -> Result<(), Fail> {
-    let (site, words) = first_number(words)?;
+    let (site, words) = first_place(words)?;
     let (now, name) = first_number(words)?;
     let question = octets(*told.allocator(), name)?;
     match world.ask(site, at(now)?, question.as_slice()) {
@@ -182,17 +185,16 @@ fn tell_kept(told: &mut String, world: &World, number: usize) -> Result<(), Fail
 fn tell_site(told: &mut String, site: Option<&Site>) -> Result<(), Fail> {
     match site {
         Some(site) => {
-            let clock = site.clock().value();
-            let floor = site.cache().floor().value();
-            let items = site.cache().len();
-            Ok(write!(told, " clock {clock} floor {floor} items {items}")?)
+            tell_number(told, "clock", site.clock().value() as usize)?;
+            tell_number(told, "floor", site.cache().floor().value() as usize)?;
+            tell_number(told, "items", site.cache().len())
         }
         None => Ok(told.push_str(" none")?),
     }
 }
 
 /// Whether two sites are there and hold the same.
-pub fn hold_same(world: &World, one: usize, other: usize) -> bool {
+fn hold_same(world: &World, one: usize, other: usize) -> bool {
     match (world.site(one), world.site(other)) {
         (Some(one), Some(other)) => one.cache().same(other.cache()),
         _ => false,
@@ -201,10 +203,10 @@ pub fn hold_same(world: &World, one: usize, other: usize) -> bool {
 
 /// Adds whether two sites hold the same.
 fn tell_same(told: &mut String, world: &World, words: &str) -> Result<(), Fail> {
-    let (one, words) = first_number(words)?;
-    let (other, _) = first_number(words)?;
+    let (one, words) = first_place(words)?;
+    let (other, _) = first_place(words)?;
     let same = hold_same(world, one, other);
-    Ok(write!(told, " {same}")?)
+    Ok(told.push_str(if same { " same" } else { " different" })?)
 }
 
 /// Does what a line says, and adds what it gives.
@@ -212,8 +214,8 @@ fn tell_line(told: &mut String, world: &mut World, line: &str) -> Result<(), Fai
     let (kind, words) = line.split_once(' ').ok_or("no event")?;
     match kind {
         "ask" => tell_ask(told, world, words),
-        "kept" => tell_kept(told, world, first_number(words)?.0),
-        "site" => tell_site(told, world.site(first_number(words)?.0)),
+        "kept" => tell_kept(told, world, first_place(words)?.0),
+        "site" => tell_site(told, world.site(first_place(words)?.0)),
         "same" => tell_same(told, world, words),
         _ => {
             let event = event_of(*told.allocator(), line)?;
@@ -222,14 +224,25 @@ fn tell_line(told: &mut String, world: &mut World, line: &str) -> Result<(), Fai
     }
 }
 
+/// Compares what was told with what its row wants.
+fn check_told(rt: &impl Abort, alloc: Global, told: &str, row: &str) -> Result<(), Fail> {
+    let (_, wanted) = row.split_once(" =>").ok_or("nothing wanted")?;
+    let wanted = spelt_out(alloc, wanted)?;
+    assert_eq!(rt; told, wanted.as_str(), "{row}");
+    Ok(())
+}
+
+/// What a row says is to be done.
+fn line_of(row: &str) -> Result<&str, Fail> {
+    let (line, _) = row.split_once(" =>").ok_or("nothing wanted")?;
+    Ok(line)
+}
+
 /// Does what a row says, and compares what it gives.
 fn check_row(rt: &impl Abort, alloc: Global, world: &mut World, row: &str) -> Result<(), Fail> {
-    let (line, wanted) = row.split_once(" =>").ok_or("nothing wanted")?;
-    let wanted = spelt_out(alloc, wanted)?;
     let mut told = String::new(alloc);
-    tell_line(&mut told, world, line)?;
-    assert_eq!(rt; told.as_str(), wanted.as_str(), "{row}");
-    Ok(())
+    tell_line(&mut told, world, line_of(row)?)?;
+    check_told(rt, alloc, told.as_str(), row)
 }
 
 /// Does what rows say, one after the other, and compares what each gives.
@@ -249,9 +262,9 @@ pub fn check_rows(
     Ok(())
 }
 
-/// The same, in a world that is new, of so many sites.
+/// The same, in a world that is new, of so many sites, without peers.
 pub fn check_new(rt: &impl Abort, alloc: Global, sites: usize, rows: &str) -> Result<(), Fail> {
-    let mut world = fleet(alloc, sites)?;
+    let mut world = fleet(alloc, sites, &[])?;
     check_rows(rt, alloc, &mut world, rows)
 }
 
@@ -259,20 +272,16 @@ pub fn check_new(rt: &impl Abort, alloc: Global, sites: usize, rows: &str) -> Re
 pub fn events_of(alloc: Global, rows: &str) -> Result<Vec<Event>, Fail> {
     let mut events = Vec::new(alloc);
     for row in rows.lines() {
-        let (line, _) = row.split_once(" =>").ok_or("nothing wanted")?;
-        events.push(event_of(alloc, line)?)?;
+        events.push(event_of(alloc, line_of(row)?)?)?;
     }
     Ok(events)
 }
 
 /// Compares what an event did with its row.
 fn check_stepped(rt: &impl Abort, alloc: Global, stepped: &Stepped, row: &str) -> Result<(), Fail> {
-    let (_, wanted) = row.split_once(" =>").ok_or("nothing wanted")?;
-    let wanted = spelt_out(alloc, wanted)?;
     let mut told = String::new(alloc);
     tell_stepped(&mut told, stepped)?;
-    assert_eq!(rt; told.as_str(), wanted.as_str(), "{row}");
-    Ok(())
+    check_told(rt, alloc, told.as_str(), row)
 }
 
 /// Runs the events of rows in one go, and compares what each did.
