@@ -5,7 +5,8 @@ A contract that allows an answer for want of memory is met by a body that always
 ample memory by a test that compares its answer, and the table under "## Calls that can find no memory" names that test.
 Run at the top of the repository, by hand: `python3 tools/memory_calls.py`. It reads signatures: a call counts where the
 fault that it may answer is `AllocError`, or a type of the repository that speaks of memory or has such a part. It looks
-whether each test that the table names is there and makes the calls of its row, and ends with status 1 where one is not.
+whether each test that the table names is there, and whether the calls of its row are made in the crate of the test (a row
+of text is read by a helper, which makes the call); it ends with status 1 where one is not.
 """
 
 import re
@@ -102,10 +103,10 @@ def rows():
             yield cells[0][0], cells[1], cells[2][0]
 
 
-def test_files(files, test):
-    """The text of the files that have a test of this name."""
+def crate_with_test(files, test):
+    """The text of the files of a crate that has a test of this name; nothing where it has none."""
     pattern = rf"#\[test\]\s*fn {test}\b"
-    return "".join(text for text in files.values() if re.search(pattern, text))
+    return "".join(files.values()) if any(re.search(pattern, text) for text in files.values()) else ""
 
 
 def main():
@@ -119,13 +120,13 @@ def main():
     with_row = set()
     for crate, made, test in rows():
         place, _, name = test.rpartition("::")
-        text = test_files(files.get(place or crate, {}), name)
+        text = crate_with_test(files.get(place or crate, {}), name)
         if not text:
             wrong.append(f"{crate}: no test {test}")
         for call in made:
             with_row.add((crate, call))
             if text and not re.search(rf"\b{call.split('::')[-1]}\(", text):
-                wrong.append(f"{crate}: {test} does not call {call}")
+                wrong.append(f"{crate}: the crate of {test} does not call {call}")
     wanted = {(crate, call) for crate in crates for call in calls(crate, files[crate], told)}
     wrong += [f"{crate}: {call} has no row" for crate, call in sorted(wanted - with_row)]
     for line in wrong:
