@@ -6,10 +6,7 @@ use std::test::Fail;
 
 /// The first word of a text, and what stands behind it.
 fn first_of(text: &str) -> (&str, &str) {
-    match text.split_once(' ') {
-        Some(parts) => parts,
-        None => (text, ""),
-    }
+    text.split_once(' ').unwrap_or((text, ""))
 }
 
 /// The words of a row that have not been read yet.
@@ -149,10 +146,8 @@ fn push_times(digits: &mut String, repeated: &str) -> Result<(), Fail> {
 /// Adds the digits of octets, `-` where there are none.
 pub(crate) fn push_octets(told: &mut String, octets: &[u8]) -> Result<(), Fail> {
     if octets.is_empty() {
-        told.push_str("-")?;
-        return Ok(());
+        return Ok(told.push_str("-")?);
     }
     let digits = hex::encode(*told.allocator(), octets)?;
-    told.push_str(digits.as_str())?;
-    Ok(())
+    Ok(told.push_str(digits.as_str())?)
 }

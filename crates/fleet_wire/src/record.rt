@@ -109,11 +109,17 @@ fn record_of<A: Allocator + Copy>(
 {
     let name = name_of(alloc, &spelled.owner)?;
     let rdata = Octets::copy_of(alloc, spelled.rdata.as_slice())?;
+    let SpelledRecord {
+        rtype,
+        class,
+        ttl,
+        ..
+    } = *spelled;
     Ok(Record {
         name,
-        rtype: spelled.rtype,
-        class: spelled.class,
-        ttl: spelled.ttl,
+        rtype,
+        class,
+        ttl,
         rdata,
     })
 }

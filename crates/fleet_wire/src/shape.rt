@@ -52,12 +52,11 @@ fn octets_at(message: &[u8], at: usize, count: usize) -> Result<&[u8], ReadFault
         (λ s. (at + count ≤ length message.now) × (s.now ≡ take count (drop at message.now)))
         (λ f. (length message.now < at + count) × (f ≡ Truncated)) }
 {
-    let (_, rest) = message.split_at(at);
+    let rest = &message[at..];
     if rest.len() < count {
         return Err(ReadFault::Truncated);
     }
-    let (octets, _) = rest.split_at(count);
-    Ok(octets)
+    Ok(&rest[..count])
 }
 
 /// Adds octets as they are.

@@ -41,10 +41,10 @@ fn question_size<A: Allocator>(question: Option<&Question<A>>) -> usize
     ensures size { result ≡ length (question_octets_if_any (question_if_any question.entry)) }
     ensures short { result ≤ LONGEST_NAME + 4 }
 {
-    match question {
-        None => 0,
-        Some(asked) => asked.name.octets().len() + 4,
-    }
+    let Some(asked) = question else {
+        return 0;
+    };
+    asked.name.octets().len() + 4
 }
 
 /// Adds the octets between the name and the RDATA.

@@ -196,17 +196,25 @@ fn list_of(alloc: Global, word: &str) -> Result<Vec<Vec<u8>>, Fail> {
     Ok(all)
 }
 
-/// Adds TXT records of the root to the sections.
-fn add_texts<'a>(
+/// Adds TXT records of the root to the answer section.
+fn add_answers<'a>(
     outline: &mut Outline<'a>,
     root: &'a Name,
-    answer: &'a [Vec<u8>],
-    authority: &'a [Vec<u8>],
+    texts: &'a [Vec<u8>],
 ) -> Result<(), Fail> {
-    for rdata in answer {
+    for rdata in texts {
         outline.answer(root, 16, 300, rdata)?;
     }
-    for rdata in authority {
+    Ok(())
+}
+
+/// Adds TXT records of the root to the authority section.
+fn add_authorities<'a>(
+    outline: &mut Outline<'a>,
+    root: &'a Name,
+    texts: &'a [Vec<u8>],
+) -> Result<(), Fail> {
+    for rdata in texts {
         outline.authority(root, 16, 300, rdata)?;
     }
     Ok(())
@@ -222,7 +230,8 @@ fn written<'a>(
 ) -> Result<Vec<u8>, Fail> {
     let [opcode, rcode] = codes;
     let mut outline = Outline::new(alloc, 7, opcode % 16, false, rcode % 16, false, None);
-    add_texts(&mut outline, root, answer, authority)?;
+    add_answers(&mut outline, root, answer)?;
+    add_authorities(&mut outline, root, authority)?;
     Ok(write_reply(alloc, &outline)?)
 }
 

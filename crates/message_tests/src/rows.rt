@@ -14,10 +14,7 @@ use std::test::Fail;
 
 /// The first word of a text, and what stands behind it.
 fn first_of(text: &str) -> (&str, &str) {
-    match text.split_once(' ') {
-        Some(parts) => parts,
-        None => (text, ""),
-    }
+    text.split_once(' ').unwrap_or((text, ""))
 }
 
 /// The words of a row that have not been read yet.
@@ -94,12 +91,10 @@ fn push_times(digits: &mut String, repeated: &str) -> Result<(), Fail> {
 /// Adds the digits of octets, `-` where there are none.
 pub(crate) fn push_octets(told: &mut String, octets: &[u8]) -> Result<(), Fail> {
     if octets.is_empty() {
-        told.push_str("-")?;
-        return Ok(());
+        return Ok(told.push_str("-")?);
     }
     let digits = hex::encode(*told.allocator(), octets)?;
-    told.push_str(digits.as_str())?;
-    Ok(())
+    Ok(told.push_str(digits.as_str())?)
 }
 
 /// Adds what a call tells that is asked with these words.
@@ -149,11 +144,7 @@ pub(crate) fn is_row(line: &str) -> bool {
 
 /// How many rows a table has.
 pub(crate) fn rows_of(rows: &str) -> usize {
-    let mut count = 0usize;
-    for row in rows.lines() {
-        count = count.saturating_add(usize::from(is_row(row)));
-    }
-    count
+    rows.lines().filter(|row| is_row(row)).count()
 }
 
 /// Checks each row of a table.
