@@ -1,6 +1,7 @@
 //! Names and octets made with ample memory.
 
-use crate::rows::{Words, check_rows, octets_of, push_octets};
+use crate::rows::{Words, octets_of, push_octets};
+use crate::tables::check_rows;
 use fleet_name::{Name, NameFault, Octets, is_lower, suffix_in};
 use std::alloc::Global;
 use std::test::Fail;

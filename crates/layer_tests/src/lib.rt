@@ -1,4 +1,5 @@
-//! Tests of caches, frames, and open questions.
+//! Tests of the layers below a site: names, messages, what replies tell, fronts, caches, frames,
+//! and open questions.
 #![tactic(auto)]
 
 #[cfg(test)]
@@ -6,11 +7,19 @@ mod caches;
 #[cfg(test)]
 mod calls;
 #[cfg(test)]
+mod captures;
+#[cfg(test)]
 mod exchanges;
 #[cfg(test)]
 mod frames;
 #[cfg(test)]
 mod fronts;
+#[cfg(test)]
+mod made;
+#[cfg(test)]
+mod messages;
+#[cfg(test)]
+mod names;
 #[cfg(test)]
 mod observations;
 #[cfg(test)]
@@ -18,6 +27,10 @@ mod purges;
 #[cfg(test)]
 mod questions;
 #[cfg(test)]
+mod replies;
+#[cfg(test)]
 mod rows;
 #[cfg(test)]
 mod second_entries;
+#[cfg(test)]
+mod tables;

@@ -1,8 +1,9 @@
 //! Replies as octets, and what they tell.
 
+use crate::made::push_observation;
 use crate::names::push_text;
-use crate::observations::push_observation;
-use crate::rows::{Words, check_rows, push_octets};
+use crate::rows::{Words, push_octets};
+use crate::tables::check_rows;
 use fleet_observe::{Digest, End, Moment, digest, observations, relay};
 use fleet_wire::{read_query, read_reply};
 use std::alloc::Global;

@@ -1,6 +1,7 @@
 //! Messages that are cut off, or say what is not so, and replies that are written in each way.
 
-use crate::rows::{Words, check_rows, octets_of, push_octets};
+use crate::rows::{Words, octets_of, push_octets};
+use crate::tables::check_rows;
 use fleet_name::Name;
 use fleet_wire::{Message, Outline, ReadFault, plain_rdata, read_query, read_reply, write_reply};
 use std::alloc::Global;

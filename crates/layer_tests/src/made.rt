@@ -1,7 +1,8 @@
 //! Observations that are made, written and copied.
 
 use crate::names::{name_of, push_text};
-use crate::rows::{Words, check_rows, octets_of, push_octets};
+use crate::rows::{Words, octets_of, push_octets};
+use crate::tables::check_rows;
 use fleet_name::Octets;
 use fleet_observe::{Kind, Moment, Observation, ObservationFault, Soa};
 use std::alloc::Global;

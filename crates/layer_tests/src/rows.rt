@@ -1,5 +1,6 @@
 //! Rows of tables: what is asked of the libraries, ` => `, and what it tells.
 
+use crate::messages::ALIASES;
 use std::alloc::Global;
 use std::process::Abort;
 use std::test::Fail;
@@ -33,9 +34,12 @@ impl<'a> Words<'a> {
         word
     }
 
-    /// The octets of the next word.
+    /// The octets of the next word; `aliases` is a message.
     pub(crate) fn octets(&mut self, alloc: Global) -> Result<Vec<u8>, Fail> {
-        octets_of(alloc, self.word())
+        match self.word() {
+            "aliases" => octets_of(alloc, ALIASES),
+            digits => octets_of(alloc, digits),
+        }
     }
 }
 
