@@ -10,7 +10,8 @@ ghost use Rattle.dnsfleet.specs.declared.words.TheConstants.{MOST_SITES, LARGEST
 ghost use Rattle.fleet_observe.specs.declared.bounds.TheConstants.{LATEST};
 ghost use Rattle.fleet_pending.specs.declared.waiter.Addr.{Addr};
 
-use fleet_name::Octets;
+use fleet_name::bounds::{LONGEST_LABEL, LONGEST_NAME};
+use fleet_name::{Name, Octets};
 use fleet_observe::Moment;
 use fleet_pending::Addr;
 use std::alloc::{AllocError, Allocator};
@@ -149,6 +150,33 @@ impl<'a> Hex<'a> {
         Some(Hex { digits: word })
     }
 
+    /// Whether the octets are one name in full, of either case, and nothing behind it.
+    pub fn spells_name(&self) -> bool {
+        let mut octets = [0u8; LONGEST_NAME];
+        let size = self.digits.len() / 2;
+        if size > LONGEST_NAME {
+            return false;
+        }
+        if hex::decode_to_slice(self.digits, &mut octets[..size]).is_err() {
+            return false;
+        }
+        is_whole_name(&octets[..size])
+    }
+
+    /// The name that the octets are, in lower case.
+    pub fn name<A: Allocator + Copy>(&self, alloc: A) -> Result<Name<A>, AllocError> {
+        let octets = self.octets(alloc)?;
+        let mut name = Name::root(alloc)?;
+        let mut rest = octets.as_slice();
+        while let Some(label) = first_label(rest) {
+            if name.push(label).is_err() {
+                return Err(AllocError);
+            }
+            rest = &rest[label.len() + 1..];
+        }
+        Ok(name)
+    }
+
     /// The octets.
     pub fn octets<A: Allocator>(&self, alloc: A) -> Result<Octets<A>, AllocError>
         ensures { IfOk result (λ octets. octets ≡ self.now) }
@@ -158,4 +186,24 @@ impl<'a> Hex<'a> {
             Err(_) => Err(AllocError),
         }
     }
+}
+
+/// The label that stands at the front behind its length, if there is one.
+fn first_label(octets: &[u8]) -> Option<&[u8]>
+{
+    let (size, behind) = octets.split_first()?;
+    let size = usize::from(*size);
+    if size == 0 || size > LONGEST_LABEL || behind.len() < size {
+        return None;
+    }
+    Some(&behind[..size])
+}
+
+/// Whether octets are labels, each behind its length, and then a zero octet.
+fn is_whole_name(octets: &[u8]) -> bool {
+    let mut rest = octets;
+    while let Some(label) = first_label(rest) {
+        rest = &rest[label.len() + 1..];
+    }
+    rest == [0].as_slice()
 }
