@@ -10,7 +10,7 @@ use std::marker::Model;
 /// What hides observations of a name: a moment by which they have ended, and the greatest stamp of
 /// the flushes of the name and of those above it, if there are any.
 #[derive(Drop)]
-pub(crate) struct Cut {
+pub struct Cut {
     pub(crate) moment: Moment,
     pub(crate) flushed: Option<Moment>,
 }

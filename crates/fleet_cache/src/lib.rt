@@ -21,6 +21,7 @@ mod words;
 
 pub use answer::{Answer, Chain};
 pub use cache::{Cache, Stopped};
+pub use cut::Cut;
 pub use item::Item;
 pub use items::Items;
 pub use laws::{
