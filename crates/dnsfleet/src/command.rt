@@ -1,7 +1,7 @@
 //! What a line asks for.
 
 use crate::fault::What;
-use crate::words::{Hex, SiteCount, address, moment, number, site_count, word_of_16_bits};
+use crate::words::{Hex, NameWord, SiteCount, address, moment, number, site_count, word_of_16_bits};
 use arrayvec::ArrayVec;
 use fleet_observe::Moment;
 use fleet_pending::Addr;
@@ -47,7 +47,7 @@ pub enum Step<'a> {
     Flush {
         site: usize,
         now: Moment,
-        name: Hex<'a>,
+        name: NameWord<'a>,
     },
     /// A datagram comes in.
     Datagram {
@@ -261,12 +261,8 @@ fn moment_word(word: &str) -> Result<Moment, What> {
     moment(word).ok_or(What::BadNumber)
 }
 
-fn name_word(word: &str) -> Result<Hex<'_>, What> {
-    let hex = hex_word(word)?;
-    if !hex.spells_name() {
-        return Err(What::BadName);
-    }
-    Ok(hex)
+fn name_word(word: &str) -> Result<NameWord<'_>, What> {
+    NameWord::new(hex_word(word)?).ok_or(What::BadName)
 }
 
 fn hex_word(word: &str) -> Result<Hex<'_>, What> {

@@ -5,13 +5,14 @@ ghost use Rattle.std.specs.Char.{is_ascii_digit};
 ghost use Rattle.std.specs.List.{AllPass};
 ghost use Rattle.std.specs.Option.{SomeIff};
 ghost use Rattle.hex.specs.Hex.{is_hex_digit};
-ghost use Rattle.dnsfleet.specs.Words.{IsNumber, number_of, IsPort, SpellsAddress, SpellsOctets};
+ghost use Rattle.dnsfleet.specs.Words.{IsNumber, number_of, IsPort, SpellsAddress, SpellsOctets, SpellsName};
 ghost use Rattle.dnsfleet.specs.declared.words.TheConstants.{MOST_SITES, LARGEST_16_BITS};
+ghost use Rattle.fleet_name.specs.Name.{lower, IsWire};
 ghost use Rattle.fleet_observe.specs.declared.bounds.TheConstants.{LATEST};
 ghost use Rattle.fleet_pending.specs.declared.waiter.Addr.{Addr};
 
-use fleet_name::bounds::{LONGEST_LABEL, LONGEST_NAME};
-use fleet_name::{Name, Octets};
+use fleet_name::bounds::LONGEST_NAME;
+use fleet_name::{Name, Octets, suffix_in};
 use fleet_observe::Moment;
 use fleet_pending::Addr;
 use std::alloc::{AllocError, Allocator};
@@ -150,31 +151,22 @@ impl<'a> Hex<'a> {
         Some(Hex { digits: word })
     }
 
-    /// Whether the octets are one name in full, of either case, and nothing behind it.
-    pub fn spells_name(&self) -> bool {
-        let mut octets = [0u8; LONGEST_NAME];
+    /// Whether the octets are one name in full, its letters in either case, and nothing behind it.
+    /// This takes no memory.
+    fn spells_name(&self) -> bool
+        ensures { IsTrue result ↔ IsWire (lower self.now) }
+    {
         let size = self.digits.len() / 2;
         if size > LONGEST_NAME {
             return false;
         }
-        if hex::decode_to_slice(self.digits, &mut octets[..size]).is_err() {
+        let mut room = [0u8; LONGEST_NAME];
+        let octets = &mut room[..size];
+        if hex::decode_to_slice(self.digits, octets).is_err() {
             return false;
         }
-        is_whole_name(&octets[..size])
-    }
-
-    /// The name that the octets are, in lower case.
-    pub fn name<A: Allocator + Copy>(&self, alloc: A) -> Result<Name<A>, AllocError> {
-        let octets = self.octets(alloc)?;
-        let mut name = Name::root(alloc)?;
-        let mut rest = octets.as_slice();
-        while let Some(label) = first_label(rest) {
-            if name.push(label).is_err() {
-                return Err(AllocError);
-            }
-            rest = &rest[label.len() + 1..];
-        }
-        Ok(name)
+        octets.make_ascii_lowercase();
+        suffix_in(octets, 0).is_some()
     }
 
     /// The octets.
@@ -188,22 +180,42 @@ impl<'a> Hex<'a> {
     }
 }
 
-/// The label that stands at the front behind its length, if there is one.
-fn first_label(octets: &[u8]) -> Option<&[u8]>
-{
-    let (size, behind) = octets.split_first()?;
-    let size = usize::from(*size);
-    if size == 0 || size > LONGEST_LABEL || behind.len() < size {
-        return None;
-    }
-    Some(&behind[..size])
+/// A name, as a word spells its octets in full, with letters of either case. Contracts see the name,
+/// in lower case.
+#[derive(Debug, Drop)]
+pub struct NameWord<'a> {
+    octets: Hex<'a>,
 }
 
-/// Whether octets are labels, each behind its length, and then a zero octet.
-fn is_whole_name(octets: &[u8]) -> bool {
-    let mut rest = octets;
-    while let Some(label) = first_label(rest) {
-        rest = &rest[label.len() + 1..];
+impl<'a> Model for NameWord<'a> {
+    ghost use Rattle.std.specs.Prelude.{ℕ, List};
+    ghost use Rattle.fleet_name.specs.Name.{lower, labels_of, IsWire};
+
+    ghost Value = { List (List ℕ) };
+
+    ghost view = { λ w. labels_of (lower w.octets) };
+
+    ghost invariant = { λ w. IsWire (lower w.octets) };
+}
+
+impl<'a> NameWord<'a> {
+    /// The name that octets are in full, and nothing behind it.
+    pub fn new(octets: Hex<'a>) -> Option<NameWord<'a>>
+        ensures { MatchOption result ((name : List (List ℕ)) → SpellsName octets.entry name → ⊥)
+            (λ name. SpellsName octets.entry name) }
+    {
+        if !octets.spells_name() {
+            return None;
+        }
+        Some(NameWord { octets })
     }
-    rest == [0].as_slice()
+
+    /// The name.
+    pub fn name<A: Allocator + Copy>(&self, alloc: A) -> Result<Name<A>, AllocError>
+        ensures { IfOk result (λ name. name ≡ self.now) }
+    {
+        let mut octets = self.octets.octets(alloc)?.into_vec();
+        octets.make_ascii_lowercase();
+        Name::copy_of(alloc, &octets)
+    }
 }
