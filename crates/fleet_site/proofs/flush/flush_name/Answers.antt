@@ -1,4 +1,4 @@
-use Rattle.std.proofs.Common.{◌≡◌, List, [], ◌∷◌, ◌++◌, sym, ap, subst, ◌∙◌, rules}
+use Rattle.std.proofs.Common.{◌≡◌, [], ◌∷◌, ◌++◌, sym, ap, subst, ◌∙◌, rules}
 use Rattle.fleet_observe.specs.Observation.{flush_at}
 use Rattle.fleet_gossip.specs.Packed.{IsPacked}
 use Rattle.fleet_site.specs.OutcomeData.{nothing}

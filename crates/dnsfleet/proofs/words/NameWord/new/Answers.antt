@@ -1,4 +1,3 @@
-use Rattle.std.proofs.Common.{refl}
 use Rattle.dnsfleet.proofs.NameWords.{spelled_name}
 use Rattle.dnsfleet.proofs.words.NameWord.new.Goals as goal
 
