@@ -1,5 +1,6 @@
 mod Numbers
 mod Octets
+mod NameWords
 mod Addresses
 mod Apart
 mod Configurations

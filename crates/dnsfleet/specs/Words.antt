@@ -5,6 +5,7 @@ use Rattle.std.specs.List.{AllPass, starts_with}
 use Rattle.std.specs.Int.{w32, to_be_bytes}
 use Rattle.std.specs.Net.Grammar.{IsDotted}
 use Rattle.std.specs.Str.Parse.{digits_value}
+use Rattle.fleet_name.specs.Name.{wire, lower, IsName}
 use Rattle.fleet_pending.specs.declared.waiter.Addr.{Addr}
 use Rattle.hex.specs.Hex.{decode_of}
 use Rattle.dnsfleet.specs.declared.words.TheConstants.{MOST_DIGITS, LARGEST_16_BITS}
@@ -39,3 +40,8 @@ pub record SpellsAddress (word : List ℕ) (addr : Addr) : Type 0 where
 abbrev pub SpellsOctets : List ℕ → List ℕ → Type 0
 SpellsOctets word octets =
     ((word ≡ codes "-") × (octets ≡ [])) ⊎ ((word ≢ []) × (decode_of word ≡ Ok octets))
+
+-- the octets of a name in full, its letters of either case
+pub record SpellsName (octets : List ℕ) (name : List (List ℕ)) : Type 0 where
+  pub named : IsName name
+  pub whole : lower octets ≡ wire name

@@ -1,7 +1,7 @@
 //! What a line asks for.
 
 use crate::fault::What;
-use crate::words::{Hex, SiteCount, address, moment, number, site_count, word_of_16_bits};
+use crate::words::{Hex, NameWord, SiteCount, address, moment, number, site_count, word_of_16_bits};
 use arrayvec::ArrayVec;
 use fleet_observe::Moment;
 use fleet_pending::Addr;
@@ -42,6 +42,12 @@ pub enum Step<'a> {
         site: usize,
         now: Moment,
         reply: Hex<'a>,
+    },
+    /// A name is flushed at a site.
+    Flush {
+        site: usize,
+        now: Moment,
+        name: NameWord<'a>,
     },
     /// A datagram comes in.
     Datagram {
@@ -88,6 +94,7 @@ impl Step<'_> {
     pub fn site(&self) -> usize {
         match self {
             Step::Learn { site, .. } => *site,
+            Step::Flush { site, .. } => *site,
             Step::Datagram { site, .. } => *site,
             Step::Frame { site, .. } => *site,
             Step::Deliver { site, .. } => *site,
@@ -107,12 +114,17 @@ impl Step<'_> {
     }
 
     /// The event itself.
-    pub fn event<A: Allocator>(self, alloc: A) -> Result<Event<A>, AllocError> {
+    pub fn event<A: Allocator + Copy>(self, alloc: A) -> Result<Event<A>, AllocError> {
         Ok(match self {
             Step::Learn { site, now, reply } => Event::Learn {
                 site,
                 now,
                 bytes: reply.octets(alloc)?,
+            },
+            Step::Flush { site, now, name } => Event::Flush {
+                site,
+                now,
+                name: name.name(alloc)?,
             },
             Step::Datagram {
                 site,
@@ -204,6 +216,11 @@ fn read_arrival<'a>(words: &[&'a str]) -> Result<Step<'a>, What> {
             now: moment_word(now)?,
             reply: hex_word(reply)?,
         }),
+        ["flush", site, now, name] => Ok(Step::Flush {
+            site: number_word(site)?,
+            now: moment_word(now)?,
+            name: name_word(name)?,
+        }),
         ["datagram", site, now, from, word, octets] => Ok(Step::Datagram {
             site: number_word(site)?,
             now: moment_word(now)?,
@@ -226,7 +243,7 @@ fn read_arrival<'a>(words: &[&'a str]) -> Result<Step<'a>, What> {
 }
 
 /// The events, as a line begins with them.
-const EVENTS: &str = "sites learn ask show datagram tick sweep frame deliver merge restart same";
+const EVENTS: &str = "sites learn ask show datagram tick sweep frame deliver merge restart same flush";
 
 /// What is wrong with words that are no line: their number, or the first of them.
 fn word_fault(words: &[&str]) -> What {
@@ -242,6 +259,10 @@ fn number_word(word: &str) -> Result<usize, What> {
 
 fn moment_word(word: &str) -> Result<Moment, What> {
     moment(word).ok_or(What::BadNumber)
+}
+
+fn name_word(word: &str) -> Result<NameWord<'_>, What> {
+    NameWord::new(hex_word(word)?).ok_or(What::BadName)
 }
 
 fn hex_word(word: &str) -> Result<Hex<'_>, What> {

@@ -35,6 +35,9 @@ pub enum What {
     /// A word spells no octets.
     #[error("bad hex")]
     BadHex,
+    /// A word spells no name in full.
+    #[error("bad name")]
+    BadName,
     /// The number of sites is not the first event.
     #[error("sites must come first")]
     SitesNotFirst,

@@ -53,6 +53,7 @@ fn kind_text(kind: Kind) -> &'static str
         Kind::Positive => "positive",
         Kind::NoData => "nodata",
         Kind::NameError => "nxdomain",
+        Kind::Flush => "flush",
     }
 }
 

@@ -5,12 +5,14 @@ ghost use Rattle.std.specs.Char.{is_ascii_digit};
 ghost use Rattle.std.specs.List.{AllPass};
 ghost use Rattle.std.specs.Option.{SomeIff};
 ghost use Rattle.hex.specs.Hex.{is_hex_digit};
-ghost use Rattle.dnsfleet.specs.Words.{IsNumber, number_of, IsPort, SpellsAddress, SpellsOctets};
+ghost use Rattle.dnsfleet.specs.Words.{IsNumber, number_of, IsPort, SpellsAddress, SpellsOctets, SpellsName};
 ghost use Rattle.dnsfleet.specs.declared.words.TheConstants.{MOST_SITES, LARGEST_16_BITS};
+ghost use Rattle.fleet_name.specs.Name.{lower, IsWire};
 ghost use Rattle.fleet_observe.specs.declared.bounds.TheConstants.{LATEST};
 ghost use Rattle.fleet_pending.specs.declared.waiter.Addr.{Addr};
 
-use fleet_name::Octets;
+use fleet_name::bounds::LONGEST_NAME;
+use fleet_name::{Name, Octets, suffix_in};
 use fleet_observe::Moment;
 use fleet_pending::Addr;
 use std::alloc::{AllocError, Allocator};
@@ -149,6 +151,24 @@ impl<'a> Hex<'a> {
         Some(Hex { digits: word })
     }
 
+    /// Whether the octets are one name in full, its letters in either case, and nothing behind it.
+    /// This takes no memory.
+    fn spells_name(&self) -> bool
+        ensures { IsTrue result ↔ IsWire (lower self.now) }
+    {
+        let size = self.digits.len() / 2;
+        if size > LONGEST_NAME {
+            return false;
+        }
+        let mut room = [0u8; LONGEST_NAME];
+        let octets = &mut room[..size];
+        if hex::decode_to_slice(self.digits, octets).is_err() {
+            return false;
+        }
+        octets.make_ascii_lowercase();
+        suffix_in(octets, 0).is_some()
+    }
+
     /// The octets.
     pub fn octets<A: Allocator>(&self, alloc: A) -> Result<Octets<A>, AllocError>
         ensures { IfOk result (λ octets. octets ≡ self.now) }
@@ -157,5 +177,45 @@ impl<'a> Hex<'a> {
             Ok(octets) => Ok(Octets::new(octets)),
             Err(_) => Err(AllocError),
         }
+    }
+}
+
+/// A name, as a word spells its octets in full, with letters of either case. Contracts see the name,
+/// in lower case.
+#[derive(Debug, Drop)]
+pub struct NameWord<'a> {
+    octets: Hex<'a>,
+}
+
+impl<'a> Model for NameWord<'a> {
+    ghost use Rattle.std.specs.Prelude.{ℕ, List};
+    ghost use Rattle.fleet_name.specs.Name.{lower, labels_of, IsWire};
+
+    ghost Value = { List (List ℕ) };
+
+    ghost view = { λ w. labels_of (lower w.octets) };
+
+    ghost invariant = { λ w. IsWire (lower w.octets) };
+}
+
+impl<'a> NameWord<'a> {
+    /// The name that octets are in full, and nothing behind it.
+    pub fn new(octets: Hex<'a>) -> Option<NameWord<'a>>
+        ensures { MatchOption result ((name : List (List ℕ)) → SpellsName octets.entry name → ⊥)
+            (λ name. SpellsName octets.entry name) }
+    {
+        if !octets.spells_name() {
+            return None;
+        }
+        Some(NameWord { octets })
+    }
+
+    /// The name.
+    pub fn name<A: Allocator + Copy>(&self, alloc: A) -> Result<Name<A>, AllocError>
+        ensures { IfOk result (λ name. name ≡ self.now) }
+    {
+        let mut octets = self.octets.octets(alloc)?.into_vec();
+        octets.make_ascii_lowercase();
+        Name::copy_of(alloc, &octets)
     }
 }

@@ -9,6 +9,7 @@ use Rattle.fleet_cache.specs.Orders.{over_from, preference_laws}
 pub use Rattle.fleet_cache.specs.Orders.{Over, over_from, over_to, over_chain, ended_below, preference_laws}
 pub use Rattle.fleet_cache.proofs.Places.{place_total, place_exact, place_laws}
 pub use Rattle.fleet_cache.proofs.SameKeys.{HasKeyOf, key_parts}
+pub use Rattle.fleet_cache.proofs.Beats.{beats, beats_chain, beaten_ends, beats_laws, cached_front, cached_from}
 pub use Rattle.fleet_cache.proofs.Caches.{item_of_set, cached_itself, cached_same, cached_listed, cached_both}
 
 -- nothing dominates itself

@@ -7,8 +7,8 @@ use Rattle.fleet_observe.specs.Checks.{IsRankOf, IsLifeOf, IsTypeOf}
 use Rattle.fleet_observe.specs.Observation.{ObservationData, IsObservation, IsRank, IsDenialRank, IsLife, kind_number}
 use Rattle.fleet_observe.specs.declared.bounds.TheConstants.{LONGEST_LIFE}
 use Rattle.fleet_observe.specs.declared.observation.kind.Kind.{Kind}
-use Rattle.fleet_observe.specs.declared.observation.kind.Kind.TheVariants.{NameError, NoData, Positive}
-use Rattle.fleet_gossip.specs.Entry.{octet, u64_octets, entry_octets, IsKindNumber, IsMoment, AreBodyOctets}
+use Rattle.fleet_observe.specs.declared.observation.kind.Kind.TheVariants.{NameError, NoData, Positive, Flush}
+use Rattle.fleet_gossip.specs.Entry.{octet, u64_octets, entry_octets, IsKindIn, IsKindNumber, IsMoment, AreBodyOctets}
 use Rattle.fleet_gossip.specs.Faults.{NamedFails, name_fails, behind_name, NegativeFails, BodyFails, TypeFails, LifeFails, StampFails, RankFails, KindFails, EntryFails}
 use Rattle.fleet_gossip.specs.declared.fault.FrameFault.{FrameFault}
 use Rattle.fleet_gossip.specs.declared.fault.FrameFault.TheVariants.{BadKind, BadRank, BadMoment, BadLife, BadName}
@@ -38,6 +38,7 @@ fits_kind : (o : ObservationData) → IsObservation o → (kind : Kind) → o.ki
 fits_kind o is Positive e = let p = is.positive e in (is.rank, is.life, p.typed, p.body)
 fits_kind o is NoData e = let n = is.no_data e in (n.0.rank, n.0.life, n.1, n.0.body)
 fits_kind o is NameError e = let n = is.name_error e in (n.0.rank, n.0.life, n.1, n.0.body)
+fits_kind o is Flush e = let n = is.flush e in (n.rank, n.life, n.untyped, n.body)
 
 pub entry_of : (o : ObservationData) → IsObservation o → IsEntry o
 entry_of o is =
@@ -55,11 +56,13 @@ rank_of_any : (kind : Kind) (rank : ℕ) → IsRankOf kind rank → IsRank rank
 rank_of_any Positive rank is = is
 rank_of_any NoData rank is = any_rank rank is
 rank_of_any NameError rank is = any_rank rank is
+rank_of_any Flush rank is = (omega (arith, is), omega (arith, is))
 
 life_of_any : (kind : Kind) (life : ℕ) → IsLifeOf kind life → IsLife LONGEST_LIFE life
 life_of_any Positive life is = is
 life_of_any NoData life is = omega (arith, is)
 life_of_any NameError life is = omega (arith, is)
+life_of_any Flush life is = (omega (arith, is), omega (arith, is))
 
 -- what its fields say makes it an observation
 pub fact_of : (o : ObservationData) → IsEntry o → IsObservation o
@@ -74,6 +77,7 @@ fact_of o is = record {
     record { rank = h.0; life = h.1; body = h.3 },
     h.2,
   );
+  flush = λ e. let h = fits Flush e in record { rank = h.0; life = h.1; untyped = h.2; body = h.3 };
 }
   where
     fits : (kind : Kind) → o.kind ≡ kind → FitsKind o kind
@@ -102,6 +106,7 @@ module _ (o : ObservationData) (is : IsEntry o) (rest : List ℕ) (f : FrameFaul
       (ap (λ (x : List ℕ). x ++ rest) b.octets) h
   body_or_fault NoData b h = denial_or_fault b h
   body_or_fault NameError b h = denial_or_fault b h
+  body_or_fault Flush b h = h
 
   type_or_fault : TypeFails o.kind o.name (u16_octets o.rtype ++ (o.body ++ rest)) f → ⊥
   type_or_fault h = field_or_fault u16_octets 2 (IsTypeOf o.kind) BadKind (BodyFails o.kind o.name)
@@ -133,12 +138,13 @@ module _ (o : ObservationData) (is : IsEntry o) (rest : List ℕ) (f : FrameFaul
       octet_long octet_exact o.rank (u64_octets o.stamp
       ++ (u32_octets o.life ++ behind_life o rest)) _ f refl is.rank stamp_or_fault h
 
-  pub entry_or_fault : (octets : List ℕ) → octets ≡ entry_octets o ++ rest → EntryFails octets f → ⊥
-  entry_or_fault octets e h =
+  pub entry_or_fault : (version : ℕ) → IsKindIn version o.kind → (octets : List ℕ)
+      → octets ≡ entry_octets o ++ rest → EntryFails version octets f → ⊥
+  entry_or_fault version known octets e h =
       let behind = octet o.rank ++ (u64_octets o.stamp ++ (u32_octets o.life ++ behind_life o rest))
       in
-      field_or_fault octet 1 IsKindNumber BadKind KindFails octet_long octet_exact
-      (kind_number o.kind) behind octets f (e ∙ entry_split o rest) (o.kind, refl)
+      field_or_fault octet 1 (IsKindNumber version) BadKind KindFails octet_long octet_exact
+      (kind_number o.kind) behind octets f (e ∙ entry_split o rest) (o.kind, refl, known)
       (λ k. rank_or_fault (subst (λ (x : Kind). RankFails x behind f)
       (kind_exact k.0 o.kind (sym k.1)) k.2)) h
 
@@ -149,6 +155,7 @@ one_body_fault : (kind : Kind) (name : List (List ℕ)) (rtype : ℕ) (octets : 
 one_body_fault Positive name rtype octets f g h h' = one_positive_fault rtype octets f g h h'
 one_body_fault NoData name rtype octets f g h h' = one_negative_fault name octets f g h h'
 one_body_fault NameError name rtype octets f g h h' = one_negative_fault name octets f g h h'
+one_body_fault Flush name rtype octets f g h h' = absurd h
 
 module _ (kind : Kind) where
   one_type_fault : (name : List (List ℕ)) (octets : List ℕ) (f g : FrameFault)
@@ -193,10 +200,10 @@ one_kind_fault number octets f g h h' =
     let same = kind_exact h'.0 h.0 (sym h'.1 ∙ h.1) in
     one_rank_fault h.0 octets f g h.2 (subst (λ (k : Kind). RankFails k octets g) same h'.2)
 
-pub one_entry_fault : (octets : List ℕ) (f g : FrameFault) → EntryFails octets f
-    → EntryFails octets g → f ≡ g
-one_entry_fault octets f g h h' = one_field octet 1 IsKindNumber BadKind KindFails octet_long
-    octet_exact (λ n r f' g' l k k'. one_kind_fault n r f' g' k k') octets f g h h'
+pub one_entry_fault : (version : ℕ) (octets : List ℕ) (f g : FrameFault)
+    → EntryFails version octets f → EntryFails version octets g → f ≡ g
+one_entry_fault version octets f g h h' = one_field octet 1 (IsKindNumber version) BadKind KindFails
+    octet_long octet_exact (λ n r f' g' l k k'. one_kind_fault n r f' g' k k') octets f g h h'
 
 fact_with : Kind × ℕ × ℕ × ℕ × List (List ℕ) × ℕ × List ℕ → ObservationData
 fact_with p = record {
@@ -235,6 +242,10 @@ module _ (name : List (List ℕ)) (b d r s : List ℕ) (e : b ++ r ≡ d ++ s) w
       (x.octets ∙ (ap positive_body h.0 ∙ sym y.octets), h.1)
   bodies_exact NoData rtype x y = denials_exact x y
   bodies_exact NameError rtype x y = denials_exact x y
+  bodies_exact Flush rtype x y = (
+    x ∙ sym y,
+    sym (ap (λ (z : List ℕ). z ++ r) x) ∙ (e ∙ ap (λ (z : List ℕ). z ++ s) y),
+  )
 
 -- Two entries at the front of the same octets.
 module _ (o p : ObservationData) (is : IsEntry o) (is' : IsEntry p) (r s : List ℕ) where

@@ -4,17 +4,17 @@ use Rattle.std.specs.Prelude.{IfErr}
 use Rattle.std.proofs.lemmas.List.{append-nil, nil_from_length}
 use Rattle.fleet_wire.specs.Number.{u16_octets}
 use Rattle.fleet_observe.specs.Members.{Has}
-use Rattle.fleet_observe.specs.Observation.{ObservationData, IsObservation, AreObservations}
-use Rattle.fleet_gossip.specs.Entry.{octet, entry_octets}
+use Rattle.fleet_observe.specs.Observation.{ObservationData, IsObservation}
+use Rattle.fleet_gossip.specs.Entry.{octet, entry_octets, IsVersion, IsIn, AreIn}
 use Rattle.fleet_gossip.specs.Frame.{entries, SpellsFrame, HasEntries}
-use Rattle.fleet_gossip.specs.declared.frame.TheConstants.{MAGIC, VERSION}
+use Rattle.fleet_gossip.specs.declared.frame.TheConstants.{MAGIC}
 use Rattle.fleet_gossip.specs.Faults.{cut, refused, behind, EntryFails, EntriesFail, entry_fails, more_octets, MagicFails, FrameFails}
 use Rattle.fleet_gossip.specs.Steps.{AreMissing, IsOpened, AreEntries, StandEntries}
 use Rattle.fleet_gossip.specs.declared.fault.FrameFault.{FrameFault}
 use Rattle.fleet_gossip.specs.declared.fault.FrameFault.TheVariants.{BadMagic, BadVersion, Trailing}
 use Rattle.fleet_gossip.specs.declared.bounds.TheConstants.{LONGEST_FRAME}
 use Rattle.fleet_gossip.proofs.Entries.{entry_of, entry_or_fault, entry_exact}
-use Rattle.fleet_gossip.proofs.Frames.{lawful_push}
+use Rattle.fleet_gossip.proofs.Frames.{all_pushed}
 use Rattle.fleet_gossip.proofs.Packing.{entries_push}
 
 -- Behind a first number of two octets.
@@ -27,76 +27,83 @@ module _ (octets left : List ℕ) (n : ℕ) (is : octets ≡ u16_octets n ++ lef
     version_cut f h = behind n left is same (cut h.0 h.1)
 
     module _ (v : ℕ) (rest : List ℕ) (stands : left ≡ octet v ++ rest) where
-      pub bad_version : (v ≡ VERSION → ⊥) → MagicFails octets BadVersion
+      pub bad_version : (IsVersion v → ⊥) → MagicFails octets BadVersion
       bad_version unlike = behind n left is same (refused v rest stands unlike refl)
 
-      module _ (one : v ≡ VERSION) where
+      module _ (one : IsVersion v) where
         pub count_cut : (f : FrameFault) → AreMissing 2 rest f → MagicFails octets f
         count_cut f h = behind n left is same (behind v rest stands one (cut h.0 h.1))
 
         pub opening_read : (count : ℕ) (more : List ℕ) → rest ≡ u16_octets count ++ more
-            → IsOpened octets count more
-        opening_read count more e =
-            is ∙ (ap (λ (k : ℕ). u16_octets k ++ left) same
-            ∙ ap (λ (x : List ℕ). u16_octets MAGIC ++ x)
-            (stands ∙ (ap (λ (k : ℕ). octet k ++ rest) one
-            ∙ ap (λ (x : List ℕ). octet VERSION ++ x) e)))
+            → IsOpened octets v count more
+        opening_read count more e = record {
+          whole = is ∙ (ap (λ (k : ℕ). u16_octets k ++ left) same
+              ∙ ap (λ (x : List ℕ). u16_octets MAGIC ++ x)
+              (stands ∙ ap (λ (x : List ℕ). octet v ++ x) e));
+          read = one;
+        }
 
-pub entries_fail : (octets rest : List ℕ) (count : ℕ) (f : FrameFault) → octets ≡ u16_octets MAGIC
-    ++ (octet VERSION ++ (u16_octets count ++ rest)) → length octets ≤ LONGEST_FRAME
-    → EntriesFail count rest f → FrameFails octets f
-entries_fail octets rest count f is fits h = inr
-    (fits, behind MAGIC _ is refl (behind VERSION _ refl refl (behind count rest refl tt h)))
+pub entries_fail : (octets rest : List ℕ) (version count : ℕ) (f : FrameFault)
+    → IsOpened octets version count rest → length octets ≤ LONGEST_FRAME
+    → EntriesFail version count rest f → FrameFails octets f
+entries_fail octets rest version count f is fits h = inr
+    (fits, behind MAGIC _ is.whole refl (behind version _ refl is.read (behind count rest refl tt h)))
 
 -- one more entry
-pub entry_more : (octets left rest : List ℕ) (count : ℕ) (list new : List ObservationData)
-    (o : ObservationData) → AreEntries octets count list left → IsObservation o
-    → left ≡ entry_octets o ++ rest → new ≡ list ++ o ∷ [] → AreEntries octets (count + 1) new rest
-entry_more octets left rest count list new o are is stands e =
-    subst (λ (x : List ObservationData). AreEntries octets (count + 1) x rest) (sym e) (record {
+pub entry_more : (octets left rest : List ℕ) (version count : ℕ) (list new : List ObservationData)
+    (o : ObservationData) → AreEntries octets version count list left → IsIn version o
+    → left ≡ entry_octets o ++ rest → new ≡ list ++ o ∷ []
+    → AreEntries octets version (count + 1) new rest
+entry_more octets left rest version count list new o are is stands e =
+    subst (λ (x : List ObservationData). AreEntries octets version (count + 1) x rest) (sym e)
+    (record {
       whole = are.whole ∙ (ap (λ (x : List ℕ). entries list ++ x) stands
           ∙ (sym (append_assoc (entries list) (entry_octets o) rest)
           ∙ ap (λ (x : List ℕ). x ++ rest) (sym (entries_push list o))));
-      lawful = lawful_push list o are.lawful is;
+      lawful = all_pushed (IsIn version) list o are.lawful is;
       counted = omega (arith, are.counted, length-append list (o ∷ []));
     })
 
-pub entry_told : (octets left : List ℕ) (at count : ℕ) (list : List ObservationData)
-    (f : FrameFault) → AreEntries octets at list left → at < count → EntryFails left f
-    → EntriesFail count octets f
-entry_told octets left at count list f are few h = entry_fails list left are.whole are.lawful
+pub entry_told : (octets left : List ℕ) (version at count : ℕ) (list : List ObservationData)
+    (f : FrameFault) → AreEntries octets version at list left → at < count
+    → EntryFails version left f → EntriesFail version count octets f
+entry_told octets left version at count list f are few h = entry_fails list left are.whole
+    are.lawful
     (omega (arith, are.counted, few)) h
 
 -- behind the last entry
-module _ (octets left : List ℕ) (at : ℕ) (list : List ObservationData)
-    (are : AreEntries octets at list left) (count : ℕ) (all : at ≡ count) where
+module _ (octets left : List ℕ) (version at : ℕ) (list : List ObservationData)
+    (are : AreEntries octets version at list left) (count : ℕ) (all : at ≡ count) where
   some_of : (xs : List ℕ) → (xs ≡ [] → ⊥) → 0 < length xs
   some_of [] unlike = absurd (unlike refl)
   some_of (x ∷ xs) unlike = omega arith
 
-  pub trails : (left ≡ [] → ⊥) → EntriesFail count octets Trailing
+  pub trails : (left ≡ [] → ⊥) → EntriesFail version count octets Trailing
   trails unlike = more_octets list left are.whole are.lawful (are.counted ∙ all)
       (some_of left unlike) refl
 
-  pub all_stand : left ≡ [] → StandEntries octets count
+  pub all_stand : left ≡ [] → StandEntries octets version count
   all_stand none = record {
     list = list;
     are = subst
-        (λ (x : List ℕ). AreEntries octets count list x) none
-        (subst (λ (n : ℕ). AreEntries octets n list left) all are);
+        (λ (x : List ℕ). AreEntries octets version count list x) none
+        (subst (λ (n : ℕ). AreEntries octets version n list left) all are);
   }
 
 -- the observations of all entries
-module _ (octets rest : List ℕ) (count : ℕ) (list : List ObservationData)
-    (is : IsOpened octets count rest) (fits : length octets ≤ LONGEST_FRAME)
-    (are : AreEntries rest count list []) where
+module _ (octets rest : List ℕ) (version count : ℕ) (list : List ObservationData)
+    (is : IsOpened octets version count rest) (fits : length octets ≤ LONGEST_FRAME)
+    (are : AreEntries rest version count list []) where
   pub spells_frame : SpellsFrame octets list
   spells_frame = record {
+    version = version;
+    read = is.read;
     lawful = are.lawful;
-    spelled = is ∙ (ap (λ (k : ℕ). u16_octets MAGIC ++ (octet VERSION ++ (u16_octets k ++ rest)))
+    spelled = is.whole
+        ∙ (ap (λ (k : ℕ). u16_octets MAGIC ++ (octet version ++ (u16_octets k ++ rest)))
         (sym are.counted)
         ∙ ap (λ (x : List ℕ). u16_octets MAGIC
-        ++ (octet VERSION ++ (u16_octets (length list) ++ x)))
+        ++ (octet version ++ (u16_octets (length list) ++ x)))
         (are.whole ∙ append-nil (entries list)));
     fits = fits;
   }
@@ -114,29 +121,31 @@ pub record IsNext (left : List ObservationData) (o : ObservationData) (rest : Li
   pub left_is : left ≡ o ∷ others
   pub rest_is : rest ≡ entries others
 
-pub next_fails : (left : List ObservationData) (octets : List ℕ) (f : FrameFault)
-    → AreObservations left → octets ≡ entries left → 0 < length left → EntryFails octets f → ⊥
-next_fails [] octets f lawful whole some h = omega (arith, some)
-next_fails (o ∷ left) octets f lawful whole some h =
-    entry_or_fault o (entry_of o (lawful o (inl refl))) (entries left) f octets whole h
+pub next_fails : (version : ℕ) (left : List ObservationData) (octets : List ℕ) (f : FrameFault)
+    → AreIn version left → octets ≡ entries left → 0 < length left → EntryFails version octets f
+    → ⊥
+next_fails version [] octets f lawful whole some h = omega (arith, some)
+next_fails version (o ∷ left) octets f lawful whole some h =
+    let in_it = lawful o (inl refl) in
+    entry_or_fault o (entry_of o in_it.0) (entries left) f version in_it.1 octets whole h
 
-pub next_of : (left : List ObservationData) (octets : List ℕ) (o : ObservationData) (rest : List ℕ)
-    → AreObservations left → octets ≡ entries left → 0 < length left → IsObservation o
+pub next_of : (version : ℕ) (left : List ObservationData) (octets : List ℕ) (o : ObservationData)
+    (rest : List ℕ)
+    → AreIn version left → octets ≡ entries left → 0 < length left → IsObservation o
     → octets ≡ entry_octets o ++ rest → IsNext left o rest
-next_of [] octets o rest lawful whole some is stands = absurd (omega (arith, some))
-next_of (p ∷ left) octets o rest lawful whole some is stands =
-    let one = entry_exact p o (entry_of p (lawful p (inl refl))) (entry_of o is) (entries left) rest
-    (sym whole ∙ stands) in
+next_of version [] octets o rest lawful whole some is stands = absurd (omega (arith, some))
+next_of version (p ∷ left) octets o rest lawful whole some is stands =
+    let one = entry_exact p o (entry_of p (lawful p (inl refl)).0) (entry_of o is) (entries left)
+    rest (sym whole ∙ stands) in
     record {
       others = left;
       left_is = ap (λ (x : ObservationData). x ∷ left) one.0;
       rest_is = sym one.1;
     }
 
-pub next_lawful : (left : List ObservationData) (o : ObservationData)
-    (others : List ObservationData) → left ≡ o ∷ others → AreObservations left
-    → AreObservations others
-next_lawful left o others e lawful = λ x h. lawful x
+pub next_lawful : (version : ℕ) (left : List ObservationData) (o : ObservationData)
+    (others : List ObservationData) → left ≡ o ∷ others → AreIn version left → AreIn version others
+next_lawful version left o others e lawful = λ x h. lawful x
     (subst (λ (y : List ObservationData). Has y x) (sym e) (inr h))
 
 pub entries_next : (octets : List ℕ) (made new left : List ObservationData)
@@ -151,10 +160,11 @@ entries_next octets made new left o copy others e is copied pushed =
     ∙ ap (λ (x : List ObservationData). x ++ others) (sym pushed)) in
     is ∙ ap entries all
 
-pub all_made : (octets : List ℕ) (made : List ObservationData) (at count : ℕ)
-    (left : List ObservationData) → AreObservations made → octets ≡ entries (made ++ left)
-    → length made ≡ at → at + length left ≡ count → count ≤ at → AreEntries octets count made []
-all_made octets made at count left lawful is n all past =
+pub all_made : (octets : List ℕ) (made : List ObservationData) (version at count : ℕ)
+    (left : List ObservationData) → AreIn version made → octets ≡ entries (made ++ left)
+    → length made ≡ at → at + length left ≡ count → count ≤ at
+    → AreEntries octets version count made []
+all_made octets made version at count left lawful is n all past =
     record {
       whole = is ∙ (ap (λ (x : List ObservationData). entries (made ++ x))
           (nil_from_length left (omega (arith, all, past)))

@@ -5,18 +5,19 @@ use Rattle.fleet_wire.specs.Number.{u16_octets, u32_octets}
 use Rattle.fleet_observe.specs.declared.observation.kind.Kind.{Kind}
 use Rattle.fleet_observe.specs.Checks.{IsRankOf, IsLifeOf, IsTypeOf}
 use Rattle.fleet_observe.specs.Observation.{ObservationData, IsObservation, kind_number}
-use Rattle.fleet_gossip.specs.Entry.{octet, u64_octets, entry_octets, IsMoment, AreBodyOctets}
+use Rattle.fleet_gossip.specs.Entry.{octet, u64_octets, entry_octets, IsKindIn, IsMoment, AreBodyOctets}
 use Rattle.fleet_gossip.specs.Faults.{behind, NamedFails, behind_name, BodyFails, TypeFails, LifeFails, StampFails, RankFails, EntryFails}
-use Rattle.fleet_gossip.specs.Steps.{IsField, IsHead, IsPart}
+use Rattle.fleet_gossip.specs.Steps.{IsField, IsKindAt, IsHead, IsPart}
 use Rattle.fleet_gossip.specs.EntryOf.{IsEntryOf}
 use Rattle.fleet_gossip.specs.declared.fault.FrameFault.{FrameFault}
 use Rattle.fleet_gossip.specs.declared.head.Head.{Head}
 use Rattle.fleet_gossip.proofs.Entries.{fact_of, entry_split}
 
 module _ (octets rest : List ℕ) (f : FrameFault) where
-  pub behind_kind : (kind : Kind) → octets ≡ octet (kind_number kind) ++ rest
-      → RankFails kind rest f → EntryFails octets f
-  behind_kind kind is h = behind (kind_number kind) rest is (kind, refl) (kind, refl, h)
+  pub behind_kind : (version : ℕ) (kind : Kind) → IsKindAt version octets kind rest
+      → RankFails kind rest f → EntryFails version octets f
+  behind_kind version kind is h =
+      behind (kind_number kind) rest is.whole (kind, refl, is.known) (kind, refl, h)
 
   pub behind_rank : (kind : Kind) (rank : ℕ) → IsField octet (IsRankOf kind) octets rank rest
       → StampFails kind rest f → RankFails kind octets f
@@ -30,29 +31,30 @@ module _ (octets rest : List ℕ) (f : FrameFault) where
       → NamedFails kind rest f → LifeFails kind octets f
   behind_life kind life is h = behind life rest is.whole is.lawful h
 
-pub behind_head : (octets rest : List ℕ) (f : FrameFault) (head : Head) → IsHead octets head rest
-    → NamedFails head.kind rest f → EntryFails octets f
-behind_head octets rest f head is h =
-    behind_kind octets _ f head.kind is.whole
+pub behind_head : (version : ℕ) (octets rest : List ℕ) (f : FrameFault) (head : Head)
+    → IsHead version octets head rest → NamedFails head.kind rest f → EntryFails version octets f
+behind_head version octets rest f head is h =
+    behind_kind octets _ f version head.kind (record { whole = is.whole; known = is.lawful.kind })
     (behind head.rank _ refl is.lawful.rank
     (behind head.stamp _ refl is.lawful.stamp
     (behind head.life rest refl is.lawful.life h)))
 
 -- An entry from its name on.
-module _ (octets named part typed : List ℕ) (head : Head) (is : IsHead octets head named)
+module _ (version : ℕ) (octets named part typed : List ℕ) (head : Head)
+    (is : IsHead version octets head named)
     (at : IsPart IsWire named part typed) where
   name_stands : named ≡ wire at.lawful.name ++ typed
   name_stands = at.whole ∙ ap (λ (x : List ℕ). x ++ typed) at.lawful.whole
 
   pub type_fails : (f : FrameFault) → TypeFails head.kind at.lawful.name typed f
-      → EntryFails octets f
-  type_fails f h = behind_head octets named f head is
+      → EntryFails version octets f
+  type_fails f h = behind_head version octets named f head is
       (behind_name at.lawful.name typed name_stands at.lawful.named h)
 
   module _ (rest : List ℕ) (rtype : ℕ) (t : IsField u16_octets (IsTypeOf head.kind) typed rtype
       rest) where
     pub body_fails : (f : FrameFault) → BodyFails head.kind at.lawful.name rtype rest f
-        → EntryFails octets f
+        → EntryFails version octets f
     body_fails f h = type_fails f (behind rtype rest t.whole t.lawful h)
 
     module _ (body left : List ℕ)
@@ -89,6 +91,10 @@ module _ (octets named part typed : List ℕ) (head : Head) (is : IsHead octets 
           is.whole ∙ (ap (λ (x : List ℕ). octet (kind_number head.kind)
           ++ (octet head.rank ++ (u64_octets head.stamp ++ (u32_octets head.life ++ x)))) tail
           ∙ sym (entry_split fact_read left))
+
+      pub kind_read : IsKindIn version fact_read.kind
+      unfolding fact_read
+      kind_read = is.lawful.kind
 
       pub entry_read : (name_ref body_ref : Bor (List ℕ)) → name_ref.now ≡ part
           → body_ref.now ≡ body → IsEntryOf (record {

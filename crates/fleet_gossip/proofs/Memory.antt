@@ -1,7 +1,7 @@
 -- No fault of octets is want of memory.
 use Rattle.std.proofs.Common.{◌≡◌, ℕ, List, sym, ◌∙◌, inl, inr}
 use Rattle.fleet_observe.specs.declared.observation.kind.Kind.{Kind}
-use Rattle.fleet_observe.specs.declared.observation.kind.Kind.TheVariants.{NameError, NoData, Positive}
+use Rattle.fleet_observe.specs.declared.observation.kind.Kind.TheVariants.{NameError, NoData, Positive, Flush}
 use Rattle.fleet_gossip.specs.Faults.{FieldFails, cut, refused, behind, OctetsFail, cut_octets, refused_octets, FrameNameFails, label_fails, SizedFails, RdatasFail, rdata_fails, NegativeFails, owner_fails, stranger, soa_fails, BodyFails, NamedFails, name_fails, behind_name, EntryFails, EntriesFail, entry_fails, more_octets, FrameFails}
 use Rattle.fleet_gossip.specs.declared.fault.FrameFault.{FrameFault}
 use Rattle.fleet_gossip.specs.declared.fault.FrameFault.TheVariants.{TooLong, Truncated, BadName, BadBody, Trailing, OutOfMemory}
@@ -67,6 +67,7 @@ body_fault_other Positive name rtype octets f h =
     field_other _ _ _ _ _ octets f body_other (λ n rest k. rdatas_other rtype n rest f k) h
 body_fault_other NoData name rtype octets f h = negative_other name octets f h
 body_fault_other NameError name rtype octets f h = negative_other name octets f h
+body_fault_other Flush name rtype octets f h = absurd h
 
 named_other : (kind : Kind) (octets : List ℕ) (f : FrameFault) → NamedFails kind octets f
     → IsOther f
@@ -74,17 +75,19 @@ named_other kind octets f (name_fails h) = name_fault_other BadName name_other o
 named_other kind octets f (behind_name name rest is named h) =
     field_other _ _ _ _ _ rest f (λ e. cc) (λ n r k. body_fault_other kind name n r f k) h
 
-entry_other : (octets : List ℕ) (f : FrameFault) → EntryFails octets f → IsOther f
-entry_other octets f h =
+entry_other : (version : ℕ) (octets : List ℕ) (f : FrameFault) → EntryFails version octets f
+    → IsOther f
+entry_other version octets f h =
     field_other _ _ _ _ _ octets f (λ e. cc)
     (λ number a is. field_other _ _ _ _ _ a f (λ e. cc)
     (λ rank b. field_other _ _ _ _ _ b f (λ e. cc)
     (λ stamp d. field_other _ _ _ _ _ d f (λ e. cc) (λ life r k. named_other is.0 r f k))) is.2) h
 
-entries_other : (count : ℕ) (octets : List ℕ) (f : FrameFault) → EntriesFail count octets f
-    → IsOther f
-entries_other count octets f (entry_fails list rest is lawful few h) = entry_other rest f h
-entries_other count octets f (more_octets list rest is lawful n some e) =
+entries_other : (version count : ℕ) (octets : List ℕ) (f : FrameFault)
+    → EntriesFail version count octets f → IsOther f
+entries_other version count octets f (entry_fails list rest is lawful few h) =
+    entry_other version rest f h
+entries_other version count octets f (more_octets list rest is lawful n some e) =
     is_other f Trailing e (λ e'. cc)
 
 pub fault_other : (octets : List ℕ) (f : FrameFault) → FrameFails octets f → IsOther f
@@ -92,4 +95,4 @@ fault_other octets f (inl h) = is_other f TooLong h.1 (λ e. cc)
 fault_other octets f (inr h) =
     field_other _ _ _ _ _ octets f (λ e. cc)
     (λ m a. field_other _ _ _ _ _ a f (λ e. cc)
-    (λ v b. field_other _ _ _ _ _ b f cut_other (λ n rest k. entries_other n rest f k))) h.1
+    (λ v b. field_other _ _ _ _ _ b f cut_other (λ n rest k. entries_other v n rest f k))) h.1

@@ -7,12 +7,12 @@ use Rattle.std.proofs.lemmas.List.{append-nil, nil_from_length, take_more}
 use Rattle.fleet_wire.specs.Number.{u16_octets, u32_octets}
 use Rattle.fleet_observe.specs.Observation.{ObservationData, IsObservation, AreObservations}
 use Rattle.fleet_gossip.specs.Entry.{octet, u64_octets, entry_octets}
-use Rattle.fleet_gossip.specs.Frame.{entries, frame_octets, SpellsFrame}
+use Rattle.fleet_gossip.specs.Frame.{entries, frame_octets, WritesFrame}
 use Rattle.fleet_gossip.specs.declared.frame.TheConstants.{MAGIC, VERSION}
 use Rattle.fleet_gossip.specs.Packed.{IsPacked, none, more}
 use Rattle.fleet_gossip.specs.Packs.{Hold}
 use Rattle.fleet_gossip.specs.declared.bounds.TheConstants.{LONGEST_ENTRY, LONGEST_FRAME}
-use Rattle.fleet_gossip.proofs.Frames.{lawful_push}
+use Rattle.fleet_gossip.proofs.Frames.{all_pushed, are_written}
 use Rattle.fleet_gossip.proofs.Packing.{entries_push, frame_push, frame_length}
 
 -- kind, rank, stamp and life, one behind the other
@@ -41,15 +41,23 @@ count_le (o ∷ list) = omega (arith, count_le list, length-append (entry_octets
 
 -- the frame in the making, finished
 pub spells_part : (octets : List ℕ) (count : ℕ) (part : List ObservationData) → AreObservations part
-    → count ≡ length part → octets ≡ entries part → length (frame_octets part) ≤ LONGEST_FRAME
-    → SpellsFrame (u16_octets MAGIC ++ (octet VERSION ++ (u16_octets count ++ octets))) part
+    → count ≡ length part → octets ≡ entries part → length (frame_octets VERSION part) ≤ LONGEST_FRAME
+    → WritesFrame (u16_octets MAGIC ++ (octet VERSION ++ (u16_octets count ++ octets))) part
 spells_part octets count part lawful n e fits =
     let same : u16_octets MAGIC ++ (octet VERSION ++ (u16_octets count ++ octets))
-    ≡ frame_octets part = ap (λ (k : ℕ). u16_octets MAGIC
+    ≡ frame_octets VERSION part = ap (λ (k : ℕ). u16_octets MAGIC
     ++ (octet VERSION ++ (u16_octets k ++ octets))) n
     ∙ ap (λ (x : List ℕ). u16_octets MAGIC ++ (octet VERSION ++ (u16_octets (length part) ++ x))) e
-    in
-    record { lawful = lawful; spelled = same; fits = rw (ap length same) fits }
+    in (
+      record {
+        version = VERSION;
+        read = (omega arith, omega arith);
+        lawful = are_written part lawful;
+        spelled = same;
+        fits = rw (ap length same) fits;
+      },
+      refl,
+    )
 
 pushed_some : (taken : List ObservationData) (o : ObservationData) → taken ++ o ∷ [] ≡ [] → ⊥
 pushed_some taken o e = omega (arith, ap length e, length-append taken (o ∷ []))
@@ -68,7 +76,7 @@ module _ (frames : List (List ℕ)) (octets : List ℕ) (count : ℕ) (taken : L
         ≤ LONGEST_FRAME → Hold frames new (count + 1) (taken ++ o ∷ [])
     hold_more wrote room = record {
       part = hold.part ++ o ∷ [];
-      lawful = lawful_push hold.part o hold.lawful is;
+      lawful = all_pushed IsObservation hold.part o hold.lawful is;
       counted = omega (arith, hold.counted, length-append hold.part (o ∷ []));
       none = λ e. absurd (pushed_some taken o e);
       spelled = wrote ∙ (ap (λ (x : List ℕ). x ++ entry_octets o) hold.spelled
@@ -84,7 +92,7 @@ module _ (frames : List (List ℕ)) (octets : List ℕ) (count : ℕ) (taken : L
           (hold.goes_on (o ∷ rest) others (rw append_assoc at h));
     }
 
-    some_part : (part : List ObservationData) → LONGEST_FRAME < length (frame_octets part)
+    some_part : (part : List ObservationData) → LONGEST_FRAME < length (frame_octets VERSION part)
         + length (entry_octets o) → length (entry_octets o) ≤ LONGEST_ENTRY → 0 < length part
     some_part [] over small = omega (arith, over, small)
     some_part (x ∷ part) over small = omega arith
@@ -95,7 +103,7 @@ module _ (frames : List (List ℕ)) (octets : List ℕ) (count : ℕ) (taken : L
         ∷ [] → new ≡ entry_octets o → LONGEST_FRAME < 5 + length octets + length (entry_octets o)
         → length (entry_octets o) ≤ LONGEST_ENTRY → Hold finished new 1 (taken ++ o ∷ [])
     hold_next finished closed wrote over small =
-        let over' : LONGEST_FRAME < length (frame_octets hold.part) + length (entry_octets o) =
+        let over' : LONGEST_FRAME < length (frame_octets VERSION hold.part) + length (entry_octets o) =
         omega (arith, over, frame_length hold.part, ap length hold.spelled) in
         let first = u16_octets MAGIC ++ (octet VERSION ++ (u16_octets count ++ octets)) in
         record {
@@ -144,13 +152,13 @@ take_item list i o within is = take_more list i o within
 -- The i-th observation of a list is written behind those before it.
 module _ (list : List ObservationData) (i : ℕ) (o : ObservationData) (within : i < length list)
     (is : o ≡ get_or list i o) where
-  pub frame_taken : length (frame_octets (take (i + 1) list))
-      ≡ length (frame_octets (take i list)) + length (entry_octets o)
-  frame_taken = ap (λ (x : List ObservationData). length (frame_octets x))
+  pub frame_taken : length (frame_octets VERSION (take (i + 1) list))
+      ≡ length (frame_octets VERSION (take i list)) + length (entry_octets o)
+  frame_taken = ap (λ (x : List ObservationData). length (frame_octets VERSION x))
       (take_item list i o within is) ∙ frame_push (take i list) o
 
-  pub frame_at_least : length (frame_octets (take i list)) + length (entry_octets o)
-      ≤ length (frame_octets list)
+  pub frame_at_least : length (frame_octets VERSION (take i list)) + length (entry_octets o)
+      ≤ length (frame_octets VERSION list)
   frame_at_least =
       omega (
         arith,
@@ -164,7 +172,7 @@ module _ (list : List ObservationData) (i : ℕ) (o : ObservationData) (within :
       → size + length (entry_octets o) ≤ LONGEST_FRAME
       → FitsFrame (take (i + 1) list) (size + length (entry_octets o))
   fits_more size fits lawful room = record {
-    lawful = rw (take_item list i o within is) (lawful_push (take i list) o fits.lawful lawful);
+    lawful = rw (take_item list i o within is) (all_pushed IsObservation (take i list) o fits.lawful lawful);
     counted = omega (arith, fits.counted, frame_taken);
     fits = room;
   }

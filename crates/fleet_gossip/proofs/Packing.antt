@@ -4,10 +4,11 @@ use Rattle.std.proofs.lemmas.Grind.{flat_map-append}
 use Rattle.std.proofs.lemmas.List.{append-nil}
 use Rattle.fleet_observe.specs.Observation.{ObservationData}
 use Rattle.fleet_gossip.specs.Entry.{entry_octets}
-use Rattle.fleet_gossip.specs.Frame.{entries, frame_octets, SpellsFrame}
+use Rattle.fleet_gossip.specs.Frame.{entries, frame_octets, WritesFrame}
+use Rattle.fleet_gossip.specs.declared.frame.TheConstants.{VERSION}
 use Rattle.fleet_gossip.specs.Packed.{IsFull, IsPacked, none, more}
 
-pub frame_length : (list : List ObservationData) → length (frame_octets list) ≡ 5
+pub frame_length : (list : List ObservationData) → length (frame_octets VERSION list) ≡ 5
     + length (entries list)
 frame_length list = omega arith
 
@@ -16,7 +17,7 @@ pub entries_push : (list : List ObservationData) (o : ObservationData) → entri
 entries_push list o = rw (flat_map-append, append-nil) refl
 
 pub frame_push : (list : List ObservationData) (o : ObservationData)
-    → length (frame_octets (list ++ o ∷ [])) ≡ length (frame_octets list)
+    → length (frame_octets VERSION (list ++ o ∷ [])) ≡ length (frame_octets VERSION list)
     + length (entry_octets o)
 frame_push list o = omega (
   arith,
@@ -25,7 +26,7 @@ frame_push list o = omega (
 )
 
 frame_grows : (list : List ObservationData) (o : ObservationData) (others : List ObservationData)
-    → length (frame_octets (list ++ o ∷ [])) ≤ length (frame_octets (list ++ o ∷ others))
+    → length (frame_octets VERSION (list ++ o ∷ [])) ≤ length (frame_octets VERSION (list ++ o ∷ others))
 frame_grows list o others =
     omega (
       arith,
@@ -34,6 +35,10 @@ frame_grows list o others =
       length-append (entries list) (entries (o ∷ others)),
       length-append (entry_octets o) (entries others),
     )
+
+pub octets_written : (octets : List ℕ) (list : List ObservationData) → WritesFrame octets list
+    → octets ≡ frame_octets VERSION list
+octets_written octets list is = is.0.spelled ∙ ap (λ (v : ℕ). frame_octets v list) is.1
 
 -- two ways to split a list
 data Splits (a b c d : List ObservationData) : Type 0 where
@@ -63,16 +68,16 @@ splits (x ∷ a) b (y ∷ c) d e =
 -- where a part ends that is full, no longer one fits a frame
 no_longer_part : (part rest longer : List ObservationData) (x : ObservationData)
     (m other : List ObservationData) (octets : List ℕ) → IsFull part rest → rest ≡ x ∷ other
-    → longer ≡ part ++ x ∷ m → SpellsFrame octets longer → ⊥
+    → longer ≡ part ++ x ∷ m → WritesFrame octets longer → ⊥
 no_longer_part part rest longer x m other octets full e is spells =
     let over = subst (λ (z : List ObservationData). IsFull part z) e full in
     omega (
       arith,
       over,
       frame_grows part x m,
-      spells.fits,
-      ap length spells.spelled,
-      ap (λ (z : List ObservationData). length (frame_octets z)) is,
+      spells.0.fits,
+      ap length (octets_written octets longer spells),
+      ap (λ (z : List ObservationData). length (frame_octets VERSION z)) is,
     )
 
 no_part : (list part rest : List ObservationData) → list ≡ [] → list ≡ part ++ rest
@@ -96,7 +101,8 @@ one_packing list a b (more part rest first others e some spells full packed is)
     (more part' rest' first' others' e' some' spells' full' packed' is') =
     elim (splits part rest part' rest' (sym e ∙ e')) [
       | same p q ↦
-          let one : first ≡ first' = spells.spelled ∙ (ap frame_octets p ∙ sym spells'.spelled) in
+          let one : first ≡ first' = octets_written first part spells
+          ∙ (ap (frame_octets VERSION) p ∙ sym (octets_written first' part' spells')) in
           let two : others ≡ others' = one_packing rest others others' packed
           (subst (λ (z : List ObservationData). IsPacked z others') (sym q) packed') in
           is ∙ (ap (λ (z : List ℕ). z ∷ others) one

@@ -6,10 +6,11 @@ use Rattle.fleet_wire.specs.Number.{u16_octets, u32_octets}
 use Rattle.fleet_wire.specs.Shape.{IsPlain}
 use Rattle.fleet_observe.specs.Members.{Has, IsAscending}
 use Rattle.fleet_observe.specs.Body.{positive_body, IsPositiveBody, IsNegativeBody}
-use Rattle.fleet_observe.specs.Observation.{ObservationData, kind_number}
+use Rattle.fleet_observe.specs.Observation.{ObservationData, IsObservation, kind_number}
 use Rattle.fleet_observe.specs.declared.bounds.TheConstants.{LATEST, LONGEST_BODY}
 use Rattle.fleet_observe.specs.declared.observation.kind.Kind.{Kind}
-use Rattle.fleet_observe.specs.declared.observation.kind.Kind.TheVariants.{NameError, NoData, Positive}
+use Rattle.fleet_observe.specs.declared.observation.kind.Kind.TheVariants.{NameError, NoData, Positive, Flush}
+use Rattle.fleet_gossip.specs.declared.frame.TheConstants.{OLDEST_VERSION, VERSION, FLUSH_VERSION}
 
 -- numbers of one and of eight octets
 abbrev pub octet : ℕ → List ℕ
@@ -26,13 +27,31 @@ entry_octets o =
     ++ (u64_octets o.stamp
     ++ (u32_octets o.life ++ (wire o.name ++ (u16_octets o.rtype ++ o.body)))))
 
+-- the versions that are read
+abbrev pub IsVersion : ℕ → Type 0
+IsVersion version = (OLDEST_VERSION ≤ version) × (version ≤ VERSION)
+
+-- the kinds that entries of a version have: a flush from FLUSH_VERSION on, the others always
+abbrev pub IsKindIn : ℕ → Kind → Type 0
+IsKindIn version Positive = Unit {0}
+IsKindIn version NoData = Unit {0}
+IsKindIn version NameError = Unit {0}
+IsKindIn version Flush = FLUSH_VERSION ≤ version
+
+-- an observation that entries of a version have, and many of them
+abbrev pub IsIn : ℕ → ObservationData → Type 0
+IsIn version o = IsObservation o × IsKindIn version o.kind
+
+abbrev pub AreIn : ℕ → List ObservationData → Type 0
+AreIn version list = (o : ObservationData) → Has list o → IsIn version o
+
 -- the number of a kind
 abbrev pub IsKind : ℕ → Kind → Type 0
 IsKind number kind = number ≡ kind_number kind
 
--- a number that a kind has
-abbrev pub IsKindNumber : ℕ → Type 0
-IsKindNumber number = (kind : Kind) × IsKind number kind
+-- a number that a kind of the version has
+abbrev pub IsKindNumber : ℕ → ℕ → Type 0
+IsKindNumber version number = (kind : Kind) × IsKind number kind × IsKindIn version kind
 
 -- a moment, in seconds
 abbrev pub IsMoment : ℕ → Type 0
@@ -49,3 +68,4 @@ abbrev pub AreBodyOctets : Kind → List (List ℕ) → ℕ → List ℕ → Typ
 AreBodyOctets Positive name rtype body = IsPositiveBody rtype body
 AreBodyOctets NoData name rtype body = IsNegativeBody name body
 AreBodyOctets NameError name rtype body = IsNegativeBody name body
+AreBodyOctets Flush name rtype body = body ≡ []

@@ -9,10 +9,10 @@ use Rattle.fleet_wire.specs.Shape.{IsPlain}
 use Rattle.fleet_wire.specs.declared.rtype.TheConstants.{SOA}
 use Rattle.fleet_observe.specs.Body.{octets_with_length}
 use Rattle.fleet_observe.specs.Checks.{IsRankOf, IsLifeOf, IsTypeOf, IsCountOf}
-use Rattle.fleet_observe.specs.Observation.{ObservationData, AreObservations}
+use Rattle.fleet_observe.specs.Observation.{ObservationData}
 use Rattle.fleet_observe.specs.declared.observation.kind.Kind.{Kind}
-use Rattle.fleet_observe.specs.declared.observation.kind.Kind.TheVariants.{NameError, NoData, Positive}
-use Rattle.fleet_gossip.specs.Entry.{octet, u64_octets, IsKind, IsKindNumber, IsMoment, AreFirstRdatas}
+use Rattle.fleet_observe.specs.declared.observation.kind.Kind.TheVariants.{NameError, NoData, Positive, Flush}
+use Rattle.fleet_gossip.specs.Entry.{octet, u64_octets, IsVersion, AreIn, IsKind, IsKindNumber, IsMoment, AreFirstRdatas}
 use Rattle.fleet_gossip.specs.Frame.{entries, frame_octets}
 use Rattle.fleet_gossip.specs.declared.frame.TheConstants.{MAGIC, VERSION}
 use Rattle.fleet_gossip.specs.declared.fault.FrameFault.{FrameFault}
@@ -105,6 +105,7 @@ abbrev pub BodyFails : Kind → List (List ℕ) → ℕ → List ℕ → FrameFa
 BodyFails Positive name rtype = PositiveFails rtype
 BodyFails NoData name rtype = NegativeFails name
 BodyFails NameError name rtype = NegativeFails name
+BodyFails Flush name rtype = λ octets f. ⊥
 
 -- The first fault of an entry, from its type on, from its name, life, stamp and rank on, behind the
 -- number of its kind, and of the whole.
@@ -129,27 +130,27 @@ RankFails kind = FieldFails octet 1 (IsRankOf kind) BadRank (λ rank. StampFails
 abbrev pub KindFails : ℕ → List ℕ → FrameFault → Type 0
 KindFails number octets f = (kind : Kind) × IsKind number kind × RankFails kind octets f
 
-abbrev pub EntryFails : List ℕ → FrameFault → Type 0
-EntryFails = FieldFails octet 1 IsKindNumber BadKind KindFails
+abbrev pub EntryFails : ℕ → List ℕ → FrameFault → Type 0
+EntryFails version = FieldFails octet 1 (IsKindNumber version) BadKind KindFails
 
 -- the first fault of so many entries: behind fewer of them the next fails, or octets stand behind
 -- them all
-pub data EntriesFail (count : ℕ) (octets : List ℕ) (f : FrameFault) : Type 0 where
+pub data EntriesFail (version count : ℕ) (octets : List ℕ) (f : FrameFault) : Type 0 where
   entry_fails : (list : List ObservationData) (rest : List ℕ) → octets ≡ entries list ++ rest
-      → AreObservations list
-      → length list < count → EntryFails rest f
-      → EntriesFail count octets f
+      → AreIn version list
+      → length list < count → EntryFails version rest f
+      → EntriesFail version count octets f
   more_octets : (list : List ObservationData) (rest : List ℕ) → octets ≡ entries list ++ rest
-      → AreObservations list
+      → AreIn version list
       → length list ≡ count → 0 < length rest → f ≡ Trailing
-      → EntriesFail count octets f
+      → EntriesFail version count octets f
 
 -- the first fault of a frame from its count on, from its version and from its magic on
-abbrev pub CountFails : List ℕ → FrameFault → Type 0
-CountFails = FieldFails u16_octets 2 AnyNumber Truncated EntriesFail
+abbrev pub CountFails : ℕ → List ℕ → FrameFault → Type 0
+CountFails version = FieldFails u16_octets 2 AnyNumber Truncated (EntriesFail version)
 
 abbrev pub VersionFails : List ℕ → FrameFault → Type 0
-VersionFails = FieldFails octet 1 (λ n. n ≡ VERSION) BadVersion (λ n. CountFails)
+VersionFails = FieldFails octet 1 IsVersion BadVersion CountFails
 
 abbrev pub MagicFails : List ℕ → FrameFault → Type 0
 MagicFails = FieldFails u16_octets 2 (λ n. n ≡ MAGIC) BadMagic (λ n. VersionFails)
@@ -162,4 +163,4 @@ FrameFails octets f =
 
 -- these observations would make too long a frame
 abbrev pub IsTooLong : List ObservationData → FrameFault → Type 0
-IsTooLong list f = (f ≡ TooLong) × (LONGEST_FRAME < length (frame_octets list))
+IsTooLong list f = (f ≡ TooLong) × (LONGEST_FRAME < length (frame_octets VERSION list))

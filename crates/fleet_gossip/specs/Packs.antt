@@ -3,6 +3,7 @@ use Rattle.std.specs.Prelude.{◌≡◌, ℕ, ◌≤◌, List, [], ◌++◌, len
 use Rattle.fleet_observe.specs.Observation.{ObservationData, AreObservations}
 use Rattle.fleet_gossip.specs.Frame.{entries, frame_octets}
 use Rattle.fleet_gossip.specs.Packed.{IsPacked}
+use Rattle.fleet_gossip.specs.declared.frame.TheConstants.{VERSION}
 use Rattle.fleet_gossip.specs.declared.packer.Packer.{Packer}
 use Rattle.fleet_gossip.specs.declared.bounds.TheConstants.{LONGEST_FRAME}
 
@@ -16,7 +17,7 @@ pub record Hold (frames : List (List ℕ)) (octets : List ℕ) (count : ℕ)
   pub counted : count ≡ length part
   pub none : taken ≡ [] → part ≡ []
   pub spelled : octets ≡ entries part
-  pub fits : length (frame_octets part) ≤ LONGEST_FRAME
+  pub fits : length (frame_octets VERSION part) ≤ LONGEST_FRAME
   pub goes_on : (rest : List ObservationData) (others : List (List ℕ))
       → IsPacked (part ++ rest) others
       → IsPacked (taken ++ rest) (frames ++ others)

@@ -1,5 +1,6 @@
 -- What the steps of reading find.
 use Rattle.std.specs.Prelude.{◌≡◌, ℕ, ◌<◌, ◌≤◌, List, [], ◌∷◌, ◌++◌, length}
+use Rattle.fleet_observe.specs.declared.observation.kind.Kind.{Kind}
 use Rattle.std.specs.declared.cmp.Ordering.TheVariants.{Less}
 use Rattle.std.specs.List.{flat_map}
 use Rattle.std.specs.Ordering.{nat_cmp}
@@ -9,7 +10,7 @@ use Rattle.fleet_wire.specs.Number.{u16_octets, u32_octets}
 use Rattle.fleet_observe.specs.Body.{octets_with_length, positive_body, negative_body}
 use Rattle.fleet_observe.specs.Checks.{IsRankOf, IsLifeOf}
 use Rattle.fleet_observe.specs.Observation.{ObservationData, AreObservations, kind_number}
-use Rattle.fleet_gossip.specs.Entry.{octet, u64_octets, IsMoment, AreFirstRdatas}
+use Rattle.fleet_gossip.specs.Entry.{octet, u64_octets, IsVersion, IsKindIn, AreIn, IsMoment, AreFirstRdatas}
 use Rattle.fleet_gossip.specs.Frame.{entries, frame_octets}
 use Rattle.fleet_gossip.specs.declared.frame.TheConstants.{MAGIC, VERSION}
 use Rattle.fleet_gossip.specs.Faults.{FieldFails, IsRoom}
@@ -40,18 +41,24 @@ pub record IsSplitAfter (octets : List ℕ) (size : ℕ) (taken rest : List ℕ)
   pub whole : octets ≡ taken ++ rest
   pub counted : length taken ≡ size
 
--- an entry may begin with these numbers
-pub record IsLawfulHead (head : Head) : Type 0 where
+-- the number of a kind that the version has stands at the front, and the rest behind it
+pub record IsKindAt (version : ℕ) (octets : List ℕ) (kind : Kind) (rest : List ℕ) : Type 0 where
+  pub whole : octets ≡ octet (kind_number kind) ++ rest
+  pub known : IsKindIn version kind
+
+-- an entry of the version may begin with these numbers
+pub record IsLawfulHead (version : ℕ) (head : Head) : Type 0 where
+  pub kind : IsKindIn version head.kind
   pub rank : IsRankOf head.kind head.rank
   pub stamp : IsMoment head.stamp
   pub life : IsLifeOf head.kind head.life
 
 -- the first numbers of an entry stand at the front, and the rest behind them
-pub record IsHead (octets : List ℕ) (head : Head) (rest : List ℕ) : Type 0 where
+pub record IsHead (version : ℕ) (octets : List ℕ) (head : Head) (rest : List ℕ) : Type 0 where
   pub whole : octets
       ≡ octet (kind_number head.kind)
       ++ (octet head.rank ++ (u64_octets head.stamp ++ (u32_octets head.life ++ rest)))
-  pub lawful : IsLawfulHead head
+  pub lawful : IsLawfulHead version head
 
 -- a label stands at the front, or the zero octet that ends a name, and the rest behind it
 pub record IsLabelAt (before : List (List ℕ)) (octets label rest : List ℕ) : Type 0 where
@@ -111,31 +118,32 @@ pub record IsSoaBody (body : List ℕ) : Type 0 where
   pub named : IsName owner
   pub octets : body ≡ negative_body owner rdata
 
--- the magic, the version and a count of entries stand at the front, the rest behind them
-abbrev pub IsOpened : List ℕ → ℕ → List ℕ → Type 0
-IsOpened octets count rest =
-    octets ≡ u16_octets MAGIC ++ (octet VERSION ++ (u16_octets count ++ rest))
+-- the magic, a version and a count of entries stand at the front, the rest behind them
+pub record IsOpened (octets : List ℕ) (version count : ℕ) (rest : List ℕ) : Type 0 where
+  pub whole : octets ≡ u16_octets MAGIC ++ (octet version ++ (u16_octets count ++ rest))
+  pub read : IsVersion version
 
--- so many entries stand at the front, and the rest behind them
-pub record AreEntries (octets : List ℕ) (count : ℕ) (list : List ObservationData) (rest : List ℕ)
+-- so many entries of the version stand at the front, and the rest behind them
+pub record AreEntries (octets : List ℕ) (version count : ℕ) (list : List ObservationData)
+    (rest : List ℕ)
     : Type 0 where
   pub whole : octets ≡ entries list ++ rest
-  pub lawful : AreObservations list
+  pub lawful : AreIn version list
   pub counted : length list ≡ count
 
--- octets that are just so many lawful entries
-pub record StandEntries (octets : List ℕ) (count : ℕ) : Type 0 where
+-- octets that are just so many lawful entries of the version
+pub record StandEntries (octets : List ℕ) (version count : ℕ) : Type 0 where
   pub list : List ObservationData
-  pub are : AreEntries octets count list []
+  pub are : AreEntries octets version count list []
 
--- a frame has so many entries, and these octets are all of them
-pub record AreEntriesOf (frame : List ℕ) (count : ℕ) (octets : List ℕ) : Type 0 where
-  pub opened : IsOpened frame count octets
+-- a frame has so many entries of the version, and these octets are all of them
+pub record AreEntriesOf (frame : List ℕ) (version count : ℕ) (octets : List ℕ) : Type 0 where
+  pub opened : IsOpened frame version count octets
   pub fits : length frame ≤ LONGEST_FRAME
-  pub stand : StandEntries octets count
+  pub stand : StandEntries octets version count
 
 -- the frame of these observations has so many octets, which fit
 pub record FitsFrame (list : List ObservationData) (size : ℕ) : Type 0 where
   pub lawful : AreObservations list
-  pub counted : size ≡ length (frame_octets list)
+  pub counted : size ≡ length (frame_octets VERSION list)
   pub fits : size ≤ LONGEST_FRAME

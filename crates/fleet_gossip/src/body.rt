@@ -127,6 +127,7 @@ fn body_size(octets: &[u8], kind: Kind, name: &[u8], rtype: u16) -> Result<usize
         Kind::Positive => positive_size(octets, rtype),
         Kind::NoData => negative_size(octets, name),
         Kind::NameError => negative_size(octets, name),
+        Kind::Flush => Ok(0),
     }
 }
 

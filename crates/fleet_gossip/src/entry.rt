@@ -4,9 +4,9 @@ ghost use Rattle.std.specs.Prelude.{◌≡◌, ℕ, ◌++◌, List, IfOk, MatchR
 ghost use Rattle.fleet_name.specs.Name.{wire, IsName, IsWire};
 ghost use Rattle.fleet_observe.specs.Body.{positive_body, negative_body};
 ghost use Rattle.fleet_observe.specs.Observation.{ObservationData};
-ghost use Rattle.fleet_observe.specs.declared.observation.kind.Kind.TheVariants.{Positive};
+ghost use Rattle.fleet_observe.specs.declared.observation.kind.Kind.TheVariants.{Positive, Flush};
 ghost use Rattle.fleet_observe.specs.Checks.{denied_kind, denied_type};
-ghost use Rattle.fleet_gossip.specs.Entry.{entry_octets};
+ghost use Rattle.fleet_gossip.specs.Entry.{entry_octets, IsKindIn};
 ghost use Rattle.fleet_gossip.specs.Faults.{EntryFails};
 ghost use Rattle.fleet_gossip.specs.Steps.{IsRdatasBody, IsSoaBody};
 ghost use Rattle.fleet_gossip.specs.EntryOf.{IsEntryOf};
@@ -29,14 +29,17 @@ pub(crate) struct FrameEntry<'a> {
     pub body: &'a [u8],
 }
 
-/// The entry that is read next. This takes no memory.
-pub(crate) fn read_entry<'a>(reader: &mut Reader<'a>) -> Result<FrameEntry<'a>, FrameFault>
+/// The entry of the version that is read next. This takes no memory.
+pub(crate) fn read_entry<'a>(
+    reader: &mut Reader<'a>,
+    version: u8,
+) -> Result<FrameEntry<'a>, FrameFault>
     ensures { MatchResult result
-        (λ entry. (o : ObservationData) × IsEntryOf entry o
+        (λ entry. (o : ObservationData) × IsEntryOf entry o × IsKindIn version o.kind
         × (reader.old ≡ entry_octets o ++ reader.new))
-        (EntryFails reader.old) }
+        (EntryFails version reader.old) }
 {
-    let head = read_head(reader)?;
+    let head = read_head(reader, version)?;
     let name = read_name(reader, FrameFault::BadName)?;
     let rtype = read_type(reader, head.kind)?;
     let body = read_body(reader, head.kind, name, rtype)?;
@@ -141,6 +144,16 @@ impl FrameEntry<'_> {
         Ok(observation)
     }
 
+    /// The observation of a flush.
+    fn to_flush<A: Allocator>(&self, alloc: A) -> Result<Observation<A>, AllocError>
+        requires tells { (o : ObservationData) × IsEntryOf self.now o }
+        requires kind { self.now.head.kind ≡ Flush }
+        ensures { IfOk result (λ made. (o : ObservationData) → IsEntryOf self.now o → made ≡ o) }
+    {
+        let name = copy_name(alloc, self.name)?;
+        Ok(Observation::flush(name, self.head.stamp))
+    }
+
     /// The observation that it tells.
     pub fn to_observation<A: Allocator + Copy>(
         &self,
@@ -153,6 +166,7 @@ impl FrameEntry<'_> {
             Kind::Positive => self.to_records(alloc),
             Kind::NoData => self.to_denial(alloc, Some(self.rtype)),
             Kind::NameError => self.to_denial(alloc, None),
+            Kind::Flush => self.to_flush(alloc),
         }
     }
 }

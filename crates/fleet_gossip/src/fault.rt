@@ -13,7 +13,7 @@ pub enum FrameFault {
     /// It doesn't begin with the octets 44 47.
     #[error("bad magic")]
     BadMagic,
-    /// Its version is not 1.
+    /// Its version is not 1 or 2.
     #[error("bad version")]
     BadVersion,
     /// It has more than `LONGEST_FRAME` octets. This is told before all else.
@@ -22,18 +22,20 @@ pub enum FrameFault {
     /// It ends before what it says.
     #[error("truncated")]
     Truncated,
-    /// A kind other than 1, 2 or 3, or a type that the kind doesn't have: a name error has 0, the
-    /// others have none of 0, 41 and 128 to 255 (RFC 6895 3.1).
+    /// A kind other than 1, 2 or 3, and in version 2 other than 4, or a type that the kind doesn't
+    /// have: a name error and a flush have 0, the others have none of 0, 41 and 128 to 255
+    /// (RFC 6895 3.1).
     #[error("bad kind")]
     BadKind,
-    /// A rank other than 1, 2 or 3, or 2 where the observation is not positive.
+    /// A rank other than 1, 2 or 3, 2 where the observation is a denial, or 1 or 2 where it is a
+    /// flush.
     #[error("bad rank")]
     BadRank,
     /// A stamp of more than `LATEST` seconds.
     #[error("bad moment")]
     BadMoment,
-    /// A life of 0 seconds, of more than `LONGEST_LIFE`, or of more than `LONGEST_DENIAL` where the
-    /// observation is not positive.
+    /// A life of 0 seconds, of more than `LONGEST_LIFE`, of more than `LONGEST_DENIAL` where the
+    /// observation is a denial, or of less than `LONGEST_LIFE` where it is a flush.
     #[error("bad life")]
     BadLife,
     /// A label of more than `LONGEST_LABEL` octets, a name of more than `LONGEST_NAME` with its

@@ -1,11 +1,13 @@
 //! Frames: read and written.
 
-ghost use Rattle.std.specs.Prelude.{◌≡◌, ◌<◌, List, [], length, IfOk, IfErr, OnErr, MatchOption, MatchResult, Err};
+ghost use Rattle.std.specs.Prelude.{◌≡◌, ◌<◌, ◌↔◌, List, [], length, IsTrue, IfOk, IfErr, OnErr, MatchOption, MatchResult, Err};
 ghost use Rattle.fleet_name.specs.Fault.{OrMemory};
 ghost use Rattle.fleet_observe.specs.Observation.{ObservationData};
-ghost use Rattle.fleet_gossip.specs.Frame.{frame_octets, SpellsFrame, HasEntries};
+ghost use Rattle.fleet_gossip.specs.Entry.{IsVersion};
+ghost use Rattle.fleet_gossip.specs.Frame.{frame_octets, SpellsFrame, WritesFrame, HasEntries};
 ghost use Rattle.fleet_gossip.specs.Faults.{EntriesFail, MagicFails, FrameFails, IsTooLong};
 ghost use Rattle.fleet_gossip.specs.Steps.{IsOpened, AreEntries, StandEntries, AreEntriesOf, FitsFrame};
+ghost use Rattle.fleet_gossip.specs.declared.frame.TheConstants.{VERSION};
 ghost use Rattle.fleet_gossip.specs.declared.bounds.TheConstants.{LONGEST_FRAME};
 ghost use Rattle.fleet_gossip.specs.declared.fault.FrameFault.TheVariants.{TooLong, OutOfMemory};
 
@@ -20,15 +22,21 @@ use std::alloc::{AllocError, Allocator};
 /// The octets 44 47, which a frame begins with.
 pub(crate) const MAGIC: u16 = 0x4447;
 
-/// The version of the frames that are read and written.
-pub(crate) const VERSION: u8 = 1;
+/// The version of the frames that are written, and the newest one that is read.
+pub(crate) const VERSION: u8 = 2;
+
+/// The oldest version that is read.
+pub(crate) const OLDEST_VERSION: u8 = 1;
+
+/// The version from which on frames tell flushes.
+pub(crate) const FLUSH_VERSION: u8 = 2;
 
 /// How many octets stand before the entries of a frame.
 pub(crate) const OPENING: usize = 5;
 
 /// How many octets the frame of observations has, where it may have so many.
 fn frame_size<A: Allocator>(observations: &[Observation<A>]) -> Option<usize>
-    ensures { MatchOption result (LONGEST_FRAME < length (frame_octets observations.now))
+    ensures { MatchOption result (LONGEST_FRAME < length (frame_octets VERSION observations.now))
         (FitsFrame observations.now) }
 {
     let mut size = OPENING;
@@ -41,7 +49,8 @@ fn frame_size<A: Allocator>(observations: &[Observation<A>]) -> Option<usize>
     Some(size)
 }
 
-/// The frame of observations, in their order: one allocation of just its octets.
+/// The frame of observations, in their order, of version `VERSION`: one allocation of just its
+/// octets.
 ///
 /// `TooLong` comes exactly where it would have more than `LONGEST_FRAME` octets, before any memory
 /// is asked for. Of the other faults there is only `OutOfMemory`.
@@ -49,9 +58,9 @@ pub fn encode<A: Allocator>(
     alloc: A,
     observations: &[Observation<A>],
 ) -> Result<Vec<u8, A>, FrameFault>
-    ensures spelled { IfOk result (λ frame. SpellsFrame frame.items observations.now) }
+    ensures spelled { IfOk result (λ frame. WritesFrame frame.items observations.now) }
     ensures fault { IfErr result (λ f. OrMemory OutOfMemory f (IsTooLong observations.now f)) }
-    ensures too_long { LONGEST_FRAME < length (frame_octets observations.now)
+    ensures too_long { LONGEST_FRAME < length (frame_octets VERSION observations.now)
         → result ≡ Err TooLong }
 {
     let Some(size) = frame_size(observations) else {
@@ -65,9 +74,25 @@ pub fn encode<A: Allocator>(
     Ok(frame)
 }
 
-/// How many entries the frame counts.
-fn read_count(reader: &mut Reader<'_>) -> Result<u16, FrameFault>
-    ensures { MatchResult result (λ count. IsOpened reader.old count reader.new)
+/// Whether frames of the version are read.
+fn is_version(version: u8) -> bool
+    ensures { IsTrue result ↔ IsVersion version }
+{
+    (OLDEST_VERSION..=VERSION).contains(&version)
+}
+
+/// What stands before the entries of a frame.
+#[derive(Clone, Copy)]
+pub(crate) struct Opening {
+    pub version: u8,
+    /// How many entries it counts.
+    pub count: u16,
+}
+
+/// The version of the frame, and how many entries it counts.
+fn read_opening(reader: &mut Reader<'_>) -> Result<Opening, FrameFault>
+    ensures { MatchResult result
+        (λ opening. IsOpened reader.old opening.version opening.count reader.new)
         (MagicFails reader.old) }
 {
     let magic = reader.read_u16()?;
@@ -75,27 +100,30 @@ fn read_count(reader: &mut Reader<'_>) -> Result<u16, FrameFault>
         return Err(FrameFault::BadMagic);
     }
     let version = reader.read_u8()?;
-    if version != VERSION {
+    if !is_version(version) {
         return Err(FrameFault::BadVersion);
     }
-    reader.read_u16()
+    let count = reader.read_u16()?;
+    Ok(Opening { version, count })
 }
 
-/// The entries of a frame: how many they are, and their octets.
+/// The entries of a frame: their version, how many they are, and their octets.
 #[derive(Clone, Copy)]
 pub(crate) struct Entries<'a> {
+    pub version: u8,
     pub count: u16,
     pub octets: &'a [u8],
 }
 
 /// Whether the octets are just so many lawful entries. This takes no memory.
 fn check_entries(entries: &Entries<'_>) -> Result<(), FrameFault>
-    ensures { MatchResult result (λ _. StandEntries entries.now.octets.now entries.now.count)
-        (EntriesFail entries.now.count entries.now.octets.now) }
+    ensures { MatchResult result
+        (λ _. StandEntries entries.now.octets.now entries.now.version entries.now.count)
+        (EntriesFail entries.now.version entries.now.count entries.now.octets.now) }
 {
     let mut reader = Reader::new(entries.octets);
     for _ in 0..entries.count {
-        match read_entry(&mut reader) {
+        match read_entry(&mut reader, entries.version) {
             Ok(_) => {}
             Err(fault) => return Err(fault),
         }
@@ -109,15 +137,17 @@ fn check_entries(entries: &Entries<'_>) -> Result<(), FrameFault>
 /// The entries of a frame, each of them lawful. This takes no memory.
 fn read_frame(octets: &[u8]) -> Result<Entries<'_>, FrameFault>
     ensures { MatchResult result (λ entries.
-        AreEntriesOf octets.now entries.count entries.octets.now) (FrameFails octets.now) }
+        AreEntriesOf octets.now entries.version entries.count entries.octets.now)
+        (FrameFails octets.now) }
 {
     if octets.len() > LONGEST_FRAME {
         return Err(FrameFault::TooLong);
     }
     let mut reader = Reader::new(octets);
-    let count = read_count(&mut reader)?;
+    let opening = read_opening(&mut reader)?;
     let entries = Entries {
-        count,
+        version: opening.version,
+        count: opening.count,
         octets: reader.rest(),
     };
     check_entries(&entries)?;
@@ -129,15 +159,15 @@ fn to_observations<A: Allocator + Copy>(
     alloc: A,
     entries: &Entries<'_>,
 ) -> Result<Vec<Observation<A>, A>, AllocError>
-    requires { StandEntries entries.now.octets.now entries.now.count }
+    requires { StandEntries entries.now.octets.now entries.now.version entries.now.count }
     ensures found { IfOk result (λ v.
-        AreEntries entries.now.octets.now entries.now.count v.items []) }
+        AreEntries entries.now.octets.now entries.now.version entries.now.count v.items []) }
     ensures memory { OnErr result (0 < entries.now.count) }
 {
     let mut reader = Reader::new(entries.octets);
     let mut observations = Vec::new(alloc);
     for _ in 0..entries.count {
-        let Ok(entry) = read_entry(&mut reader) else {
+        let Ok(entry) = read_entry(&mut reader, entries.version) else {
             unreachable!()
         };
         observations.push(entry.to_observation(alloc)?)?;
@@ -145,7 +175,8 @@ fn to_observations<A: Allocator + Copy>(
     Ok(observations)
 }
 
-/// The observations of a frame, in its order: what `encode` makes this frame of.
+/// The observations of a frame, in its order: where its version is `VERSION`, what `encode` makes
+/// this frame of.
 ///
 /// All octets are checked before any memory is asked for: of several faults the first one in
 /// reading order is told, and `OutOfMemory` only where there is none and there are observations to

@@ -1,15 +1,16 @@
 //! The first numbers of an entry: kind, rank, stamp and life.
 
-ghost use Rattle.std.specs.Prelude.{◌≡◌, ◌++◌, MatchResult};
+ghost use Rattle.std.specs.Prelude.{MatchOption, MatchResult, IsTrue, ◌↔◌};
 ghost use Rattle.fleet_wire.specs.Number.{u16_octets, u32_octets};
-ghost use Rattle.fleet_observe.specs.Observation.{kind_number};
+ghost use Rattle.fleet_observe.specs.declared.observation.kind.Kind.{Kind as AnyKind};
 ghost use Rattle.fleet_observe.specs.Checks.{IsRankOf, IsLifeOf, IsTypeOf};
-ghost use Rattle.fleet_gossip.specs.Entry.{octet, u64_octets, IsKindNumber, IsMoment};
+ghost use Rattle.fleet_gossip.specs.Entry.{octet, u64_octets, IsKind, IsKindIn, IsKindNumber, IsMoment};
 ghost use Rattle.fleet_gossip.specs.Faults.{EntryFails};
-ghost use Rattle.fleet_gossip.specs.Steps.{IsField, NoField, IsHead};
+ghost use Rattle.fleet_gossip.specs.Steps.{IsField, NoField, IsKindAt, IsHead};
 ghost use Rattle.fleet_gossip.specs.declared.fault.FrameFault.TheVariants.{BadKind, BadRank, BadMoment, BadLife};
 
 use crate::fault::FrameFault;
+use crate::frame::FLUSH_VERSION;
 use crate::reader::Reader;
 use fleet_observe::{Kind, Moment, is_life_of, is_rank_of, is_type_of};
 
@@ -23,17 +24,42 @@ pub(crate) struct Head {
     pub life: u32,
 }
 
-fn read_kind(reader: &mut Reader<'_>) -> Result<Kind, FrameFault>
-    ensures { MatchResult result (λ kind. reader.old ≡ octet (kind_number kind) ++ reader.new)
-        (NoField octet 1 IsKindNumber BadKind reader.old) }
+/// Whether entries of the version have the kind.
+fn is_kind_in(version: u8, kind: Kind) -> bool
+    ensures { IsTrue result ↔ IsKindIn version kind }
+{
+    match kind {
+        Kind::Positive => true,
+        Kind::NoData => true,
+        Kind::NameError => true,
+        Kind::Flush => version >= FLUSH_VERSION,
+    }
+}
+
+fn kind_of(number: u8) -> Option<Kind>
+    ensures { MatchOption result ((kind : AnyKind) → IsKind number kind → ⊥) (IsKind number) }
+{
+    match number {
+        1 => Some(Kind::NameError),
+        2 => Some(Kind::NoData),
+        3 => Some(Kind::Positive),
+        4 => Some(Kind::Flush),
+        _ => None,
+    }
+}
+
+fn read_kind(reader: &mut Reader<'_>, version: u8) -> Result<Kind, FrameFault>
+    ensures { MatchResult result (λ kind. IsKindAt version reader.old kind reader.new)
+        (NoField octet 1 (IsKindNumber version) BadKind reader.old) }
 {
     let number = reader.read_u8()?;
-    match number {
-        1 => Ok(Kind::NameError),
-        2 => Ok(Kind::NoData),
-        3 => Ok(Kind::Positive),
-        _ => Err(FrameFault::BadKind),
+    let Some(kind) = kind_of(number) else {
+        return Err(FrameFault::BadKind);
+    };
+    if !is_kind_in(version, kind) {
+        return Err(FrameFault::BadKind);
     }
+    Ok(kind)
 }
 
 fn read_rank(reader: &mut Reader<'_>, kind: Kind) -> Result<u8, FrameFault>
@@ -69,11 +95,12 @@ fn read_life(reader: &mut Reader<'_>, kind: Kind) -> Result<u32, FrameFault>
     Ok(life)
 }
 
-/// Kind, rank, stamp and life of the entry that is read next.
-pub(crate) fn read_head(reader: &mut Reader<'_>) -> Result<Head, FrameFault>
-    ensures { MatchResult result (λ r. IsHead reader.old r reader.new) (EntryFails reader.old) }
+/// Kind, rank, stamp and life of the entry of the version that is read next.
+pub(crate) fn read_head(reader: &mut Reader<'_>, version: u8) -> Result<Head, FrameFault>
+    ensures { MatchResult result (λ r. IsHead version reader.old r reader.new)
+        (EntryFails version reader.old) }
 {
-    let kind = read_kind(reader)?;
+    let kind = read_kind(reader, version)?;
     let rank = read_rank(reader, kind)?;
     let stamp = read_stamp(reader)?;
     let life = read_life(reader, kind)?;

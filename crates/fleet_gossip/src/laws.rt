@@ -5,6 +5,7 @@ ghost use Rattle.fleet_observe.specs.Observation.{ObservationData, IsObservation
 ghost use Rattle.fleet_gossip.specs.Frame.{frame_octets, SpellsFrame};
 ghost use Rattle.fleet_gossip.specs.Faults.{FrameFails};
 ghost use Rattle.fleet_gossip.specs.Packed.{IsPacked};
+ghost use Rattle.fleet_gossip.specs.declared.frame.TheConstants.{VERSION};
 ghost use Rattle.fleet_gossip.specs.declared.bounds.TheConstants.{LONGEST_FRAME};
 ghost use Rattle.fleet_gossip.specs.declared.fault.FrameFault.{FrameFault};
 
@@ -15,10 +16,10 @@ pub fn one_list()
         → a ≡ b }
 {}
 
-/// A list has one frame at most.
+/// A list has one frame of a version at most.
 pub fn one_spelling()
-    ensures { (list : List ObservationData) (a b : List ℕ) → SpellsFrame a list
-        → SpellsFrame b list
+    ensures { (list : List ObservationData) (a b : List ℕ) → (x : SpellsFrame a list)
+        → (y : SpellsFrame b list) → x.version ≡ y.version
         → a ≡ b }
 {}
 
@@ -38,7 +39,7 @@ pub fn one_fault()
 /// An observation alone always fits a frame, whatever its name and body.
 pub fn entry_fits()
     ensures { (o : ObservationData) → IsObservation o
-        → length (frame_octets (o ∷ [])) ≤ LONGEST_FRAME }
+        → length (frame_octets VERSION (o ∷ [])) ≤ LONGEST_FRAME }
 {}
 
 /// A list has one packing at most: its frames are determined.

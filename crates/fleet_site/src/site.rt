@@ -5,13 +5,14 @@ ghost use Rattle.fleet_site.specs.SiteModel.{SiteModel};
 ghost use Rattle.fleet_site.specs.StandsFor.{StandsFor, Follows, Answers, Gathers, opening};
 ghost use Rattle.fleet_site.specs.Sender.{IsSender};
 ghost use Rattle.fleet_site.specs.SiteData.{IsSiteData};
-ghost use Rattle.fleet_site.specs.Step.{datagram as a_datagram, tick as a_tick, frame as a_frame, learn as a_reply};
+ghost use Rattle.fleet_site.specs.Step.{datagram as a_datagram, tick as a_tick, frame as a_frame, learn as a_reply, flush as a_flush};
 ghost use Rattle.fleet_site.specs.Sweep.{IsSweep};
 ghost use Rattle.fleet_site.specs.Tick.{LeavesFewer};
 ghost use Rattle.fleet_site.specs.Verdict.{IsAsking};
 ghost use Rattle.fleet_site.specs.declared.outcome.SiteFault.TheVariants.{OutOfMemory};
 
 use crate::config::{Config, place_of};
+use crate::flush::flush_name;
 use crate::frame::take_frame;
 use crate::looked::Looked;
 use crate::outcome::{Outcome, SiteFault};
@@ -21,7 +22,7 @@ use crate::tick::serve_due;
 use crate::verdict::{Decision, decide};
 use fleet_cache::Cache;
 use fleet_gossip::sweep;
-use fleet_name::Octets;
+use fleet_name::{Name, Octets};
 use fleet_observe::Moment;
 use fleet_pending::{Addr, Pending};
 use std::alloc::{AllocError, Allocator, Global};
@@ -237,6 +238,18 @@ impl<A: Allocator + Copy> Site<A> {
     {
         self.clock = later_moment(self.clock, now);
         learn_reply(self.alloc, &mut self.cache, self.clock, bytes)
+    }
+
+    /// Withdraws what was stamped at its clock or before, at a name and below it: the flush is taken,
+    /// and its frame goes out to every peer. What is stamped later in the same second is withdrawn
+    /// too.
+    pub fn flush(&mut self, now: Moment, name: &Name<A>) -> Result<Outcome<A>, SiteFault>
+        ensures follows { (m : SiteModel) → StandsFor self.old m
+            → Follows m (a_flush now name.now) result self.new }
+        ensures config { self.new.config ≡ self.old.config }
+    {
+        self.clock = later_moment(self.clock, now);
+        flush_name(self.alloc, &mut self.cache, self.clock, name)
     }
 
     /// What it answers to a question, in the order of a datagram's, without the open questions:

@@ -8,7 +8,7 @@ use Rattle.fleet_site.specs.OutcomeData.{nothing, outcome_data}
 use Rattle.fleet_site.specs.Merge.{Merges}
 use Rattle.fleet_site.specs.SiteModel.{SiteModel}
 use Rattle.fleet_site.specs.StandsFor.{opening as site_at_first}
-use Rattle.fleet_site.specs.Step.{Call, datagram, tick, frame, learn}
+use Rattle.fleet_site.specs.Step.{Call, datagram, tick, frame, learn, flush}
 use Rattle.fleet_site.specs.Step.{Step as SiteStep}
 use Rattle.fleet_site.specs.Sweep.{IsSweep}
 use Rattle.fleet_site.specs.declared.outcome.Outcome.{Outcome}
@@ -17,7 +17,7 @@ use Rattle.fleet_site.specs.declared.outcome.SiteFault.{SiteFault}
 use Rattle.fleet_site.specs.declared.outcome.SiteFault.TheVariants.{OutOfMemory}
 use Rattle.fleet_world.specs.FleetModel.{Replica, SentSweep, FleetModel, new_replica, with_delivery}
 use Rattle.fleet_world.specs.declared.event.Event.{Event}
-use Rattle.fleet_world.specs.declared.event.Event.TheVariants.{Datagram, Tick, Sweep, Frame, Deliver, Learn, Merge, Restart}
+use Rattle.fleet_world.specs.declared.event.Event.TheVariants.{Datagram, Tick, Sweep, Frame, Deliver, Learn, Flush, Merge, Restart}
 
 -- what joins all that was taken joins all that was heard of, and the horizon rises with the floor
 pub record BringsIn (a b : Replica) : Type 0 where
@@ -92,6 +92,7 @@ Becomes m (Datagram site now from word bytes) r a b = Calls (datagram now from b
 Becomes m (Tick site now) r a b = Calls (tick now) r a b
 Becomes m (Frame site now bytes) r a b = Calls (frame now bytes) r a b
 Becomes m (Learn site now bytes) r a b = Calls (learn now bytes) r a b
+Becomes m (Flush site now name) r a b = Calls (flush now name) r a b
 Becomes m (Deliver site now number) r a b = Delivers m now number r a b
 Becomes m (Sweep site) (Ok o) a b = Sweeps o a × (b ≡ a)
 Becomes m (Sweep site) (Err (OutOfMemory count)) a b = (count ≡ 0) × (b ≡ a) × HoldsSome a

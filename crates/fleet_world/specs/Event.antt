@@ -1,7 +1,7 @@
 -- What an event names: sites and frames, numbered from 0.
 use Rattle.std.specs.Prelude.{ℕ, ◌<◌}
 use Rattle.fleet_world.specs.declared.event.Event.{Event}
-use Rattle.fleet_world.specs.declared.event.Event.TheVariants.{Datagram, Tick, Sweep, Frame, Deliver, Learn, Merge, Restart}
+use Rattle.fleet_world.specs.declared.event.Event.TheVariants.{Datagram, Tick, Sweep, Frame, Deliver, Learn, Flush, Merge, Restart}
 
 -- the site at which an event happens: of a merge the one that takes
 abbrev pub site_of : {A : Type 0} → Event A → ℕ
@@ -11,6 +11,7 @@ site_of (Sweep site) = site
 site_of (Frame site now bytes) = site
 site_of (Deliver site now frame) = site
 site_of (Learn site now bytes) = site
+site_of (Flush site now name) = site
 site_of (Merge into from) = into
 site_of (Restart site) = site
 

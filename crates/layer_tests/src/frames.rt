@@ -1,6 +1,6 @@
 //! Frames that are read, refused, written and packed.
 //!
-//! In a row `@` stands for the magic and the version. A frame is told by how many observations are
+//! In a row `@` stands for the magic and the version that is written. A frame is told by how many observations are
 //! read of it, and whether they are written as it is again; or by why it is refused.
 
 use crate::observations::push_observation;
@@ -170,6 +170,11 @@ fn reads_and_writes(rt: HostRuntime) -> Result<(), Fail> {
 read => Positive example.com. 1 3 100 300 00010004c0000201;
 one - => 1 again
 frame @0000 => 0 again
+frame @00010403{00*7}780001518003'com'000000 => 1 again
+# The version before has the same kinds but for flushes, and is read, not written.
+frame 4447010000 => 0 another
+one 2=01 => 1 another
+denial 2=01 => 1 another
 frame @00010301{00*7}000000000103'a.b'015c0100000010000100020178 => 1 again";
     check_frames(&rt, rt.alloc(), rows)
 }
@@ -179,10 +184,15 @@ fn refuses_by_the_first_fault(rt: HostRuntime) -> Result<(), Fail> {
     check_prefixes(&rt, rt.alloc(), ONE, 42)?;
     let rows = "
 one 1=48 => BadMagic
+one 2=00 => BadVersion
+one 2=03 => BadVersion
 one 2=09 => BadVersion
 one 4=02 => Truncated
 one 4=00 => Trailing
-one 5=04 => BadKind
+one 5=00 => BadKind
+one 5=04 => BadLife
+one 5=05 => BadKind
+one 2=01,5=04 => BadKind
 one 6=00 => BadRank
 one 6=04 => BadRank
 one 9=01,14=01 => BadMoment
@@ -192,6 +202,11 @@ one 20=45 => BadName
 one 19=c0 => BadName
 one 33=29 => BadKind
 one 35=00 => BadBody
+# A flush in a frame of the version before, and flushes at fault.
+frame 44470100010401{00*7}780001518003'com'000000 => BadKind
+frame @00010401{00*7}780001518003'com'000000 => BadRank
+frame @00010403{00*7}780001517f03'com'000000 => BadLife
+frame @00010403{00*7}780001518003'com'000001 => BadKind
 # RDATAs that descend.
 frame @00010303{00*7}640000012c07'example'03'com'00000100020004c00002020004c0000201 => BadBody
 frame @00010303{00*7}640000012c07'example'03'com'00000100010004c000020100 => Trailing

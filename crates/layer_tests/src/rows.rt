@@ -110,8 +110,8 @@ pub(crate) fn spelled(alloc: Global, text: &str) -> Result<String, Fail> {
     Ok(digits)
 }
 
-/// The magic and the version of a frame.
-const OPENING: &str = "444701";
+/// The magic of a frame, and the version that is written.
+const OPENING: &str = "444702";
 
 /// Adds digits, with the opening of a frame in place of each `@`.
 fn push_openings(digits: &mut String, text: &str) -> Result<(), Fail> {

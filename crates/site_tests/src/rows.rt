@@ -1,7 +1,7 @@
 //! Calls of a site as lines of text, each with what it gives.
 
 use crate::octets::{octets, spelt_out, tell_octets};
-use fleet_name::Octets;
+use fleet_name::{Name, Octets};
 use fleet_observe::Moment;
 use fleet_pending::Addr;
 use fleet_site::{Config, Looked, Outcome, Packet, Site};
@@ -125,6 +125,21 @@ fn tell_ask(told: &mut String, site: &mut Site, now: Moment, name: &str) -> Resu
     tell_looked(told, &site.ask(now, octets.as_slice())?)
 }
 
+/// The name of labels with dots between them.
+fn name_of(alloc: Global, labels: &str) -> Result<Name, Fail> {
+    let mut name = Name::root(alloc)?;
+    for label in labels.split('.') {
+        name.push(label.as_bytes())?;
+    }
+    Ok(name)
+}
+
+/// A name is flushed.
+fn tell_flush(told: &mut String, site: &mut Site, now: Moment, labels: &str) -> Result<(), Fail> {
+    let name = name_of(*told.allocator(), labels)?;
+    tell_outcome(told, &site.flush(now, &name)?)
+}
+
 /// Makes a call, and adds what it gives.
 fn tell_call(told: &mut String, site: &mut Site, call: &str) -> Result<(), Fail> {
     let (now, call) = call.split_once(' ').ok_or("no call")?;
@@ -135,6 +150,7 @@ fn tell_call(told: &mut String, site: &mut Site, call: &str) -> Result<(), Fail>
         "tick" => tell_outcome(told, &site.tick(now)?),
         "frame" => tell_frame(told, site, now, words),
         "learn" => tell_learn(told, site, now, words),
+        "flush" => tell_flush(told, site, now, words),
         "ask" => tell_ask(told, site, now, words),
         _ => Err("unknown call".into()),
     }

@@ -2,7 +2,7 @@
 //! that octets can come in as: what is refused leaves what a site holds, its open questions and the
 //! kept frames as they were.
 
-use crate::messages::MESSAGES;
+use crate::messages::{FLUSHES, MESSAGES};
 use crate::octets::{joined, octets};
 use crate::rows::{at, events_of, fleet, local};
 use fleet_gossip::FrameFault;
@@ -282,10 +282,11 @@ fn count_all(
     rt: &impl Abort,
     alloc: Global,
     way: Way,
+    messages: &str,
     counts: &mut Vec<Count>,
 ) -> Result<(), Fail> {
     let before = events_of(alloc, BEFORE)?;
-    for line in MESSAGES.lines() {
+    for line in messages.lines() {
         if !line.starts_with('#') {
             let message = joined(alloc, line)?;
             let trial = Trial {
@@ -312,9 +313,15 @@ fn line_of(alloc: Global, count: Count) -> Result<String, AllocError> {
 /// All messages come in so, and they are refused as often as is wanted for each reason: there is a
 /// line for each, in any order, and one for those that are not refused. How often that is, another
 /// program counted, which reads the formats on its own.
-fn check_way(rt: &impl Abort, alloc: Global, way: Way, wanted: &str) -> Result<(), Fail> {
+fn check_messages(
+    rt: &impl Abort,
+    alloc: Global,
+    way: Way,
+    messages: &str,
+    wanted: &str,
+) -> Result<(), Fail> {
     let mut counts = Vec::new(alloc);
-    count_all(rt, alloc, way, &mut counts)?;
+    count_all(rt, alloc, way, messages, &mut counts)?;
     for count in &counts {
         let line = line_of(alloc, *count)?;
         assert!(rt;
@@ -324,6 +331,11 @@ fn check_way(rt: &impl Abort, alloc: Global, way: Way, wanted: &str) -> Result<(
     }
     assert_eq!(rt; counts.len(), wanted.lines().count());
     Ok(())
+}
+
+/// The same, with the messages and frames of the worked examples.
+fn check_way(rt: &impl Abort, alloc: Global, way: Way, wanted: &str) -> Result<(), Fail> {
+    check_messages(rt, alloc, way, MESSAGES, wanted)
 }
 
 #[test]
@@ -395,6 +407,47 @@ fn refused_datagrams_of_a_peer_change_nothing(rt: HostRuntime) -> Result<(), Fai
 #[test]
 fn refused_frames_change_nothing(rt: HostRuntime) -> Result<(), Fail> {
     check_way(&rt, rt.alloc(), Way::Frame, FRAMES)
+}
+
+/// The frames of the worked examples in the version that is written, and those with flushes.
+fn written_frames(alloc: Global) -> Result<String, Fail> {
+    let mut frames = String::new(alloc);
+    for line in MESSAGES.lines() {
+        if let Some(rest) = line.strip_prefix("4447 01") {
+            writeln!(frames, "4447 02{rest}")?;
+        }
+    }
+    frames.push_str(FLUSHES)?;
+    Ok(frames)
+}
+
+/// How often those are refused for each reason, whoever they are from.
+const WRITTEN: &str = "\
+Frame(BadMagic) 230
+Frame(BadVersion) 115
+- 2962
+Frame(Truncated) 585
+Frame(Trailing) 160
+Frame(BadKind) 407
+Frame(BadRank) 309
+Frame(BadMoment) 480
+Frame(BadLife) 608
+Frame(BadName) 280
+Frame(BadBody) 584
+";
+
+#[test]
+fn refused_datagrams_of_a_peer_change_nothing_in_the_version_written(
+    rt: HostRuntime,
+) -> Result<(), Fail> {
+    let frames = written_frames(rt.alloc())?;
+    check_messages(&rt, rt.alloc(), Way::Peer, frames.as_str(), WRITTEN)
+}
+
+#[test]
+fn refused_frames_change_nothing_in_the_version_written(rt: HostRuntime) -> Result<(), Fail> {
+    let frames = written_frames(rt.alloc())?;
+    check_messages(&rt, rt.alloc(), Way::Frame, frames.as_str(), WRITTEN)
 }
 
 #[test]

@@ -1,6 +1,7 @@
 //! Events of a fleet, and looks at it, as lines of text, each with what it gives.
 
 use crate::octets::{octets, spelt_out, tell_octets};
+use fleet_name::Name;
 use fleet_observe::Moment;
 use fleet_pending::Addr;
 use fleet_site::{Config, Looked, Packet, Site};
@@ -70,6 +71,15 @@ fn deliver(site: usize, now: Moment, words: &str) -> Result<Event, Fail> {
     Ok(Event::Deliver { site, now, frame })
 }
 
+/// The name of labels with dots between them.
+fn name_of(alloc: Global, labels: &str) -> Result<Name, Fail> {
+    let mut name = Name::root(alloc)?;
+    for label in labels.split('.') {
+        name.push(label.as_bytes())?;
+    }
+    Ok(name)
+}
+
 /// An event at a site at a moment.
 fn timed_event(alloc: Global, kind: &str, site: usize, words: &str) -> Result<Event, Fail> {
     let (now, words) = first_number(words)?;
@@ -87,6 +97,11 @@ fn timed_event(alloc: Global, kind: &str, site: usize, words: &str) -> Result<Ev
             site,
             now,
             bytes: octets(alloc, words)?,
+        }),
+        "flush" => Ok(Event::Flush {
+            site,
+            now,
+            name: name_of(alloc, words)?,
         }),
         _ => Err("unknown event".into()),
     }

@@ -6,24 +6,24 @@ use Rattle.fleet_gossip.proofs.frame.check_entries.Goals as goal
 pub returns-in-Err : goal.returns-in-Err
 returns-in-Err c =
     let i = c.loop.invariant in
-    entry_told _ _ c.loop.counter _ i.list _ i.are c.loop-test.true c.in-Err.ensures
+    entry_told _ _ _ c.loop.counter _ i.list _ i.are c.loop-test.true c.in-Err.ensures
 
 pub loop-preserved : goal.loop-preserved
 loop-preserved c =
     let i = c.loop.invariant in let read = c.in-Ok.ensures in
     record {
       list = i.list ++ read.0 ∷ [];
-      are = entry_more _ _ _ _ i.list _ read.0 i.are
-          read.1.lawful read.2 refl;
+      are = entry_more _ _ _ _ _ i.list _ read.0 i.are
+          (read.1.lawful, read.2) read.3 refl;
     }
 
 pub returns-then-not-is_empty : goal.returns-then-not-is_empty
 returns-then-not-is_empty c =
     let i = c.loop.invariant in
-    trails _ _ _ i.list i.are _ (omega arith)
+    trails _ _ _ _ i.list i.are _ (omega arith)
     (λ e. false≢true (rw c.if-not-is_empty.true at (c.is_empty.ensures.1 e)))
 
 pub returns : goal.returns
 returns c =
     let i = c.loop.invariant in
-    all_stand _ _ _ i.list i.are _ (omega arith) (c.is_empty.ensures.0 c.if-not-is_empty.false)
+    all_stand _ _ _ _ i.list i.are _ (omega arith) (c.is_empty.ensures.0 c.if-not-is_empty.false)

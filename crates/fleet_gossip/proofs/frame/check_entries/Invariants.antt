@@ -6,5 +6,5 @@ use Rattle.fleet_gossip.proofs.frame.check_entries.Given as goal
 abbrev pub invariant-loop : goal.invariant-loop
 invariant-loop l = record {
   list : List ObservationData;
-  are : AreEntries l.entries.octets.now l.counter list l.reader;
+  are : AreEntries l.entries.octets.now l.entries.version l.counter list l.reader;
 }

@@ -23,10 +23,10 @@ pub returns-in_err-observations-clause-memory : goal.returns-in_err-observations
 returns-in_err-observations-clause-memory g c =
     let of = c.in_ok-entries.ensures in
     if_err c.from_residual-in_err-observations.result _
-    (λ f e. has_entries _ _ _ of.stand.list of.opened of.fits of.stand.are
+    (λ f e. has_entries _ _ _ _ of.stand.list of.opened of.fits of.stand.are
     c.in_err-observations.ensures.memory)
 
 pub returns-clause-found : goal.returns-clause-found
 returns-clause-found g c =
     let of = c.in_ok-entries.ensures in
-    spells_frame _ _ _ _ of.opened of.fits c.in_ok-observations.ensures.found
+    spells_frame _ _ _ _ _ of.opened of.fits c.in_ok-observations.ensures.found

@@ -1,0 +1,45 @@
+//! What a site does with a name that is flushed.
+
+ghost use Rattle.std.specs.Prelude.{◌≡◌, List};
+ghost use Rattle.fleet_observe.specs.Observation.{ObservationData};
+ghost use Rattle.fleet_cache.specs.Cached.{IsCached};
+ghost use Rattle.fleet_pending.specs.PendingData.{PendingData};
+ghost use Rattle.fleet_site.specs.Carried.{Carries};
+ghost use Rattle.fleet_site.specs.Flush.{Flushed};
+
+use crate::outcome::{Frames, Outcome, Packets, SiteFault};
+use fleet_cache::Cache;
+use fleet_gossip::pack;
+use fleet_name::Name;
+use fleet_observe::{Moment, Observation};
+use std::alloc::Allocator;
+
+/// The flush of a name at the clock is taken, and goes out as its frame, which is made first.
+pub(crate) fn flush_name<A: Allocator + Copy>(
+    alloc: A,
+    cache: &mut Cache<A>,
+    clock: Moment,
+    name: &Name<A>,
+) -> Result<Outcome<A>, SiteFault>
+    ensures flushed { (o : PendingData) (s : List ObservationData)
+        → IsCached s cache.old.floor cache.old.items
+        → Carries (Flushed o name.now clock) (Unit {0}) s o result cache.new o }
+    ensures floor { cache.new.floor ≡ cache.old.floor }
+{
+    let name = name.try_clone()?;
+    let mut observed = Vec::with_capacity(alloc, 1)?;
+    observed.push_reserved(Observation::flush(name, clock));
+    let frames = Frames::new(pack(alloc, &observed)?);
+    match cache.take_list(observed) {
+        Ok(()) => Ok(Outcome {
+            packets: Packets::new(Vec::new(alloc)),
+            frames,
+            taken: 1,
+            refused: None,
+            more: false,
+        }),
+        Err(stopped) => Err(SiteFault::OutOfMemory {
+            taken: stopped.taken,
+        }),
+    }
+}
