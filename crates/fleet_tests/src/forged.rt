@@ -1,7 +1,8 @@
 //! Replies that are forged by one who does not know the id of the query.
 
+use crate::fleets::{at, check_rows, fleet, tell_stepped};
 use crate::octets::octets;
-use crate::rows::{at, check_rows, fleet, local, tell_stepped};
+use crate::sites::addr;
 use fleet_name::Octets;
 use fleet_world::{Event, World};
 use std::alloc::Global;
@@ -15,7 +16,7 @@ fn forged_event(alloc: Global, id: u16, rest: &[u8]) -> Result<Event, Fail> {
     Ok(Event::Datagram {
         site: 0,
         now: at(101)?,
-        from: local(5301),
+        from: addr(5301),
         word: 0,
         bytes: Octets::new(bytes),
     })

@@ -1,6 +1,7 @@
 //! Events of a fleet, and looks at it, as lines of text, each with what it gives.
 
 use crate::octets::{octets, spelt_out, tell_octets};
+use crate::sites::{HOST, addr, tell_looked};
 use fleet_name::Name;
 use fleet_observe::Moment;
 use fleet_pending::Addr;
@@ -10,17 +11,9 @@ use std::alloc::Global;
 use std::process::Abort;
 use std::test::Fail;
 
-/// 127.0.0.1, where all are.
-const HOST: u32 = 0x7f00_0001;
-
-/// An address of 127.0.0.1.
-pub fn local(port: u16) -> Addr {
-    Addr { host: HOST, port }
-}
-
 /// The configuration of a site with two upstreams and these peers.
 fn config(alloc: Global, peers: &[Addr]) -> Result<Config, Fail> {
-    let upstreams = Vec::from_slice(alloc, &[local(5301), local(5302)])?;
+    let upstreams = Vec::from_slice(alloc, &[addr(5301), addr(5302)])?;
     let peers = Vec::from_slice(alloc, peers)?;
     Ok(Config::new(upstreams, peers)?)
 }
@@ -59,7 +52,7 @@ fn datagram(alloc: Global, site: usize, now: Moment, words: &str) -> Result<Even
     Ok(Event::Datagram {
         site,
         now,
-        from: local(port),
+        from: addr(port),
         word,
         bytes,
     })
@@ -162,18 +155,6 @@ fn tell_event(told: &mut String, world: &mut World, event: &Event) -> Result<(),
     match world.step(event) {
         Ok(stepped) => tell_stepped(told, &stepped),
         Err(fault) => Ok(write!(told, " {fault}")?),
-    }
-}
-
-/// Adds what is answered.
-fn tell_looked(told: &mut String, looked: &Looked) -> Result<(), Fail> {
-    match looked {
-        Looked::Reply(octets) => {
-            told.push_str(" answer")?;
-            tell_octets(told, octets.as_slice())
-        }
-        Looked::Miss => Ok(told.push_str(" miss")?),
-        Looked::Dropped => Ok(told.push_str(" dropped")?),
     }
 }
 

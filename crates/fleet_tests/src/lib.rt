@@ -1,8 +1,12 @@
-//! Tests of a fleet: events at its sites.
+//! Tests of a site, of the turns of its server, and of a fleet.
 #![tactic(auto)]
 
 #[cfg(test)]
+mod calls;
+#[cfg(test)]
 mod events;
+#[cfg(test)]
+mod fleets;
 #[cfg(test)]
 mod forged;
 #[cfg(test)]
@@ -12,4 +16,6 @@ mod messages;
 #[cfg(test)]
 mod octets;
 #[cfg(test)]
-mod rows;
+mod sites;
+#[cfg(test)]
+mod turns;

@@ -10,7 +10,7 @@ use std::process::Abort;
 use std::test::Fail;
 
 /// 127.0.0.1, where all are.
-const HOST: u32 = 0x7f00_0001;
+pub const HOST: u32 = 0x7f00_0001;
 
 /// An address of 127.0.0.1.
 pub fn addr(port: u16) -> Addr {
@@ -86,7 +86,7 @@ fn tell_outcome(told: &mut String, outcome: &Outcome) -> Result<(), Fail> {
 }
 
 /// Adds what is answered.
-fn tell_looked(told: &mut String, looked: &Looked) -> Result<(), Fail> {
+pub fn tell_looked(told: &mut String, looked: &Looked) -> Result<(), Fail> {
     match looked {
         Looked::Reply(octets) => {
             told.push_str(" answer")?;

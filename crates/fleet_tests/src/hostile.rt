@@ -2,9 +2,10 @@
 //! that octets can come in as: what is refused leaves what a site holds, its open questions and the
 //! kept frames as they were.
 
+use crate::fleets::{at, events_of, fleet};
 use crate::messages::{FLUSHES, MESSAGES};
 use crate::octets::{joined, octets};
-use crate::rows::{at, events_of, fleet, local};
+use crate::sites::addr;
 use fleet_gossip::FrameFault;
 use fleet_name::Octets;
 use fleet_observe::Moment;
@@ -48,7 +49,7 @@ fn datagram(now: Moment, port: u16, word: u16, bytes: Octets) -> Event {
     Event::Datagram {
         site: 0,
         now,
-        from: local(port),
+        from: addr(port),
         word,
         bytes,
     }
@@ -107,7 +108,7 @@ tick 0 102 => send 5302 asked-1111
 /// A world of one site with a peer, that did so, and asks its first upstream the question of a
 /// message, under the message's id.
 fn new_world(alloc: Global, before: &[Event], message: &[u8]) -> Result<World, Fail> {
-    let mut world = fleet(alloc, 1, &[local(5401)])?;
+    let mut world = fleet(alloc, 1, &[addr(5401)])?;
     world.run(before)?;
     let question = question_of(alloc, message)?;
     world.step(&datagram(at(102)?, 6002, id_of(message), question))?;

@@ -3,7 +3,7 @@
 ghost use Rattle.rand_core.specs.Steps.{stream_of, steps_u32};
 
 use crate::octets::{octets, spelt_out};
-use crate::rows::{addr, check_rows, moment, new_site, number, tell_packet};
+use crate::sites::{addr, check_rows, moment, new_site, number, tell_packet};
 use fleet_name::Octets;
 use fleet_pending::Addr;
 use fleet_site::{ListClock, MemoryPort, Note, Port, Report, Site, serve};
