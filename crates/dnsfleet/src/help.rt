@@ -18,6 +18,7 @@ Events, with what each prints; sites and frames have numbers from 0, moments are
   show SITE                          floor F, a line for each item, items N
   datagram SITE NOW ADDR WORD HEX    a datagram from ADDR: packets, frames, taken K
   tick SITE NOW                      time passes: packets, idle or more
+  flush SITE NOW HEX                 a name in full is withdrawn with all below it: frame, taken K
   sweep SITE                         frames of all that is held: swept K
   frame SITE NOW HEX                 octets as a frame: taken K
   deliver SITE NOW NUMBER            a frame that was sent: taken K

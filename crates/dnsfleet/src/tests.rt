@@ -56,7 +56,7 @@ fn check_example(rt: &impl Abort, alloc: Global, example: &Example) -> Result<()
 #[test]
 fn prints_the_examples(rt: HostRuntime) -> Result<(), Fail> {
     let examples = all_examples(rt.alloc())?;
-    assert_eq!(rt; examples.len(), 55);
+    assert_eq!(rt; examples.len(), 58);
     for example in &examples {
         check_example(&rt, rt.alloc(), example)?;
     }
@@ -143,9 +143,9 @@ fn packs_what_it_holds(rt: HostRuntime) -> Result<(), Fail> {
     add_entries(&mut lines, 442, 443)?;
     lines.push_str("sweep 0\nframe 0 100 44470101bb")?;
     add_entries(&mut lines, 0, 443)?;
-    wanted.push_str("taken 442\ntaken 1\nframe 0 44470101ba")?;
+    wanted.push_str("taken 442\ntaken 1\nframe 0 44470201ba")?;
     add_entries(&mut wanted, 0, 442)?;
-    wanted.push_str("frame 1 4447010001")?;
+    wanted.push_str("frame 1 4447020001")?;
     add_entries(&mut wanted, 442, 443)?;
     wanted.push_str("swept 2\nrefused frame TooLong\n")?;
     check_lines(&rt, rt.alloc(), lines.as_str(), wanted.as_str());
@@ -220,6 +220,15 @@ tick 1 0/ => line 1: no such site
 sweep 1/ => line 1: no such site
 restart 1/ => line 1: no such site
 frame 1 0 -/ => line 1: no such site
+flush 0 0/ => line 1: wrong number of words
+flush 0 x 0g/ => line 1: bad number
+flush 1 0 0g/ => line 1: bad hex
+flush 0 0 03636f/ => line 1: bad name
+flush 0 0 -/ => line 1: bad name
+flush 0 0 0000/ => line 1: bad name
+flush 0 0 c000/ => line 1: bad name
+flush 1 0 03636f6d/ => line 1: bad name
+flush 1 0 03636f6d00/ => line 1: no such site
 deliver 0 0 0/ => line 1: no such frame
 deliver 1 0 0/ => line 1: no such site
 deliver 0 0 9999999999999/ => line 1: no such frame
@@ -275,8 +284,38 @@ fn tells_each_fault(rt: HostRuntime) -> Result<(), Fail> {
         check_row(&rt, rt.alloc(), row)?;
         count = count.saturating_add(1);
     }
-    assert_eq!(rt; count, 41);
+    assert_eq!(rt; count, 50);
     check_fault(&rt, rt.alloc(), b"\n\xff\n", "line 2: not ASCII", "")
+}
+
+/// Adds a label of so many letters, in hexadecimal digits.
+fn add_letters(text: &mut String, length: usize) -> Result<(), Fail> {
+    write!(text, "{length:02x}")?;
+    for _ in 0..length {
+        text.push_str("61")?;
+    }
+    Ok(())
+}
+
+/// A line that flushes a name of three labels of 63 letters and one of so many.
+fn long_flush(alloc: Global, last: usize) -> Result<String, Fail> {
+    let mut line = String::from_str(alloc, "flush 0 0 ")?;
+    add_letters(&mut line, 63)?;
+    add_letters(&mut line, 63)?;
+    add_letters(&mut line, 63)?;
+    add_letters(&mut line, last)?;
+    line.push_str("00")?;
+    Ok(line)
+}
+
+#[test]
+fn bounds_a_name(rt: HostRuntime) -> Result<(), Fail> {
+    let longest = long_flush(rt.alloc(), 61)?;
+    let mut printed = Vec::new(rt.alloc());
+    let ended = run_script(rt.alloc(), &mut longest.as_bytes(), &mut printed);
+    assert_eq!(rt; ended, Ok(()));
+    let longer = long_flush(rt.alloc(), 62)?;
+    check_fault(&rt, rt.alloc(), longer.as_bytes(), "line 1: bad name", "")
 }
 
 /// Words that are addresses.

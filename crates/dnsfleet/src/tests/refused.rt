@@ -30,13 +30,14 @@ const DENIAL: &str =
     "a name error behind two aliases denies the last target, for each type but the alias itself";
 
 /// What the examples show that are run with a call refused.
-const REFUSED: [&str; 6] = [
+const REFUSED: [&str; 7] = [
     "a reply is learnt, and answers ten seconds later with a TTL that is ten less",
     DENIAL,
     "sites that took in the same hold the same, whatever came twice or out of order, once both are purged",
     "all who wait are answered, a question asked again counts once, and a reply from elsewhere matches nothing",
     "a question goes to the next upstream after two seconds, and fails after the last",
     "a site takes in all that another holds, and its floor",
+    "a flush withdraws what was stamped by then, whatever the order, and what comes later stays",
 ];
 
 /// How often a call was refused at a line that then told a want of memory: after no observation,

@@ -145,6 +145,7 @@ fn end_of<A: Allocator + Copy>(
 fn part_of_step<A: Allocator>(step: Step<'_>, bytes: Octets<A>) -> Option<Event<A>> {
     match step {
         Step::Learn { site, now, .. } => Some(Event::Frame { site, now, bytes }),
+        Step::Flush { site, now, .. } => Some(Event::Frame { site, now, bytes }),
         Step::Datagram { site, now, .. } => Some(Event::Frame { site, now, bytes }),
         Step::Frame { site, now, .. } => Some(Event::Frame { site, now, bytes }),
         Step::Deliver { site, now, .. } => Some(Event::Frame { site, now, bytes }),
