@@ -76,7 +76,10 @@ pub fn site_count(word: &str) -> Option<SiteCount>
     ensures value { IfSome result (λ count. count.value ≡ number_of word.now) }
 {
     let value = number(word)?;
-    if value == 0 || value > MOST_SITES {
+    if value == 0 {
+        return None;
+    }
+    if value > MOST_SITES {
         return None;
     }
     Some(SiteCount { value })
@@ -87,7 +90,11 @@ pub fn word_of_16_bits(word: &str) -> Option<u16>
     ensures { SomeIff result (IsNumber word.now × (number_of word.now ≤ LARGEST_16_BITS))
         (number_of word.now) }
 {
-    u16::try_from(number(word)?).ok()
+    let value = number(word)?;
+    if value > usize::from(u16::MAX) {
+        return None;
+    }
+    Some(value as u16)
 }
 
 /// A port: 1 to 65535, without leading zeros.
