@@ -1,7 +1,9 @@
 //! What a line asks for.
 
 use crate::fault::What;
-use crate::words::{Hex, NameWord, SiteCount, address, moment, number, site_count, word_of_16_bits};
+use crate::words::{
+    Hex, NameWord, SiteCount, address, moment, number, site_count, word_of_16_bits,
+};
 use arrayvec::ArrayVec;
 use fleet_observe::Moment;
 use fleet_pending::Addr;
@@ -243,7 +245,8 @@ fn read_arrival<'a>(words: &[&'a str]) -> Result<Step<'a>, What> {
 }
 
 /// The events, as a line begins with them.
-const EVENTS: &str = "sites learn ask show datagram tick sweep frame deliver merge restart same flush";
+const EVENTS: &str =
+    "sites learn ask show datagram tick sweep frame deliver merge restart same flush";
 
 /// What is wrong with words that are no line: their number, or the first of them.
 fn word_fault(words: &[&str]) -> What {

@@ -46,8 +46,11 @@ module _ (octets left : List ℕ) (n : ℕ) (is : octets ≡ u16_octets n ++ lef
 pub entries_fail : (octets rest : List ℕ) (version count : ℕ) (f : FrameFault)
     → IsOpened octets version count rest → length octets ≤ LONGEST_FRAME
     → EntriesFail version count rest f → FrameFails octets f
-entries_fail octets rest version count f is fits h = inr
-    (fits, behind MAGIC _ is.whole refl (behind version _ refl is.read (behind count rest refl tt h)))
+entries_fail octets rest version count f is fits h = inr (
+  fits,
+  behind MAGIC _ is.whole refl
+      (behind version _ refl is.read (behind count rest refl tt h)),
+)
 
 -- one more entry
 pub entry_more : (octets left rest : List ℕ) (version count : ℕ) (list new : List ObservationData)

@@ -41,7 +41,8 @@ count_le (o ∷ list) = omega (arith, count_le list, length-append (entry_octets
 
 -- the frame in the making, finished
 pub spells_part : (octets : List ℕ) (count : ℕ) (part : List ObservationData) → AreObservations part
-    → count ≡ length part → octets ≡ entries part → length (frame_octets VERSION part) ≤ LONGEST_FRAME
+    → count ≡ length part → octets ≡ entries part
+    → length (frame_octets VERSION part) ≤ LONGEST_FRAME
     → WritesFrame (u16_octets MAGIC ++ (octet VERSION ++ (u16_octets count ++ octets))) part
 spells_part octets count part lawful n e fits =
     let same : u16_octets MAGIC ++ (octet VERSION ++ (u16_octets count ++ octets))
@@ -103,7 +104,8 @@ module _ (frames : List (List ℕ)) (octets : List ℕ) (count : ℕ) (taken : L
         ∷ [] → new ≡ entry_octets o → LONGEST_FRAME < 5 + length octets + length (entry_octets o)
         → length (entry_octets o) ≤ LONGEST_ENTRY → Hold finished new 1 (taken ++ o ∷ [])
     hold_next finished closed wrote over small =
-        let over' : LONGEST_FRAME < length (frame_octets VERSION hold.part) + length (entry_octets o) =
+        let over' : LONGEST_FRAME
+        < length (frame_octets VERSION hold.part) + length (entry_octets o) =
         omega (arith, over, frame_length hold.part, ap length hold.spelled) in
         let first = u16_octets MAGIC ++ (octet VERSION ++ (u16_octets count ++ octets)) in
         record {
@@ -172,7 +174,8 @@ module _ (list : List ObservationData) (i : ℕ) (o : ObservationData) (within :
       → size + length (entry_octets o) ≤ LONGEST_FRAME
       → FitsFrame (take (i + 1) list) (size + length (entry_octets o))
   fits_more size fits lawful room = record {
-    lawful = rw (take_item list i o within is) (all_pushed IsObservation (take i list) o fits.lawful lawful);
+    lawful = rw (take_item list i o within is)
+        (all_pushed IsObservation (take i list) o fits.lawful lawful);
     counted = omega (arith, fits.counted, frame_taken);
     fits = room;
   }

@@ -26,7 +26,8 @@ frame_push list o = omega (
 )
 
 frame_grows : (list : List ObservationData) (o : ObservationData) (others : List ObservationData)
-    → length (frame_octets VERSION (list ++ o ∷ [])) ≤ length (frame_octets VERSION (list ++ o ∷ others))
+    → length (frame_octets VERSION (list ++ o ∷ []))
+    ≤ length (frame_octets VERSION (list ++ o ∷ others))
 frame_grows list o others =
     omega (
       arith,

@@ -10,8 +10,8 @@ abbrev pub IsFull : List ObservationData → List ObservationData → Type 0
 IsFull part [] = Unit {0}
 IsFull part (next ∷ rest) = LONGEST_FRAME < length (frame_octets VERSION (part ++ next ∷ []))
 
--- The frames of a list: none of an empty one; else the first frame is that of the first ones, as many
--- as fit, and the others are the frames of the rest.
+-- The frames of a list: none of an empty one; else the first frame is that of the first ones, as
+-- many as fit, and the others are the frames of the rest.
 pub data IsPacked : List ObservationData → List (List ℕ) → Type 0 where
   none : {list : List ObservationData} {frames : List (List ℕ)} → list ≡ [] → frames ≡ []
       → IsPacked list frames

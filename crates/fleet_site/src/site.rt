@@ -240,9 +240,9 @@ impl<A: Allocator + Copy> Site<A> {
         learn_reply(self.alloc, &mut self.cache, self.clock, bytes)
     }
 
-    /// Withdraws what was stamped at its clock or before, at a name and below it: the flush is taken,
-    /// and its frame goes out to every peer. What is stamped later in the same second is withdrawn
-    /// too.
+    /// Withdraws what was stamped at its clock or before, at a name and below it: the flush is
+    /// taken, and its frame goes out to every peer. What is stamped later in the same second is
+    /// withdrawn too.
     pub fn flush(&mut self, now: Moment, name: &Name<A>) -> Result<Outcome<A>, SiteFault>
         ensures follows { (m : SiteModel) → StandsFor self.old m
             → Follows m (a_flush now name.now) result self.new }

@@ -20,8 +20,7 @@ returns-clause-spelled g c =
     let fits = c.in-Some.ensures in
     let whole = all_written c.args.observations.now c.loop-observation.observation-index
     c.loop-observation.frame.items (frame_octets VERSION c.args.observations.now)
-    c.loop-observation.invariant (omega arith) in
-    (
+    c.loop-observation.invariant (omega arith) in (
       record {
         version = VERSION;
         read = (omega arith, omega arith);
