@@ -25,7 +25,7 @@ impl Model for Cut {
 
 impl Cut {
     /// What has ended by a moment.
-    pub(crate) fn at(moment: Moment) -> Cut
+    pub fn at(moment: Moment) -> Cut
         ensures { result ≡ record { moment = moment; flushed = None } }
     {
         Cut {

@@ -2,7 +2,7 @@
 
 use crate::observations::{moment_of, record_in};
 use crate::rows::{Row, Words, check_told, is_row, read_row};
-use fleet_cache::Item;
+use fleet_cache::{Cut, Item};
 use fleet_front::Front;
 use std::alloc::Global;
 use std::process::Abort;
@@ -39,9 +39,9 @@ fn tell(
             let is_new = front.take(item)?;
             Ok(write!(told, "{is_new}")?)
         }
-        "first" => push_rank(told, front.first_shown(&moment_of(words.word())?)),
+        "first" => push_rank(told, front.first_shown(&Cut::at(moment_of(words.word())?))),
         "drop" => {
-            front.drop_hidden(&moment_of(words.word())?);
+            front.drop_hidden(&Cut::at(moment_of(words.word())?));
             push_ranks(told, front)
         }
         "ranks" => push_ranks(told, front),

@@ -11,6 +11,8 @@ mod captures;
 #[cfg(test)]
 mod exchanges;
 #[cfg(test)]
+mod flushes;
+#[cfg(test)]
 mod frames;
 #[cfg(test)]
 mod fronts;

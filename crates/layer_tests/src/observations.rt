@@ -58,15 +58,15 @@ pub(crate) fn question_of(
 
 /// What a row says of an observation beside its name and body.
 #[derive(Clone, Copy)]
-struct Said {
-    rtype: u16,
-    rank: u8,
-    stamp: Moment,
-    life: u32,
+pub(crate) struct Said {
+    pub(crate) rtype: u16,
+    pub(crate) rank: u8,
+    pub(crate) stamp: Moment,
+    pub(crate) life: u32,
 }
 
 /// Reads a type, a rank, a stamp and a life.
-fn said_in(words: &mut Words<'_>) -> Result<Said, Fail> {
+pub(crate) fn said_in(words: &mut Words<'_>) -> Result<Said, Fail> {
     let rtype = words.word().parse()?;
     let rank = words.word().parse()?;
     let stamp = moment_of(words.word())?;
@@ -132,6 +132,16 @@ pub(crate) fn denial_in<A: Allocator + Copy>(
     Ok(Observation::negative(name, denied, rank, stamp, life, soa)?)
 }
 
+/// A flush: its name and stamp.
+pub(crate) fn flush_in<A: Allocator + Copy>(
+    alloc: A,
+    words: &mut Words<'_>,
+) -> Result<Observation<A>, Fail> {
+    let name = name_of(alloc, words.word())?;
+    let stamp = moment_of(words.word())?;
+    Ok(Observation::flush(name, stamp))
+}
+
 /// Adds numbers, each behind a space.
 fn push_numbers(told: &mut String, numbers: &[u64]) -> Result<(), Fail> {
     for number in numbers {
@@ -156,6 +166,7 @@ fn kind_text(kind: Kind) -> &'static str {
         Kind::Positive => "Positive",
         Kind::NoData => "NoData",
         Kind::NameError => "NameError",
+        Kind::Flush => "Flush",
     }
 }
 

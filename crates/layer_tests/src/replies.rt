@@ -1,7 +1,7 @@
 //! Replies as octets, and what they tell.
 
-use crate::made::push_observation;
 use crate::names::push_text;
+use crate::observations::push_observation;
 use crate::rows::{Words, push_octets};
 use crate::tables::check_rows;
 use fleet_observe::{Digest, End, Moment, digest, observations, relay};

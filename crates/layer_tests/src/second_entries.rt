@@ -9,7 +9,8 @@ fn tells_the_faults_of_a_second_entry(rt: HostRuntime) -> Result<(), Fail> {
     let fields = "
 two - => 2 again
 two 42=00 => BadKind
-two 42=04,43=04 => BadKind
+two 42=04,43=04 => BadRank
+two 42=05,43=04 => BadKind
 two 43=00 => BadRank
 two 43=04,46=02 => BadRank
 two 46=01,51=00 => 2 again

@@ -1,7 +1,7 @@
 //! Tables of what is asked of names, messages and replies, and what they tell.
 
 use crate::captures::{tell_asked, tell_rdata, tell_relayed, tell_rewritten};
-use crate::made::{tell_denial, tell_records};
+use crate::made::{tell_denial, tell_flush, tell_records};
 use crate::messages::{tell_changed, tell_outline, tell_padded, tell_plain, tell_query};
 use crate::names::{
     tell_ancestor, tell_lower, tell_name, tell_octets, tell_pair, tell_pushes, tell_suffix,
@@ -35,6 +35,7 @@ fn tell(alloc: Global, call: &str, words: Words<'_>, told: &mut String) -> Resul
         "rdata" => tell_rdata(alloc, words, told),
         "records" => tell_records(alloc, words, told),
         "denial" => tell_denial(alloc, words, told),
+        "flush" => tell_flush(alloc, words, told),
         "seen" => tell_seen(alloc, words, told),
         "digest" => tell_digest(alloc, words, told),
         "relay" => tell_relay(alloc, words, told),
