@@ -137,11 +137,14 @@ fn serves_what_a_peer_learnt(rt: HostRuntime) -> Result<(), Fail> {
 
 /// Whether an answer has the record, with a TTL of 295 to 300 seconds, since a test may take some.
 fn shows_record(answer: &[u8]) -> bool {
+    if answer.get(..49) != ANSWER.get(..49) {
+        return false;
+    }
+    if answer.get(50..) != ANSWER.get(50..) {
+        return false;
+    }
     let seconds = answer.get(49).copied().unwrap_or(0);
-    answer.len() == 56
-        && answer.get(..49) == ANSWER.get(..49)
-        && (39..=44).contains(&seconds)
-        && answer.get(50..) == ANSWER.get(50..)
+    seconds >= 39 && seconds <= 44
 }
 
 /// Two sends of a port fail and are counted; a receive that finds nothing is not.
