@@ -55,14 +55,14 @@ def least(program, mode, items, rounds, times):
 
 
 def pause(program, mode, items, times):
-    """The least of the milliseconds that the program says a purge took."""
+    """The least of the milliseconds that the program says a purge or a flush took."""
     words = [str(program), mode, str(items), "1"]
     said = [subprocess.run(words, capture_output=True, text=True, check=True).stdout for _ in range(times)]
     return f"{min(int(text) for text in said) / 1000:.2f}"
 
 
-def figures(program, items, times):
-    """Microseconds a take and an answer, octets an item, milliseconds of the two purges."""
+def figures(program, items, times, flushes):
+    """Microseconds a take and an answer, octets an item, milliseconds of the two purges and of a flush."""
     rounds = max(1, 1_000_000 // items)
     made, _ = least(program, "make", items, 1, times)
     taken, memory = least(program, "take", items, 1, times)
@@ -75,8 +75,10 @@ def figures(program, items, times):
         f"{(answered - asked) / (items * rounds) * 1e6:.2f}",
     ]
     if items < 100_000:
-        return row + ["-", "-", "-"]
-    return row + [f"{(memory - base) / (items - half):.0f}"] + [pause(program, mode, items, times) for mode in ("purge", "all")]
+        return row + ["-", "-", "-", "-"]
+    row.append(f"{(memory - base) / (items - half):.0f}")
+    row += [pause(program, mode, items, times) for mode in ("purge", "all")]
+    return row + [pause(program, "flush", items, times) if flushes else "-"]
 
 
 def main():
@@ -87,11 +89,11 @@ def main():
     resource.setrlimit(resource.RLIMIT_CORE, (0, 0))
     with tempfile.TemporaryDirectory() as name:
         ours, theirs = build(pathlib.Path(name))
-        print("| items | | us a take | us an answer | octets an item | ms a purge, few | ms a purge, all |")
-        print("|---|---|---|---|---|---|---|")
+        print("| items | | us a take | us an answer | octets an item | ms a purge, few | ms a purge, all | ms a flush |")
+        print("|---|---|---|---|---|---|---|---|")
         for items in (int(word) for word in words.items.split(",")):
             for title, program in (("cache", ours), ("std::map", theirs)):
-                row = figures(program, items, words.times)
+                row = figures(program, items, words.times, program == ours)
                 print(" | ".join([f"| {items}", title] + row) + " |", flush=True)
 
 
