@@ -8,40 +8,24 @@ use Rattle.std.proofs.lemmas.Bool.Decides.{nat_tests}
 use Rattle.fleet_name.specs.Name.{wire, IsUnder}
 use Rattle.fleet_wire.specs.declared.rtype.TheConstants.{CNAME}
 use Rattle.fleet_observe.specs.declared.observation.kind.Kind.{Kind}
-use Rattle.fleet_observe.specs.declared.observation.kind.Kind.TheVariants.{NameError, NoData as WithoutData, Positive}
+use Rattle.fleet_observe.specs.declared.observation.kind.Kind.TheVariants.{NameError, NoData as WithoutData, Positive, Flush}
 use Rattle.fleet_observe.specs.Observation.{ObservationData, IsObservation, key_of}
+use Rattle.fleet_cache.specs.Void.{is_void}
 use Rattle.fleet_cache.specs.Live.{has_ended, is_live}
 use Rattle.fleet_cache.specs.Relevant.{is_name, is_under, is_relevant, speaks_of}
 use Rattle.fleet_cache.specs.Cached.{IsCached}
 use Rattle.fleet_cache.specs.Best.{IsBest, Speaks}
 use Rattle.fleet_cache.specs.Answer.{ShownData, AnswerData, Missed, Found, NoData, NxDomain, add_link, by_kind, is_link, target, decider, answer_by, answer_within, add_links, part_at}
 use Rattle.fleet_cache.proofs.Best.{best_same, best_unique, best_filtered, best_kept}
+use Rattle.fleet_cache.proofs.Beats.{live_parts, live_to}
+use Rattle.fleet_cache.proofs.Caches.{item_of_set}
+use mathlib.Core.Bool.{false≢true}
 use Rattle.fleet_cache.proofs.Lawful.{name_error_type}
+use Rattle.fleet_cache.proofs.Under.{name_from, name_to, under_from, under_to}
 use Rattle.fleet_observe.specs.Preference.{octets_cmp}
 use Rattle.fleet_name.proofs.Lemmas.{wire_exact, Has-filter}
 use Rattle.std.specs.Cmp.{Equal-is}
 use Rattle.fleet_observe.proofs.Lemmas.{key_exact}
-
-pub name_from : (n a : List (List ℕ)) → is_name n a ≡ true → a ≡ n
-name_from n a e = wire_exact a n (exact_bytes _ _ ((Equal-is _).0 e))
-
-pub name_to : (n a : List (List ℕ)) → a ≡ n → is_name n a ≡ true
-name_to n a e = ap is_eq (ap (λ v. octets_cmp (wire v) (wire n)) e
-    ∙ tied_itself nat_list_cmp_total (wire n))
-
-pub under_from : (n a : List (List ℕ)) → is_under n a ≡ true → IsUnder n a
-under_from [] a e = ([], sym (name_from [] a e))
-under_from (l ∷ n) a e = elim (or_cases (is_name (l ∷ n) a) (is_under n a) e) [
-  | inl here ↦ ([], sym (name_from (l ∷ n) a here))
-  | inr up ↦ let u = under_from n a up in (l ∷ u.0, ap (λ v. l ∷ v) u.1)
-]
-
-pub under_to : (n a front : List (List ℕ)) → n ≡ front ++ a → is_under n a ≡ true
-under_to [] a [] e = name_to [] a (sym e)
-under_to [] a (l ∷ front) e = absurd (cc)
-under_to (m ∷ n) a [] e = or_left (is_name (m ∷ n) a) (is_under n a) (name_to (m ∷ n) a (sym e))
-under_to (m ∷ n) a (l ∷ front) e = let t : n ≡ front ++ a = cc
-    in or_right (is_name (m ∷ n) a) (is_under n a) (under_to n a front t)
 
 abbrev pub Matters : ℕ → List (List ℕ) → ℕ → ObservationData → Type 0
 Matters t n q o = (has_ended t o ≡ false) × (is_relevant n q o ≡ true)
@@ -101,12 +85,8 @@ speaks_from t n q o lawful m = by_cases o.kind refl
           of_kind = k;
           of_type = name_error_type o lawful k;
         }))
-
-pub live_to : (t : ℕ) (o : ObservationData) → has_ended t o ≡ false → is_live t o ≡ true
-live_to t o e = grind (arith, nat_tests, e)
-
-pub live_from : (t : ℕ) (o : ObservationData) → is_live t o ≡ true → has_ended t o ≡ false
-live_from t o e = grind (arith, nat_tests, e)
+    by_cases Flush k = let none : speaks_of n q Flush o.name o.rtype ≡ true = rw k at m.1
+        in absurd (false≢true none)
 
 -- what is relevant follows from the key
 pub relevant_by_key : (n : List (List ℕ)) (q : ℕ) (x y : ObservationData) → key_of x ≡ key_of y
@@ -125,16 +105,17 @@ pub decider_of_cache : (s items : List ObservationData) (f t : ℕ) (n : List (L
 decider_of_cache s items f t n q a le cached best =
     let one = best_same (Speaks t n q) (Matters t n q) items a
     (λ o h k. matters_from t n q o k)
-    (λ o h k. speaks_from t n q o (cached.lawful o
-    (Has-filter (λ x. not (has_ended f x)) s o (cached.front.of_set o h)).0) k) best in
+    (λ o h k. speaks_from t n q o
+    (cached.lawful o (item_of_set s items f cached o h).0) k) best in
     let two = best_kept (λ o. is_relevant n q o ≡ true) (relevant_by_key n q) s items f t le cached
     a one in
-    let three = best_same (Matters t n q) (λ o. (is_live t o && is_relevant n q o) ≡ true) s a
-    (λ o h k. and_from _ _ (live_to t o k.0) k.1)
-    (λ o h k. let p = and_parts (is_live t o) (is_relevant n q o) k in (live_from t o p.0, p.1)) two
-    in
-    best_unique (λ o. (is_live t o && is_relevant n q o) ≡ true) s a _ three
-    (best_filtered (λ o. is_live t o && is_relevant n q o) s)
+    let three = best_same (λ o. Matters t n q o × (is_void s o ≡ false))
+    (λ o. (is_live s t o && is_relevant n q o) ≡ true) s a
+    (λ o h k. and_from _ _ (live_to s t o k.0.0 k.1) k.0.1)
+    (λ o h k. let p = and_parts (is_live s t o) (is_relevant n q o) k in
+    let l = live_parts s t o p.0 in ((l.0, p.1), l.1)) two in
+    best_unique (λ o. (is_live s t o && is_relevant n q o) ≡ true) s a _ three
+    (best_filtered (λ o. is_live s t o && is_relevant n q o) s)
 
 -- the steps of an answer, by what decides
 module _ (s : List ObservationData) (t q : ℕ) (n : List (List ℕ)) where

@@ -8,12 +8,16 @@ use Rattle.fleet_observe.specs.Members.{Has}
 use Rattle.fleet_observe.specs.Observation.{ObservationData, IsObservation, AreObservations}
 use Rattle.fleet_cache.specs.Front.{IsDescending, IsUndominated, IsFront, without_hidden}
 use Rattle.fleet_cache.specs.Live.{has_ended}
+use Rattle.fleet_cache.specs.Void.{IsVoid, voids, is_void}
 use Rattle.fleet_cache.specs.Dominates.{dominates}
-use Rattle.fleet_cache.specs.Cached.{place, CacheData, IsCached, IsKept, IsCovered, IsNeedless, IsSameSet}
+use Rattle.fleet_cache.specs.Cached.{place, CacheData, IsCached, IsKept, IsCovered, IsPast, IsNeedless, IsSameSet}
 use Rattle.fleet_cache.specs.Swept.{IsSwept}
 use Rattle.fleet_cache.proofs.Places.{place_laws}
+use Rattle.fleet_cache.proofs.Voids.{void_from, void_to, voids_from, voids_to, unvoided_to, unvoided_by, void_outlived, flush_stays, other_spares}
+use Rattle.fleet_cache.proofs.Beats.{beats, beats_cases, dominates_beats, outlasts_beats, beats_chain, beaten_hidden, beats_laws, beats_itself, beats_shown, shown_parts, shown_of, LivesIn, lives_in, cached_front, cached_from}
 use Rattle.std.proofs.lemmas.Bool.{cases_Bool, not-true}
-use Rattle.fleet_front.proofs.Lemmas.{climb, front_itself, front_shown, front_same}
+use Rattle.fleet_front.specs.Front.{IsCovered as IsCoveredBy}
+use Rattle.fleet_front.proofs.Lemmas.{climb, descending_same}
 use Rattle.fleet_name.proofs.Lemmas.{Has-filter, Has-in_filter, has_left, has_right, has_either}
 
 -- what is shown later was shown before
@@ -36,14 +40,14 @@ pub all_shown : (m : ℕ) (s : List ObservationData)
 all_shown m [] h = refl
 all_shown m (x ∷ s) h = rw (h x (inl refl)) (ap (λ t. x ∷ t) (all_shown m s (λ y k. h y (inr k))))
 
--- one that is there, or is dominated
-front_covered : (s items : List ObservationData) (x : ObservationData) → IsCovered items x
-    → IsFront place dominates s items → IsFront place dominates (x ∷ s) items
+-- one that is there, or is beaten
+front_covered : (s items : List ObservationData) (x : ObservationData) → IsCoveredBy beats items x
+    → IsFront place beats s items → IsFront place beats (x ∷ s) items
 front_covered s items x c front = record {
   descending = front.descending;
   of_set = λ y h. inr (front.of_set y h);
   undominated = λ y h w m. elim m [
-    | inl same ↦ ap (λ v. dominates v y) (sym same) ∙ not_over y h
+    | inl same ↦ ap (λ v. beats v y) (sym same) ∙ not_over y h
     | inr old ↦ front.undominated y h w old
   ];
   whole = λ y m free. elim m [
@@ -53,23 +57,23 @@ front_covered s items x c front = record {
   ];
 }
   where
-    above : (y : ObservationData) → Has items y → dominates c.0 y ≡ false
+    above : (y : ObservationData) → Has items y → beats c.0 y ≡ false
     above y h = front.undominated y h c.0 (front.of_set c.0 c.1)
 
-    not_over : (y : ObservationData) → Has items y → dominates x y ≡ false
-    not_over y h = elim (cases_Bool (dominates x y)) [
+    not_over : (y : ObservationData) → Has items y → beats x y ≡ false
+    not_over y h = elim (cases_Bool (beats x y)) [
       | inr nay ↦ nay
       | inl over ↦ elim c.2 [
-        | inl same ↦ absurd (false≢true (sym (above y h) ∙ (ap (λ v. dominates v y) same ∙ over)))
-        | inr far ↦ absurd (false≢true (sym (above y h) ∙ place_laws.chained c.0 x y far over))
+        | inl same ↦ absurd (false≢true (sym (above y h) ∙ (ap (λ v. beats v y) same ∙ over)))
+        | inr far ↦ absurd (false≢true (sym (above y h) ∙ beats_chain c.0 x y far over))
       ]
     ]
 
-    by_cover : (y : ObservationData) → x ≡ y → IsUndominated dominates (x ∷ s) y → Has items y
+    by_cover : (y : ObservationData) → x ≡ y → IsUndominated beats (x ∷ s) y → Has items y
     by_cover y same free = elim c.2 [
       | inl here ↦ subst (Has items) (here ∙ same) c.1
       | inr far ↦ absurd (false≢true (sym (free c.0 (inr (front.of_set c.0 c.1)))
-          ∙ (ap (dominates c.0) (sym same) ∙ far)))
+          ∙ (ap (beats c.0) (sym same) ∙ far)))
     ]
 
 more_lawful : (s : List ObservationData) (x : ObservationData) → IsObservation x → AreObservations s
@@ -84,89 +88,109 @@ module _ (s items : List ObservationData) (f : ℕ) (x : ObservationData) (lawfu
     (cached : IsCached s f items) where
   -- an observation that has ended at the floor
   pub cached_ended : has_ended f x ≡ true → IsCached (x ∷ s) f items
-  cached_ended e = record {
-    lawful = more_lawful s x lawful cached.lawful;
-    front = rw e cached.front;
-  }
+  cached_ended e = cached_from (x ∷ s) items f (more_lawful s x lawful cached.lawful)
+      (rw e (cached_front s items f cached))
+
+  -- one that is there, or is beaten
+  cached_beaten : IsCoveredBy beats items x → IsCached (x ∷ s) f items
+  cached_beaten c = cached_from (x ∷ s) items f (more_lawful s x lawful cached.lawful)
+      (elim (cases_Bool (has_ended f x)) [
+        | inl e ↦ rw e (cached_front s items f cached)
+        | inr e ↦ rw e (front_covered (without_hidden has_ended f s) items x c
+            (cached_front s items f cached))
+      ])
 
   -- one that is there, or is dominated
   pub cached_covered : IsCovered items x → IsCached (x ∷ s) f items
-  cached_covered c = record {
-    lawful = more_lawful s x lawful cached.lawful;
-    front = elim (cases_Bool (has_ended f x)) [
-      | inl e ↦ rw e cached.front
-      | inr e ↦ rw e (front_covered (without_hidden has_ended f s) items x c cached.front)
-    ];
-  }
+  cached_covered c = cached_beaten (
+    c.0,
+    c.1,
+    elim c.2 [ inl same ↦ inl same | inr over ↦ inr (dominates_beats c.0 x over) ],
+  )
+
+  -- one that an item withdraws
+  pub cached_void : IsVoid items x → IsCached (x ∷ s) f items
+  cached_void v =
+      let l = lives_in s f v.0 (cached.front.of_set v.0 v.1) in
+      let longer = void_outlived v.0 x (cached.lawful v.0 l.member) lawful v.2 in
+      cached_beaten (
+        v.0,
+        v.1,
+        inr (outlasts_beats v.0 x (record { voids = v.2; outlives = longer })),
+      )
 
   -- one that need not be held
   pub cached_needless : IsNeedless f items x → IsCached (x ∷ s) f items
-  cached_needless (inl ended) = cached_ended (grind (arith, nat_tests, ended))
+  cached_needless (inl (inl ended)) = cached_ended (grind (arith, nat_tests, ended))
+  cached_needless (inl (inr v)) = cached_void v
   cached_needless (inr c) = cached_covered c
-
-  -- one that has not
-  pub cached_put : (new : List ObservationData) → has_ended f x ≡ false
-      → IsFront place dominates (x ∷ without_hidden has_ended f s) new → IsCached (x ∷ s) f new
-  cached_put new e front = record {
-    lawful = more_lawful s x lawful cached.lawful;
-    front = rw e front;
-  }
 
 -- each item is of the set, and has not ended
 pub item_of_set : (s items : List ObservationData) (f : ℕ) → IsCached s f items
     → (x : ObservationData) → Has items x → Has s x × (has_ended f x ≡ false)
-item_of_set s items f cached x h = let k = Has-filter (λ o. not (has_ended f o)) s x
-    (cached.front.of_set x h) in (k.0, not-true (has_ended f x) k.1)
+item_of_set s items f cached x h = let l = lives_in s f x (cached.front.of_set x h)
+    in (l.member, l.lasts)
 
 -- no item has ended
 pub all_live : (s items : List ObservationData) (f : ℕ) → IsCached s f items
     → without_hidden has_ended f items ≡ items
 all_live s items f cached = all_shown f items (λ x h. (item_of_set s items f cached x h).1)
 
+-- none of the items withdraws another
+pub item_unvoided : (s items : List ObservationData) (f : ℕ) → IsCached s f items
+    → (x : ObservationData) → Has items x → is_void items x ≡ false
+item_unvoided s items f cached x h =
+    let l = lives_in s f x (cached.front.of_set x h) in
+    unvoided_to items x
+    (λ g k. unvoided_by s x g l.unvoided (lives_in s f g (cached.front.of_set g k)).member)
+
 -- the items are those of their own set
 pub cached_itself : (s items : List ObservationData) (f : ℕ) → IsCached s f items
     → IsCached items f items
-cached_itself s items f cached = record {
-  lawful = λ o h. cached.lawful o (item_of_set s items f cached o h).0;
-  front = subst (λ v. IsFront place dominates v items)
-      (sym (all_shown f items (λ o h. (item_of_set s items f cached o h).1)))
-      (front_itself place_laws (without_hidden has_ended f s) items cached.front);
-}
+cached_itself s items f cached = cached_from items items f
+    (λ o h. cached.lawful o (item_of_set s items f cached o h).0)
+    (subst (λ v. IsFront place beats v items)
+    (sym (all_shown f items (λ o h. (item_of_set s items f cached o h).1)))
+    (beats_itself (without_hidden has_ended f s) items (cached_front s items f cached)))
 
 pub cached_purged : (s items : List ObservationData) (f m : ℕ) → f ≤ m → IsCached s f items
     → IsCached s m (without_hidden has_ended m items)
-cached_purged s items f m le cached = record {
-  lawful = cached.lawful;
-  front = subst (λ v. IsFront place dominates v (without_hidden has_ended m items))
-      (shown_twice f m s le) (front_shown place_laws m (without_hidden has_ended f s) items
-      cached.front);
-}
+cached_purged s items f m le cached = cached_from s (without_hidden has_ended m items) m
+    cached.lawful (subst (λ v. IsFront place beats v (without_hidden has_ended m items))
+    (shown_twice f m s le) (beats_shown m (without_hidden has_ended f s) items
+    (cached_front s items f cached)))
 
 -- the items of a cache stand for its set: taken into another at no lower floor, they give the cache
 -- of both
 pub cached_both : (s u theirs items : List ObservationData) (f g : ℕ) → g ≤ f → IsCached u g theirs
     → IsCached (theirs ++ s) f items → IsCached (u ++ s) f items
-cached_both s u theirs items f g le from cached = record {
-  lawful = λ o h. elim (has_either u s o h) [
-    | inl l ↦ from.lawful o l
-    | inr r ↦
-        cached.lawful o (has_right theirs s o r)
-  ];
-  front = record {
-    descending = cached.front.descending;
-    of_set = λ x h. widen x (cached.front.of_set x h);
-    undominated = λ x h w m. elim (cases_Bool (dominates w x)) [
-      | inr nay ↦ nay
-      | inl over ↦ absurd (false≢true (sym (cached.front.undominated x h (peak w m).0 (peak w m).1)
-          ∙ elim (peak w m).2 [
-            | inl same ↦ ap (λ v. dominates v x) same ∙ over
-            | inr far ↦ place_laws.chained (peak w m).0 w x far over
-          ]))
-    ];
-    whole = λ x m free. cached.front.whole x (narrow x m free) (λ w h. free w (widen w h));
-  };
-}
+cached_both s u theirs items f g le from cached =
+    cached_from (u ++ s) items f
+    (λ o h. elim (has_either u s o h) [
+      | inl l ↦ from.lawful o l
+      | inr r ↦
+          cached.lawful o (has_right theirs s o r)
+    ])
+    (record {
+      descending = held.descending;
+      of_set = λ x h. widen x (held.of_set x h);
+      undominated = λ x h w m. elim (cases_Bool (beats w x)) [
+        | inr nay ↦ nay
+        | inl over ↦ absurd (false≢true (sym (held.undominated x h (peak w m).0 (peak w m).1)
+            ∙ elim (peak w m).2 [
+              | inl same ↦ ap (λ v. beats v x) same ∙ over
+              | inr far ↦ beats_chain (peak w m).0 w x far over
+            ]))
+      ];
+      whole = λ x m free. held.whole x (narrow x m free) (λ w h. free w (widen w h));
+    })
   where
+    held : IsFront place beats (without_hidden has_ended f (theirs ++ s)) items
+    held = cached_front (theirs ++ s) items f cached
+
+    theirs_held : IsFront place beats (without_hidden has_ended g u) theirs
+    theirs_held = cached_front u theirs g from
+
     later : (x : ObservationData) → has_ended f x ≡ false → has_ended g x ≡ false
     later x e = elim (cases_Bool (has_ended g x)) [
       | inr no_end ↦ no_end
@@ -179,15 +203,15 @@ cached_both s u theirs items f g le from cached = record {
     widen x h = let k = Has-filter (λ o. not (has_ended f o)) (theirs ++ s) x h
         in elim (has_either theirs s x k.0) [
           | inl l ↦ Has-in_filter (λ o. not (has_ended f o)) (u ++ s) x
-              (has_left u s x (Has-filter (λ o. not (has_ended g o)) u x (from.front.of_set x l)).0)
+              (has_left u s x (Has-filter (λ o. not (has_ended g o)) u x (theirs_held.of_set x l)).0)
               k.1
           | inr r ↦ Has-in_filter (λ o. not (has_ended f o)) (u ++ s) x (has_right u s x r) k.1
         ]
 
-    -- what dominates w, or w itself, among what is shown of theirs and s
+    -- what beats w, or w itself, among what is shown of theirs and s
     peak : (w : ObservationData) → Has (without_hidden has_ended f (u ++ s)) w
         → (p : ObservationData) × Has (without_hidden has_ended f (theirs ++ s)) p
-        × ((p ≡ w) ⊎ (dominates p w ≡ true))
+        × ((p ≡ w) ⊎ (beats p w ≡ true))
     peak w m = let k = Has-filter (λ o. not (has_ended f o)) (u ++ s) w m
         in elim (has_either u s w k.0) [
           | inr r ↦ (
@@ -198,7 +222,7 @@ cached_both s u theirs items f g le from cached = record {
           | inl l ↦
               let there : Has (without_hidden has_ended g u) w =
               Has-in_filter (λ o. not (has_ended g o)) u w l (ap not (later w (not-true _ k.1))) in
-              let c = climb place_laws (without_hidden has_ended g u) w in
+              let c = climb beats_laws (without_hidden has_ended g u) w in
               let member : Has (without_hidden has_ended g u) c.0 =
               elim c.1 [
                 | inl same ↦ subst (Has (without_hidden has_ended g u)) (sym same) there
@@ -210,31 +234,31 @@ cached_both s u theirs items f g le from cached = record {
                   | inr nay ↦ nay
                   | inl end ↦
                       absurd (false≢true (sym (not-true _ k.1)
-                      ∙ place_laws.hides_below f c.0 w end far.1))
+                      ∙ beaten_hidden f c.0 w end far.1))
                 ]
               ] in (
                 c.0,
                 Has-in_filter (λ o. not (has_ended f o)) (theirs ++ s) c.0
-                    (has_left theirs s c.0 (from.front.whole c.0 member c.2)) (ap not seen),
+                    (has_left theirs s c.0 (theirs_held.whole c.0 member c.2)) (ap not seen),
                 elim c.1 [ inl same ↦ inl same | inr far ↦ inr far.1 ],
               )
         ]
 
     narrow : (x : ObservationData) → Has (without_hidden has_ended f (u ++ s)) x
-        → IsUndominated dominates (without_hidden has_ended f (u ++ s)) x
+        → IsUndominated beats (without_hidden has_ended f (u ++ s)) x
         → Has (without_hidden has_ended f (theirs ++ s)) x
     narrow x m free = let k = Has-filter (λ o. not (has_ended f o)) (u ++ s) x m
         in elim (has_either u s x k.0) [
           | inr r ↦ Has-in_filter (λ o. not (has_ended f o)) (theirs ++ s) x
               (has_right theirs s x r) k.1
           | inl l ↦ Has-in_filter (λ o. not (has_ended f o)) (theirs ++ s) x
-              (has_left theirs s x (from.front.whole x
+              (has_left theirs s x (theirs_held.whole x
               (Has-in_filter (λ o. not (has_ended g o)) u x l (ap not (later x (not-true _ k.1))))
-              (λ w h. elim (cases_Bool (dominates w x)) [
+              (λ w h. elim (cases_Bool (beats w x)) [
                 | inr nay ↦ nay
                 | inl over ↦ elim (cases_Bool (has_ended f w)) [
                   | inl end ↦ absurd (false≢true (sym (not-true _ k.1)
-                      ∙ place_laws.hides_below f w x end over))
+                      ∙ beaten_hidden f w x end over))
                   | inr seen ↦ free w (Has-in_filter (λ o. not (has_ended f o)) (u ++ s) w
                       (has_left u s w (Has-filter (λ o. not (has_ended g o)) u w h).0)
                       (ap not seen))
@@ -245,31 +269,36 @@ cached_both s u theirs items f g le from cached = record {
 -- equal sets at equal floors are held alike
 pub cached_same : (s t xs ys : List ObservationData) (f : ℕ) → IsCached s f xs → IsCached t f ys
     → IsSameSet s t → xs ≡ ys
-cached_same s t xs ys f a b same = front_same place_laws (without_hidden has_ended f s)
-    (without_hidden has_ended f t) xs ys a.front b.front
-    (λ z h. let k = Has-filter (λ o. not (has_ended f o)) s z h
-    in Has-in_filter (λ o. not (has_ended f o)) t z (same.into z k.0) k.1)
-    (λ z h. let k = Has-filter (λ o. not (has_ended f o)) t z h
-    in Has-in_filter (λ o. not (has_ended f o)) s z (same.back z k.0) k.1)
+cached_same s t xs ys f a b same =
+    let p = cached_front s xs f a in
+    let q = cached_front t ys f b in
+    descending_same place_laws xs ys p.descending q.descending
+    (λ z h. q.whole z (over z (p.of_set z h)) (λ w m. p.undominated z h w (back w m)))
+    (λ z h. p.whole z (back z (q.of_set z h)) (λ w m. q.undominated z h w (over w m)))
+  where
+    over : (z : ObservationData) → Has (without_hidden has_ended f s) z
+        → Has (without_hidden has_ended f t) z
+    over z h = let k = shown_parts s f z h in shown_of t f z (same.into z k.0) k.1
+
+    back : (z : ObservationData) → Has (without_hidden has_ended f t) z
+        → Has (without_hidden has_ended f s) z
+    back z h = let k = shown_parts t f z h in shown_of s f z (same.back z k.0) k.1
 
 -- the order in which a set is listed does not count
 pub cached_listed : (s t items : List ObservationData) (f : ℕ) → IsCached s f items → IsSameSet s t
     → IsCached t f items
-cached_listed s t items f a same = record {
-  lawful = λ o h. a.lawful o (same.back o h);
-  front = record {
-    descending = a.front.descending;
-    of_set = λ z h. let k = Has-filter (λ o. not (has_ended f o)) s z (a.front.of_set z h)
-        in Has-in_filter (λ o. not (has_ended f o)) t z (same.into z k.0) k.1;
-    undominated = λ z h w m. let k = Has-filter (λ o. not (has_ended f o)) t w m
-        in a.front.undominated z h w (Has-in_filter (λ o. not (has_ended f o)) s w (same.back w k.0)
-        k.1);
-    whole = λ z m free. let k = Has-filter (λ o. not (has_ended f o)) t z m
-        in a.front.whole z (Has-in_filter (λ o. not (has_ended f o)) s z (same.back z k.0) k.1)
-        (λ w h. let j = Has-filter (λ o. not (has_ended f o)) s w h
-        in free w (Has-in_filter (λ o. not (has_ended f o)) t w (same.into w j.0) j.1));
-  };
-}
+cached_listed s t items f a same =
+    let p = cached_front s items f a in
+    cached_from t items f (λ o h. a.lawful o (same.back o h)) (record {
+      descending = p.descending;
+      of_set = λ z h. let k = shown_parts s f z (p.of_set z h)
+          in shown_of t f z (same.into z k.0) k.1;
+      undominated = λ z h w m. let k = shown_parts t f w m
+          in p.undominated z h w (shown_of s f w (same.back w k.0) k.1);
+      whole = λ z m free. let k = shown_parts t f z m
+          in p.whole z (shown_of s f z (same.back z k.0) k.1)
+          (λ w h. let j = shown_parts s f w h in free w (shown_of t f w (same.into w j.0) j.1));
+    })
 
 -- one more of a list was taken
 more_same : (ys s : List ObservationData) (x : ObservationData)
@@ -299,13 +328,52 @@ pub cached_more : (ys s items : List ObservationData) (f : ℕ) (x : Observation
 cached_more ys s items f x cached = cached_listed (x ∷ (ys ++ s)) ((ys ++ x ∷ []) ++ s) items f
     cached (more_same ys s x)
 
+-- what is kept is the front of itself, by what beats too
+pub kept_front : (items : List ObservationData) → IsKept items → IsFront place beats items items
+kept_front items kept = record {
+  descending = kept.front.descending;
+  of_set = λ x h. h;
+  undominated = λ x h w m. elim (cases_Bool (beats w x)) [
+    | inr nay ↦ nay
+    | inl yea ↦ elim (beats_cases w x yea) [
+      | inl over ↦ absurd (false≢true (sym (kept.front.undominated x h w m) ∙ over))
+      | inr out ↦ absurd (false≢true
+          (sym (unvoided_by items x w (kept.unvoided x h) m) ∙ voids_to w x out.voids))
+    ]
+  ];
+  whole = λ x m free. m;
+}
+
+-- and back
+pub front_kept : (items : List ObservationData) → AreObservations items
+    → IsFront place beats items items → IsKept items
+front_kept items lawful front = record {
+  lawful = lawful;
+  front = record {
+    descending = front.descending;
+    of_set = λ x h. h;
+    undominated = λ x h w m. elim (cases_Bool (dominates w x)) [
+      | inr nay ↦ nay
+      | inl over ↦ absurd
+          (false≢true (sym (front.undominated x h w m) ∙ dominates_beats w x over))
+    ];
+    whole = λ x m free. m;
+  };
+  unvoided = λ x h. unvoided_to items x (λ g k. elim (cases_Bool (voids g x)) [
+    | inr nay ↦ nay
+    | inl yea ↦
+        let v = voids_from g x yea in
+        let longer = void_outlived g x (lawful g k) (lawful x h) v in
+        absurd (false≢true (sym (front.undominated x h g k)
+        ∙ outlasts_beats g x (record { voids = v; outlives = longer })))
+  ]);
+}
+
 -- what is shown of all that is kept is its cache
 pub kept_cached : (items : List ObservationData) (f : ℕ) → IsKept items
     → IsCached items f (without_hidden has_ended f items)
-kept_cached items f kept = record {
-  lawful = kept.lawful;
-  front = front_shown place_laws f items items kept.front;
-}
+kept_cached items f kept = cached_from items (without_hidden has_ended f items) f kept.lawful
+    (beats_shown f items items (kept_front items kept))
 
 -- it is the cache of its own set
 pub kept_itself : (items : List ObservationData) (f : ℕ) → IsKept items
@@ -315,12 +383,10 @@ kept_itself items f kept = cached_itself items (without_hidden has_ended f items
 
 -- nothing had ended at the start of time
 pub kept_whole : (items : List ObservationData) → IsKept items → IsCached items 0 items
-kept_whole items kept = record {
-  lawful = kept.lawful;
-  front = subst (λ v. IsFront place dominates v items)
-      (sym (all_shown 0 items (λ x h. let l = (kept.lawful x h).life.0
-      in grind (arith, nat_tests, l)))) kept.front;
-}
+kept_whole items kept = cached_from items items 0 kept.lawful
+    (subst (λ v. IsFront place beats v items)
+    (sym (all_shown 0 items (λ x h. let l = (kept.lawful x h).life.0
+    in grind (arith, nat_tests, l)))) (kept_front items kept))
 
 -- the last of a list, or the first
 last_first : (s : List ObservationData) (x : ObservationData) → IsSameSet (s ++ x ∷ []) (x ∷ s)
@@ -339,16 +405,16 @@ first_last s x = record { into = (last_first s x).back; back = (last_first s x).
 -- one more was taken up into what is kept: what is shown of it is the cache of the set with it
 pub cached_taken : (s items new : List ObservationData) (f : ℕ) (x : ObservationData)
     → IsObservation x → has_ended f x ≡ false → IsCached s f (without_hidden has_ended f items)
-    → IsFront place dominates (x ∷ items) new → IsCached (x ∷ s) f (without_hidden has_ended f new)
+    → IsFront place beats (x ∷ items) new → IsCached (x ∷ s) f (without_hidden has_ended f new)
 cached_taken s items new f x one live cached front =
     let held = without_hidden has_ended f items in
-    let whole : IsFront place dominates (x ∷ held) (without_hidden has_ended f new) =
-    rw live at (front_shown place_laws f (x ∷ items) new front) in
-    let small : IsCached (x ∷ held) f (without_hidden has_ended f new) = record {
-      lawful = more_lawful held x one (cached_itself s held f cached).lawful;
-      front = rw live (subst (λ v. IsFront place dominates (x ∷ v) (without_hidden has_ended f new))
-          (sym (all_live s held f cached)) whole);
-    } in
+    let whole : IsFront place beats (x ∷ held) (without_hidden has_ended f new) =
+    rw live at (beats_shown f (x ∷ items) new front) in
+    let small : IsCached (x ∷ held) f (without_hidden has_ended f new) =
+    cached_from (x ∷ held) (without_hidden has_ended f new) f
+    (more_lawful held x one (cached_itself s held f cached).lawful)
+    (rw live (subst (λ v. IsFront place beats (x ∷ v) (without_hidden has_ended f new))
+    (sym (all_live s held f cached)) whole)) in
     let both = cached_both (x ∷ []) s held (without_hidden has_ended f new) f f (omega arith) cached
     (cached_listed (x ∷ held) (held ++ x ∷ []) (without_hidden has_ended f new) f small
     (first_last held x)) in
@@ -367,26 +433,37 @@ covered_shown items f x live c =
                 place_laws.hides_below f c.0 x end over
           ]))
     ] in
-    (c.0, Has-in_filter (λ o. not (has_ended f o)) items c.0 c.1 (ap not seen), c.2)
+    (c.0, shown_of items f c.0 c.1 seen, c.2)
 
--- what need not be held: it is covered by what is kept, or has ended
+-- nor does it withdraw it
+pub void_shown : (items : List ObservationData) (f : ℕ) (x : ObservationData)
+    → AreObservations items → IsObservation x → has_ended f x ≡ false
+    → IsVoid items x ↔ IsVoid (without_hidden has_ended f items) x
+void_shown items f x all one live = (
+  (λ v. let longer = void_outlived v.0 x (all v.0 v.1) one v.2 in
+      let seen : has_ended f v.0 ≡ false = grind (arith, nat_tests, longer, live) in
+      (v.0, shown_of items f v.0 v.1 seen, v.2)),
+  λ v. (v.0, (shown_parts items f v.0 v.1).0, v.2),
+)
+
+-- what is not past need not be held just where what is kept covers it
 pub needless_shown : (items : List ObservationData) (f : ℕ) (x : ObservationData)
-    → has_ended f x ≡ false → IsCovered items x ↔ IsNeedless f (without_hidden has_ended f items) x
-needless_shown items f x live = (
+    → has_ended f x ≡ false → ¬ IsPast f (without_hidden has_ended f items) x
+    → IsCovered items x ↔ IsNeedless f (without_hidden has_ended f items) x
+needless_shown items f x live current = (
   (λ c. inr (covered_shown items f x live c)),
   λ n. elim n [
-    | inl ended ↦ absurd (grind (arith, nat_tests, live, ended))
-    | inr c ↦ (c.0, (Has-filter (λ o. not (has_ended f o)) items c.0 c.1).0, c.2)
+    | inl past ↦ absurd (current past)
+    | inr c ↦ (c.0, (shown_parts items f c.0 c.1).0, c.2)
   ],
 )
 
 -- with one more, it is kept
 pub kept_put : (items new : List ObservationData) (x : ObservationData) → IsKept items
-    → IsObservation x → IsFront place dominates (x ∷ items) new → IsKept new
-kept_put items new x kept one front = record {
-  lawful = λ y h. more_lawful items x one kept.lawful y (front.of_set y h);
-  front = front_itself place_laws (x ∷ items) new front;
-}
+    → IsObservation x → IsFront place beats (x ∷ items) new → IsKept new
+kept_put items new x kept one front = front_kept new
+    (λ y h. more_lawful items x one kept.lawful y (front.of_set y h))
+    (beats_itself (x ∷ items) new front)
 
 -- what is left of what is kept, in order, is kept
 pub kept_swept : (items rest : List ObservationData) (m : ℕ) → IsKept items
@@ -399,6 +476,8 @@ kept_swept items rest m kept order swept = record {
     undominated = λ x h w k. kept.front.undominated x (swept.of_items x h) w (swept.of_items w k);
     whole = λ x h free. h;
   };
+  unvoided = λ x h. unvoided_to rest x (λ g k.
+      unvoided_by items x g (kept.unvoided x (swept.of_items x h)) (swept.of_items g k));
 }
 
 -- the same set at a later floor, and some of what has ended by then dropped

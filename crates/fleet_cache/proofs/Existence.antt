@@ -1,5 +1,5 @@
--- Each set of observations has a cache at each floor: of what it shows, in order, what no member
--- dominates.
+-- Each set of observations has a cache at each floor: of what is live of it, in order, what no such
+-- member dominates.
 use Rattle.std.proofs.Common.{ℕ, ◌≡◌, Bool, false, refl, not, List, [], ◌∷◌, inl, inr, sym, ap, ◌∙◌, subst}
 use mathlib.Core.Bool.{false≢true}
 use Rattle.std.specs.List.{filter, list_any}
@@ -7,8 +7,8 @@ use Rattle.std.specs.Ordering.{ordering_reverse}
 use Rattle.std.specs.declared.cmp.Ordering.TheVariants.{Greater}
 use Rattle.fleet_observe.specs.Members.{Has}
 use Rattle.fleet_observe.specs.Observation.{ObservationData, AreObservations}
-use Rattle.fleet_cache.specs.Front.{IsDescending, IsUndominated, without_hidden}
-use Rattle.fleet_cache.specs.Live.{has_ended}
+use Rattle.fleet_cache.specs.Front.{IsDescending, IsUndominated}
+use Rattle.fleet_cache.specs.Live.{live_of}
 use Rattle.fleet_cache.specs.Dominates.{dominates}
 use Rattle.fleet_cache.specs.Cached.{place, IsCached}
 use Rattle.fleet_cache.proofs.Places.{place_total, place_exact, place_laws}
@@ -115,7 +115,7 @@ over_none (w ∷ s) x free = rw (free w (inl refl)) (over_none s x (λ y h. free
 pub cache_of : (s : List ObservationData) (f : ℕ) → AreObservations s
     → (items : List ObservationData) × IsCached s f items
 cache_of s f lawful =
-    let seen = without_hidden has_ended f s in
+    let seen = live_of s f in
     let all = rank_all seen in
     let test = λ (x : ObservationData). not (is_dominated seen x) in (
       filter test all.items,

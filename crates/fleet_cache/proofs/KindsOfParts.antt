@@ -3,7 +3,7 @@ use Rattle.std.proofs.Common.{◌≡◌, ℕ, zero, suc, List, Option, Some, Non
 use mathlib.Core.Bool.{false≢true}
 use Rattle.fleet_observe.specs.declared.bounds.TheConstants.{MOST_LINKS}
 use Rattle.fleet_observe.specs.declared.observation.kind.Kind.{Kind}
-use Rattle.fleet_observe.specs.declared.observation.kind.Kind.TheVariants.{NameError, NoData as WithoutData, Positive}
+use Rattle.fleet_observe.specs.declared.observation.kind.Kind.TheVariants.{NameError, NoData as WithoutData, Positive, Flush}
 use Rattle.fleet_observe.specs.Observation.{ObservationData}
 use Rattle.fleet_cache.specs.declared.answer.Answer.{Answer}
 use Rattle.fleet_cache.specs.Answer.{ShownData, answer_of_kind, AnswerData, Missed, Found, NoData, NxDomain, add_link, by_kind, is_link, target, answer_by, decider, answer_within, answer_of, part_at}
@@ -24,6 +24,7 @@ has_kinds-by_kind p = by_cases p.observation.kind refl
     by_cases Positive e = (tt, e)
     by_cases WithoutData e = (tt, e)
     by_cases NameError e = (tt, e)
+    by_cases Flush e = tt
 
 by_link : (p : ShownData) (a : AnswerData) (link : Bool) → (link ≡ true → IsPositivePart p)
     → HasKinds a → HasKinds (if link then add_link p a else by_kind p)
@@ -37,6 +38,7 @@ link_positive rtype o e = by_cases o.kind refl
     by_cases Positive is = is
     by_cases WithoutData is = absurd (false≢true (rw is at e))
     by_cases NameError is = absurd (false≢true (rw is at e))
+    by_cases Flush is = absurd (false≢true (rw is at e))
 
 has_kinds-answer_by : (next : List (List ℕ) → AnswerData) (t rtype : ℕ) (d : Option ObservationData)
     → ((n : List (List ℕ)) → HasKinds (next n)) → HasKinds (answer_by next t rtype d)

@@ -1,6 +1,9 @@
 mod Places
 mod SameKeys
 mod Names
+mod Under
+mod Voids
+mod Beats
 mod Lawful
 mod Caches
 pub mod Lemmas
@@ -8,7 +11,10 @@ mod Packed
 mod Packing
 mod Slots
 mod Sweeps
+mod Withdrawn
+mod Admitted
 mod Best
+mod Past
 mod Looked
 mod Climbed
 mod Answers

@@ -1,5 +1,5 @@
 -- What a cache holds of a set of observations.
-use Rattle.std.specs.Prelude.{◌≡◌, ℕ, Bool, ◌≤◌, ◌⊎◌, List, ◌∷◌, ◌++◌, slice_get, Some}
+use Rattle.std.specs.Prelude.{◌≡◌, ℕ, Bool, false, ◌≤◌, ◌⊎◌, List, ◌∷◌, ◌++◌, slice_get, Some}
 use Rattle.std.specs.declared.cmp.Ordering.{Ordering}
 use Rattle.std.specs.Ordering.{ordering_then}
 use Rattle.fleet_wire.specs.Number.{u16_octets}
@@ -8,8 +8,9 @@ use Rattle.fleet_observe.specs.Members.{Has}
 use Rattle.fleet_observe.specs.Observation.{ObservationData, AreObservations, kind_number, expires, key_of}
 use Rattle.fleet_observe.specs.Preference.{octets_cmp, preference}
 use Rattle.fleet_front.specs.Front.{IsCovered as IsCoveredBy, is_covered as is_covered_by}
-use Rattle.fleet_cache.specs.Front.{IsFront, without_hidden}
-use Rattle.fleet_cache.specs.Live.{has_ended}
+use Rattle.fleet_cache.specs.Front.{IsFront}
+use Rattle.fleet_cache.specs.Void.{IsVoid, is_void}
+use Rattle.fleet_cache.specs.Live.{live_of}
 use Rattle.fleet_cache.specs.Dominates.{dominates}
 
 -- the octets of a key, by those of its name
@@ -20,21 +21,22 @@ key_with name kind rtype = name ++ kind_number kind ∷ u16_octets rtype
 abbrev pub place : ObservationData → ObservationData → Ordering
 place x y = ordering_then (octets_cmp (key_of y) (key_of x)) (preference x y)
 
--- the items are the undominated observations of s that end after the floor, in order
+-- the items are the undominated observations of s that are live at the floor, in order
 pub record IsCached (s : List ObservationData) (floor : ℕ) (items : List ObservationData) : Type 0
   where
     pub lawful : AreObservations s
-    pub front : IsFront place dominates (without_hidden has_ended floor s) items
+    pub front : IsFront place dominates (live_of s floor) items
 
 -- what a cache holds: its floor, and its items in order
 pub record CacheData : Type 0 where
   pub floor : ℕ
   pub items : List ObservationData
 
--- what a cache keeps: observations of which none dominates another, in order
+-- what a cache keeps: observations of which none dominates or withdraws another, in order
 pub record IsKept (items : List ObservationData) : Type 0 where
   pub lawful : AreObservations items
   pub front : IsFront place dominates items items
+  pub unvoided : (o : ObservationData) → Has items o → is_void items o ≡ false
 
 -- o is one of the items, or one of them dominates it
 abbrev pub IsCovered : List ObservationData → ObservationData → Type 0
@@ -44,9 +46,13 @@ IsCovered items o = IsCoveredBy dominates items o
 abbrev pub is_covered : List ObservationData → ObservationData → Bool
 is_covered items o = is_covered_by preference dominates o items
 
--- a cache need not take o in: it has ended at the floor, or is there already, or is dominated
+-- o is past for a cache: it has ended at the floor, or is void
+abbrev pub IsPast : ℕ → List ObservationData → ObservationData → Type 0
+IsPast floor items o = (expires o ≤ floor) ⊎ IsVoid items o
+
+-- a cache need not take o in: it is past, or is there already, or is dominated
 abbrev pub IsNeedless : ℕ → List ObservationData → ObservationData → Type 0
-IsNeedless floor items o = (expires o ≤ floor) ⊎ IsCovered items o
+IsNeedless floor items o = IsPast floor items o ⊎ IsCovered items o
 
 -- the observation at this place of a list is to be held
 abbrev pub IsNeededAt : ℕ → List ObservationData → List ObservationData → ℕ → Type 0

@@ -1,8 +1,10 @@
 pub mod Front
+pub mod Relevant
+pub mod Void
 pub mod Live
+pub mod Cut
 pub mod Dominates
 pub mod Cached
-pub mod Relevant
 pub mod Answer
 pub mod Shown
 pub mod AnswerData
@@ -13,6 +15,7 @@ pub mod Orders
 pub mod Slots
 pub mod Noted
 pub mod Swept
+pub mod Withdrawn
 pub mod Path
 pub mod Laws
 pub mod Rows

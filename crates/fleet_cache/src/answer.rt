@@ -3,7 +3,7 @@
 ghost use Rattle.std.specs.Prelude.{◌≡◌, ℕ, ◌≤◌, List};
 ghost use Rattle.fleet_name.specs.Name.{wire, IsName, IsWire};
 ghost use Rattle.fleet_wire.specs.declared.rtype.TheConstants.{CNAME};
-ghost use Rattle.fleet_observe.specs.declared.observation.kind.Kind.TheVariants.{Positive};
+ghost use Rattle.fleet_observe.specs.declared.observation.kind.Kind.TheVariants.{NameError, Positive};
 ghost use Rattle.fleet_observe.specs.Observation.{ObservationData};
 ghost use Rattle.fleet_cache.specs.Slots.{items_of, IsLaid};
 ghost use Rattle.fleet_cache.specs.Noted.{AreNoted};
@@ -13,8 +13,8 @@ ghost use Rattle.fleet_cache.specs.Answer.{answer_of, part_at, add_links, by_kin
 ghost use Rattle.fleet_cache.specs.Shown.{shown_parts, AllSome};
 ghost use Rattle.fleet_cache.specs.AnswerData.{answer_data, chain_of};
 
-use crate::denied::Denied;
 use crate::lookup::decider;
+use crate::noted::Noted;
 use crate::shown::Shown;
 use crate::store::Fronts;
 use arrayvec::ArrayVec;
@@ -104,19 +104,20 @@ fn finish<'a, A: Allocator>(chain: Chain<'a, A>, last: Shown<'a, A>) -> Answer<'
         Kind::Positive => Answer::Found { chain, set: last },
         Kind::NoData => Answer::NoData { chain, soa: last },
         Kind::NameError => Answer::NxDomain { chain, soa: last },
+        Kind::Flush => Answer::Miss,
     }
 }
 
 /// Follows the aliases from a name, by its octets.
 pub(crate) fn follow<'a, A: Allocator>(
     fronts: &'a Fronts<A>,
-    denied: &Denied,
+    denied: &Noted,
     name: &[u8],
     rtype: u16,
     moment: Moment,
 ) -> Answer<'a, A>
     requires laid { IsLaid (λ k. k.items) fronts.now.entries }
-    requires noted { AreNoted denied.now (items_of fronts.now.entries) }
+    requires noted { AreNoted NameError denied.now (items_of fronts.now.entries) }
     requires named { IsWire name.now }
     ensures filled { AllSome (chain_of result) }
     ensures told { (n : List (List ℕ)) → name.now ≡ wire n → (s : List ObservationData)

@@ -2,18 +2,23 @@
 
 ghost use Rattle.std.specs.Prelude.{◌≡◌, ℕ, ◌^◌, ◌<◌, ◌≤◌, max, true, false, List, [], ◌∷◌, ◌++◌, ◌↔◌, length, take, IsTrue, IfOk, IfErr, OnOk, OnErr};
 ghost use Rattle.fleet_observe.specs.Observation.{ObservationData, IsObservation};
-ghost use Rattle.fleet_cache.specs.Cached.{IsCached, IsNeedless, IsNeededAt, IsSameSet};
+ghost use Rattle.fleet_cache.specs.Cached.{IsCached, IsPast, IsNeedless, IsNeededAt, IsSameSet};
+ghost use Rattle.fleet_cache.specs.Cut.{stamp_of as stamp_at};
+ghost use Rattle.fleet_cache.specs.Best.{referent};
 ghost use Rattle.fleet_cache.specs.Answer.{answer_of};
 ghost use Rattle.fleet_cache.specs.Shown.{AllSome};
 ghost use Rattle.fleet_cache.specs.AnswerData.{answer_data, chain_of};
 ghost use Rattle.fleet_cache.specs.Kinds.{HasKinds};
 
+use crate::admit::admit;
 use crate::answer::{Answer, follow};
-use crate::denied::Denied;
+use crate::cut::Cut;
 use crate::items::Items;
-use crate::store::{Fronts, covers, store};
+use crate::lookup::stands_above;
+use crate::noted::Noted;
+use crate::store::{Fronts, covers};
 use crate::sweep::{Cursor, sweep};
-use fleet_observe::{Moment, Observation};
+use fleet_observe::{Kind, Moment, Observation};
 use fleet_wire::Question;
 use std::alloc::{AllocError, Allocator, Global};
 use std::collections::BTreeMap;
@@ -28,26 +33,29 @@ pub struct Stopped {
     pub taken: usize,
 }
 
-/// The undominated observations of a set that end after a floor: those of a key (the octets of the
+/// The undominated observations of a set that are live at a floor: those of a key (the octets of the
 /// name, the kind, the type) in one front, the preferred first, and the fronts in a map by their
 /// keys, seven octets to a word.
 ///
 /// The fronts may hold observations that ended by the floor: they are shown to nobody, and a sweep,
 /// which goes on at the cursor, drops some of them at each purge. `most` is how many the fronts
 /// hold at most, so that they can be counted: at the greatest number, which no machine reaches,
-/// nothing more is taken. `denied` says at which names a name error may stand.
+/// nothing more is taken. `denied` says at which names a name error may stand, `flushed` at which a
+/// flush. What a flush withdraws is dropped as the flush comes in, so no answer looks for one.
 #[derive(Drop)]
 pub struct Cache<A: Allocator = Global> {
     floor: Moment,
     most: usize,
     fronts: Fronts<A>,
-    denied: Denied,
+    denied: Noted,
+    flushed: Noted,
     cursor: Cursor<A>,
     alloc: A,
 }
 
 impl<A: Allocator> Model for Cache<A> {
     ghost use Rattle.std.specs.Prelude.{length, ◌≤◌};
+    ghost use Rattle.fleet_observe.specs.declared.observation.kind.Kind.TheVariants.{NameError, Flush};
     ghost use Rattle.fleet_cache.specs.Front.{without_hidden};
     ghost use Rattle.fleet_cache.specs.Live.{has_ended};
     ghost use Rattle.fleet_cache.specs.Cached.{CacheData, IsKept};
@@ -65,7 +73,8 @@ impl<A: Allocator> Model for Cache<A> {
 
     ghost invariant = { λ c. IsKept (items_of c.fronts.entries)
         × IsLaid (λ k. k.items) c.fronts.entries × (length (items_of c.fronts.entries) ≤ c.most)
-        × AreNoted c.denied (items_of c.fronts.entries) };
+        × AreNoted NameError c.denied (items_of c.fronts.entries)
+        × AreNoted Flush c.flushed (items_of c.fronts.entries) };
 }
 
 impl<A: Allocator> Cache<A> {
@@ -80,15 +89,17 @@ impl<A: Allocator> Cache<A> {
             floor: Moment::new(0).unwrap(),
             most: 0,
             fronts: BTreeMap::new(alloc),
-            denied: Denied::new(),
+            denied: Noted::new(),
+            flushed: Noted::new(),
             cursor: Cursor::new(alloc),
             alloc,
         }
     }
 
-    /// Takes an observation in; `false` where it had ended at the floor, or was there already, or
-    /// is dominated, and nothing changed. Else what it dominates goes. Memory is wanted only for
-    /// one that is to be held; without it nothing changes.
+    /// Takes an observation in; `false` where it had ended at the floor, or is void, or was there
+    /// already, or is dominated, and nothing changed. Else what it dominates goes, and what it
+    /// withdraws, if it is a flush: for that it goes over all fronts. Memory is wanted only for one
+    /// that is to be held; without it nothing changes.
     pub fn take(&mut self, observation: Observation<A>) -> Result<bool, AllocError>
     where
         A: Copy,
@@ -100,15 +111,16 @@ impl<A: Allocator> Cache<A> {
         ensures memory { OnErr result (¬ IsNeedless self.old.floor self.old.items observation) }
         ensures err { OnErr result (self.new ≡ self.old) }
     {
-        if observation.expires() <= self.floor.value() {
+        if self.is_past(&observation) {
             return Ok(false);
         }
         if self.most == usize::MAX {
             return self.take_uncounted(&observation);
         }
         self.cursor.make_room(&self.fronts, &observation)?;
-        self.denied.note(&observation);
-        let kept = store(&mut self.fronts, self.alloc, observation)?;
+        self.denied.note(Kind::NameError, &observation);
+        self.flushed.note(Kind::Flush, &observation);
+        let kept = admit(&mut self.fronts, self.alloc, observation)?;
         self.most += 1;
         Ok(kept)
     }
@@ -193,7 +205,8 @@ impl<A: Allocator> Cache<A> {
         self.floor = Moment::new(0).unwrap();
         self.most = 0;
         self.fronts.clear();
-        self.denied = Denied::new();
+        self.denied = Noted::new();
+        self.flushed = Noted::new();
         self.cursor.rewind();
     }
 
@@ -296,8 +309,32 @@ impl<A: Allocator> Cache<A> {
             ↔ IsNeedless self.now.floor self.now.items observation.now }
         ensures lawful { IsObservation observation.now }
     {
-        observation.expires() > self.floor.value() && !covers(&self.fronts, observation)
+        !self.is_past(observation) && !covers(&self.fronts, observation)
     }
+
+    /// Whether an observation had ended at the floor, or is void.
+    fn is_past(&self, observation: &Observation<A>) -> bool
+        ensures past { IsTrue result ↔ IsPast self.now.floor self.now.items observation.now }
+        ensures lawful { IsObservation observation.now }
+    {
+        let name = observation.name().octets();
+        let flush = stands_above(&self.fronts, &self.flushed, Kind::Flush, name, self.floor);
+        let cut = Cut {
+            moment: self.floor,
+            flushed: stamp_of(flush),
+        };
+        cut.hides(observation)
+    }
+}
+
+/// The stamp of an observation, if there is one.
+fn stamp_of<A: Allocator>(observation: Option<&Observation<A>>) -> Option<Moment>
+    ensures { result ≡ stamp_at (referent observation.entry) }
+{
+    let Some(found) = observation else {
+        return None;
+    };
+    Some(found.stamp())
 }
 
 /// The later of two moments.

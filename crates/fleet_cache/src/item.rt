@@ -3,8 +3,10 @@
 ghost use Rattle.std.specs.Prelude.{◌≡◌, ◌||◌};
 ghost use Rattle.std.specs.Ordering.{is_eq};
 ghost use Rattle.fleet_observe.specs.Preference.{preference};
+ghost use Rattle.fleet_cache.specs.Live.{has_ended as ended_at};
 ghost use Rattle.fleet_cache.specs.Dominates.{dominates as over, is_same_key};
 
+use crate::cut::Cut;
 use fleet_front::Ranked;
 use fleet_observe::{Moment, Observation};
 use std::alloc::{Allocator, Global};
@@ -41,6 +43,13 @@ impl<A: Allocator> Item<A> {
         &self.observation
     }
 
+    /// Whether it has ended at a moment.
+    pub(crate) fn has_ended(&self, moment: Moment) -> bool
+        ensures { result ≡ ended_at moment self.now }
+    {
+        self.observation.expires() <= moment.value()
+    }
+
     /// Whether it is this observation, or dominates it.
     pub(crate) fn covers(&self, other: &Observation<A>) -> bool
         ensures { result ≡ (is_eq (preference self.now other.now) || over self.now other.now) }
@@ -53,7 +62,7 @@ impl<A: Allocator> Item<A> {
 fn is_over<A: Allocator>(one: &Observation<A>, other: &Observation<A>) -> bool
     ensures { result ≡ over one.now other.now }
 {
-    if one.expires() < other.expires() {
+    if one.expires() < other.expires() || one.stamp().value() < other.stamp().value() {
         return false;
     }
     if !one.cmp(other).is_gt() {
@@ -76,18 +85,18 @@ fn has_key_of<A: Allocator>(one: &Observation<A>, other: &Observation<A>) -> boo
 }
 
 impl<A: Allocator> Ranked for Item<A> {
-    type Cut = Moment;
+    type Cut = Cut;
 
     ghost use Rattle.fleet_observe.specs.Preference.{preference};
     ghost use Rattle.fleet_cache.specs.Dominates.{dominates as is_over};
-    ghost use Rattle.fleet_cache.specs.Live.{has_ended};
-    ghost use Rattle.fleet_cache.specs.Orders.{preference_laws};
+    ghost use Rattle.fleet_cache.specs.Cut.{is_hidden};
+    ghost use Rattle.fleet_cache.specs.Orders.{cut_laws};
 
     ghost order = { preference };
 
     ghost dominates = { is_over };
 
-    ghost hidden = { has_ended };
+    ghost hidden = { is_hidden };
 
     fn order(&self, other: &Self) -> Ordering {
         self.observation.cmp(&other.observation)
@@ -97,9 +106,9 @@ impl<A: Allocator> Ranked for Item<A> {
         is_over(&self.observation, &other.observation)
     }
 
-    fn hidden(&self, cut: &Moment) -> bool {
-        self.observation.expires() <= cut.value()
+    fn hidden(&self, cut: &Cut) -> bool {
+        cut.hides(&self.observation)
     }
 
-    ghost laws = { preference_laws };
+    ghost laws = { cut_laws };
 }

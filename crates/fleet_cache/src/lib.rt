@@ -5,13 +5,15 @@
 //! dominates. Neither the order in which they arrived counts, nor how often, nor by which calls.
 #![tactic(auto)]
 
+mod admit;
 mod answer;
 mod cache;
-mod denied;
+mod cut;
 mod item;
 mod items;
 mod laws;
 mod lookup;
+mod noted;
 mod shown;
 mod store;
 mod sweep;

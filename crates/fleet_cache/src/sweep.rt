@@ -5,6 +5,7 @@ ghost use Rattle.fleet_cache.specs.Cached.{IsCovered};
 ghost use Rattle.fleet_cache.specs.Slots.{items_of, IsLaid};
 ghost use Rattle.fleet_cache.specs.Swept.{IsSwept};
 
+use crate::cut::Cut;
 use crate::store::{Fronts, Key, covers};
 use crate::words::MOST_WORDS;
 use fleet_observe::{Moment, Observation};
@@ -89,7 +90,7 @@ fn trim<A: Allocator>(fronts: &mut Fronts<A>, key: &Key<A>, moment: Moment)
     let Some(front) = fronts.get_mut(key) else {
         return;
     };
-    front.drop_hidden(&moment);
+    front.drop_hidden(&Cut::at(moment));
     if front.items().is_empty() {
         fronts.remove(key);
     }

@@ -165,6 +165,7 @@ module _ (stamp : ℕ) (stamped : stamp ≤ LATEST) where
     };
     no_data = λ e. absurd (omega (arith, ap kind_number e));
     name_error = λ e. absurd (omega (arith, ap kind_number e));
+    flush = λ e. absurd (omega (arith, ap kind_number e));
   }
     where
       some_life : (n : ℕ) → ¬ (n ≡ 0) → 1 ≤ n
@@ -211,6 +212,7 @@ module _ (stamp : ℕ) (stamped : stamp ≤ LATEST) where
           typed,
         );
         name_error = λ e. absurd (omega (arith, ap kind_number e));
+        flush = λ e. absurd (omega (arith, ap kind_number e));
       })
 
   name_error_lawful : (n : List (List ℕ)) (rank : ℕ) (soa : Option SoaData) → IsName n
@@ -243,6 +245,7 @@ module _ (stamp : ℕ) (stamped : stamp ≤ LATEST) where
           },
           refl,
         );
+        flush = λ e. absurd (omega (arith, ap kind_number e));
       })
 
   answer_ranked : (aa : Bool) (q owner : List (List ℕ)) → IsRank (answer_rank aa q owner)

@@ -34,6 +34,7 @@ positive_lawful name rtype rank stamp life rdatas named early made = record {
   };
   no_data = λ k. absurd (omega (arith, ap kind_number k));
   name_error = λ k. absurd (omega (arith, ap kind_number k));
+  flush = λ k. absurd (omega (arith, ap kind_number k));
 }
 
 pub negative_lawful : (name : List (List ℕ)) (rtype : Option ℕ) (rank stamp life : ℕ)
@@ -68,6 +69,7 @@ negative_lawful name None rank stamp life owner rdata named early made = record 
     },
     refl,
   );
+  flush = λ k. absurd (omega (arith, ap kind_number k));
 }
 negative_lawful name (Some rtype) rank stamp life owner rdata named early made = record {
   named = named;
@@ -89,6 +91,7 @@ negative_lawful name (Some rtype) rank stamp life owner rdata named early made =
     made.typed,
   );
   name_error = λ k. absurd (omega (arith, ap kind_number k));
+  flush = λ k. absurd (omega (arith, ap kind_number k));
 }
 
 pub denied_negative : (rtype : Option ℕ) → IsNegativeKind (denied_kind rtype)

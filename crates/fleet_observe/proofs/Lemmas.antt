@@ -10,7 +10,7 @@ use Rattle.fleet_wire.specs.Number.{u16_octets}
 use Rattle.fleet_observe.specs.Observation.{ObservationData, expires, key_at, kind_number, IsRank, IsDenialRank}
 use Rattle.fleet_observe.specs.Preference.{name_cmp, preference, preference_total}
 use Rattle.fleet_observe.specs.declared.observation.kind.Kind.{Kind}
-use Rattle.fleet_observe.specs.declared.observation.kind.Kind.TheVariants.{NameError, NoData, Positive}
+use Rattle.fleet_observe.specs.declared.observation.kind.Kind.TheVariants.{NameError, NoData, Positive, Flush}
 
 -- what is equal one after the other is equal both times
 pub then_parts : (a b : Ordering) → ordering_then a b ≡ Equal → (a ≡ Equal) × (b ≡ Equal)
@@ -30,12 +30,19 @@ pub kind_exact : (k j : Kind) → kind_number k ≡ kind_number j → k ≡ j
 kind_exact NameError NameError e = refl
 kind_exact NameError NoData e = absurd (omega (arith, e))
 kind_exact NameError Positive e = absurd (omega (arith, e))
+kind_exact NameError Flush e = absurd (omega (arith, e))
 kind_exact NoData NameError e = absurd (omega (arith, e))
 kind_exact NoData NoData e = refl
 kind_exact NoData Positive e = absurd (omega (arith, e))
+kind_exact NoData Flush e = absurd (omega (arith, e))
 kind_exact Positive NameError e = absurd (omega (arith, e))
 kind_exact Positive NoData e = absurd (omega (arith, e))
 kind_exact Positive Positive e = refl
+kind_exact Positive Flush e = absurd (omega (arith, e))
+kind_exact Flush NameError e = absurd (omega (arith, e))
+kind_exact Flush NoData e = absurd (omega (arith, e))
+kind_exact Flush Positive e = absurd (omega (arith, e))
+kind_exact Flush Flush e = refl
 
 -- a key tells name, kind and type
 pub key_exact : (n m : List (List ℕ)) (k j : Kind) (r q : ℕ) → key_at n k r ≡ key_at m j q

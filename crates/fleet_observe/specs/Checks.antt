@@ -2,30 +2,35 @@
 use Rattle.std.specs.Prelude.{◌≡◌, ℕ, ◌<◌, List, Option, Some, None, unwrap_or}
 use Rattle.fleet_observe.specs.Body.{AreRdatas, IsDenial}
 use Rattle.fleet_wire.specs.declared.rtype.TheConstants.{CNAME}
+use Rattle.fleet_observe.specs.declared.rank.TheConstants.{ANSWER}
 use Rattle.fleet_observe.specs.Observation.{IsRank, IsDenialRank, IsLife, IsDataType}
 use Rattle.fleet_observe.specs.declared.bounds.TheConstants.{LONGEST_DENIAL, LONGEST_LIFE}
 use Rattle.fleet_observe.specs.declared.observation.fault.ObservationFault.{ObservationFault}
 use Rattle.fleet_observe.specs.declared.observation.fault.ObservationFault.TheVariants.{BadRank, BadLife, BadKind, BadBody}
 use Rattle.fleet_observe.specs.declared.observation.kind.Kind.{Kind}
-use Rattle.fleet_observe.specs.declared.observation.kind.Kind.TheVariants.{NameError, NoData, Positive}
+use Rattle.fleet_observe.specs.declared.observation.kind.Kind.TheVariants.{NameError, NoData, Positive, Flush}
 
--- a rank that a kind has: 1, 2 or 3, and of a denial 1 or 3
+-- a rank that a kind has: 1, 2 or 3, of a denial 1 or 3, and of a flush 3
 abbrev pub IsRankOf : Kind → ℕ → Type 0
 IsRankOf Positive rank = IsRank rank
 IsRankOf NoData rank = IsDenialRank rank
 IsRankOf NameError rank = IsDenialRank rank
+IsRankOf Flush rank = rank ≡ ANSWER
 
--- a life that a kind has, in seconds: at most a day, and of a denial at most three hours
+-- a life that a kind has, in seconds: at most a day, of a denial at most three hours, and of a flush
+-- just a day
 abbrev pub IsLifeOf : Kind → ℕ → Type 0
 IsLifeOf Positive life = IsLife LONGEST_LIFE life
 IsLifeOf NoData life = IsLife LONGEST_DENIAL life
 IsLifeOf NameError life = IsLife LONGEST_DENIAL life
+IsLifeOf Flush life = life ≡ LONGEST_LIFE
 
--- a type that a kind has: a name error has none, the others one that data can have
+-- a type that a kind has: a name error and a flush have none, the others one that data can have
 abbrev pub IsTypeOf : Kind → ℕ → Type 0
 IsTypeOf Positive rtype = IsDataType rtype
 IsTypeOf NoData rtype = IsDataType rtype
 IsTypeOf NameError rtype = rtype ≡ 0
+IsTypeOf Flush rtype = rtype ≡ 0
 
 -- how many RDATAs a type has: at least one, and an alias one alone (RFC 2181 10.1)
 abbrev pub IsCountOf : ℕ → ℕ → Type 0

@@ -1,5 +1,5 @@
 -- An observation as plain data.
-use Rattle.std.specs.Prelude.{◌≡◌, ◌≢◌, ℕ, ◌+◌, ◌<◌, ◌≤◌, ◌⊎◌, List, ◌∷◌, ◌++◌}
+use Rattle.std.specs.Prelude.{◌≡◌, ◌≢◌, ℕ, ◌+◌, ◌<◌, ◌≤◌, ◌⊎◌, List, [], ◌∷◌, ◌++◌}
 use Rattle.fleet_name.specs.Name.{wire, IsName}
 use Rattle.fleet_wire.specs.Number.{u16_octets}
 use Rattle.fleet_observe.specs.Members.{Has}
@@ -7,7 +7,7 @@ use Rattle.fleet_observe.specs.Body.{IsPositiveBody, IsNegativeBody}
 use Rattle.fleet_observe.specs.declared.rank.TheConstants.{OTHER, ANSWER}
 use Rattle.fleet_observe.specs.declared.bounds.TheConstants.{LATEST, LONGEST_DENIAL, LONGEST_LIFE}
 use Rattle.fleet_observe.specs.declared.observation.kind.Kind.{Kind}
-use Rattle.fleet_observe.specs.declared.observation.kind.Kind.TheVariants.{NameError, NoData, Positive}
+use Rattle.fleet_observe.specs.declared.observation.kind.Kind.TheVariants.{NameError, NoData, Positive, Flush}
 
 -- what was observed of a name: the kind, the name as its labels, the type, the body's octets, the
 -- rank, the moment and the life in seconds
@@ -25,6 +25,7 @@ abbrev pub kind_number : Kind → ℕ
 kind_number NameError = 1
 kind_number NoData = 2
 kind_number Positive = 3
+kind_number Flush = 4
 
 -- a kind that denies: a name error or no data
 abbrev pub IsNegativeKind : Kind → Type 0
@@ -76,6 +77,26 @@ pub record IsNegative (o : ObservationData) : Type 0 where
   pub life : IsLife LONGEST_DENIAL o.life
   pub body : IsNegativeBody o.name o.body
 
+-- what a flush is besides: it has the greatest rank and the longest life, and an empty body
+pub record IsFlush (o : ObservationData) : Type 0 where
+  pub rank : o.rank ≡ ANSWER
+  pub life : o.life ≡ LONGEST_LIFE
+  pub untyped : o.rtype ≡ 0
+  pub body : o.body ≡ []
+
+-- the flush of a name at a moment: what was observed of the name, and of those below it, up to the
+-- moment is withdrawn
+abbrev pub flush_at : List (List ℕ) → ℕ → ObservationData
+flush_at name stamp = record {
+  kind = Flush;
+  name = name;
+  rtype = 0;
+  body = [];
+  rank = ANSWER;
+  stamp = stamp;
+  life = LONGEST_LIFE;
+}
+
 -- what every observation of a program is
 pub record IsObservation (o : ObservationData) : Type 0 where
   pub named : IsName o.name
@@ -85,6 +106,7 @@ pub record IsObservation (o : ObservationData) : Type 0 where
   pub positive : o.kind ≡ Positive → IsPositive o
   pub no_data : o.kind ≡ NoData → IsNegative o × IsDataType o.rtype
   pub name_error : o.kind ≡ NameError → IsNegative o × (o.rtype ≡ 0)
+  pub flush : o.kind ≡ Flush → IsFlush o
 
 -- every member is what an observation is
 abbrev pub AreObservations : List ObservationData → Type 0

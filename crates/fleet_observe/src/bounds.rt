@@ -1,6 +1,6 @@
 //! The bounds of what is observed.
 
-/// The longest life, and the greatest TTL as it is read, in seconds: a day.
+/// The longest life, and the greatest TTL as it is read, in seconds: a day. A flush has it.
 pub const LONGEST_LIFE: u32 = 86400;
 
 /// The longest life of a denial, in seconds: three hours (RFC 2308 5).

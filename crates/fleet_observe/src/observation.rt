@@ -2,7 +2,7 @@
 
 ghost use Rattle.std.specs.Prelude.{◌≡◌, ◌≢◌, ℕ, ◌+◌, ◌≤◌, [], ◌++◌, length, MatchOption, MatchResult, IfOk, OnOk, IfSome};
 ghost use Rattle.fleet_observe.specs.Body.{positive_body, negative_body, AreRdatas, IsDenial};
-ghost use Rattle.fleet_observe.specs.Observation.{expires as end_of, IsNegativeKind, IsObservation};
+ghost use Rattle.fleet_observe.specs.Observation.{expires as end_of, flush_at, IsNegativeKind, IsObservation};
 ghost use Rattle.fleet_observe.specs.Checks.{denied_kind, denied_type, MakesPositive, IsPositiveFault, MakesNegative, IsNegativeFault};
 ghost use Rattle.fleet_observe.specs.declared.bounds.TheConstants.{LONGEST_BODY};
 ghost use Rattle.fleet_observe.specs.declared.observation.kind.Kind.TheVariants.{Positive};
@@ -24,6 +24,7 @@ use crate::observation::soa::Soa;
 use crate::observation::values::{
     are_rdatas, is_data_type, is_denial, is_denial_rank, is_denied_type, is_life, is_rank,
 };
+use crate::rank::ANSWER;
 use fleet_name::{Name, Octets};
 use std::alloc::{AllocError, Allocator, Global};
 use std::marker::Model;
@@ -160,6 +161,26 @@ impl<A: Allocator> Observation<A> {
         })
     }
 
+    /// That what was observed of a name, and of those below it, up to a moment is withdrawn. It has
+    /// the greatest rank and the longest life, so that it outlives all that it withdraws, and an
+    /// empty body. This takes no memory.
+    pub fn flush(name: Name<A>, stamp: Moment) -> Observation<A>
+        ensures { result ≡ flush_at name stamp }
+    {
+        // What the proof needs to know of the name and the moment.
+        prove!(!name.octets().is_empty());
+        prove!(stamp.value() <= LATEST);
+        Observation {
+            kind: Kind::Flush,
+            name,
+            rtype: 0,
+            rank: ANSWER,
+            stamp,
+            life: LONGEST_LIFE,
+            body: Body::Nothing,
+        }
+    }
+
     /// The name that was observed.
     pub fn name(&self) -> &Name<A>
         ensures value { result.now ≡ self.now.name }
@@ -176,7 +197,7 @@ impl<A: Allocator> Observation<A> {
         self.kind
     }
 
-    /// The type of the data that are there or not there, 0 for a name error.
+    /// The type of the data that are there or not there, 0 for a name error and a flush.
     pub fn rtype(&self) -> u16
         ensures value { result ≡ self.now.rtype }
         ensures lawful { IsObservation self.now }
@@ -226,13 +247,13 @@ impl<A: Allocator> Observation<A> {
         match &self.body {
             Body::Records(rdatas) => rdatas,
             Body::Authority(..) => &[],
+            Body::Nothing => &[],
         }
     }
 
-    /// The owner and the RDATA of the SOA that a negative observation rests on; `None` of a
-    /// positive one.
+    /// The owner and the RDATA of the SOA that a negative observation rests on; `None` of another.
     pub fn soa(&self) -> Option<(&Name<A>, &[u8])>
-        ensures cases { MatchOption result (self.now.kind ≡ Positive)
+        ensures cases { MatchOption result (¬ IsNegativeKind self.now.kind)
             (λ p. IsNegativeKind self.now.kind) }
         ensures body { IfSome result (λ p. self.now.body ≡ negative_body p.0.now p.1.now) }
         ensures denial { IfSome result (λ p. IsDenial self.now.name p.0.now p.1.now) }
@@ -241,6 +262,7 @@ impl<A: Allocator> Observation<A> {
         match &self.body {
             Body::Records(_) => None,
             Body::Authority(owner, rdata) => Some((owner, rdata.as_slice())),
+            Body::Nothing => None,
         }
     }
 
@@ -261,8 +283,8 @@ impl<A: Allocator> Observation<A> {
     }
 
     /// The octets of its body, of a positive observation the RDATAs: their count, then each behind
-    /// its length; of a negative one the SOA: its owner in full, then its RDATA behind its length.
-    /// Counts and lengths have two octets, the high one first.
+    /// its length; of a negative one the SOA: its owner in full, then its RDATA behind its length;
+    /// of a flush none. Counts and lengths have two octets, the high one first.
     pub fn write_body<B: Allocator>(&self, alloc: B) -> Result<Vec<u8, B>, AllocError>
         ensures { IfOk result (λ v. v.items ≡ self.now.body) }
     {

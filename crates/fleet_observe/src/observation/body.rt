@@ -15,6 +15,8 @@ pub(crate) enum Body<A: Allocator> {
     Records(Vec<Octets<A>, A>),
     /// The SOA of a negative one: its owner and its RDATA.
     Authority(Name<A>, Octets<A>),
+    /// Those of a flush: none.
+    Nothing,
 }
 
 impl<A: Allocator> Body<A> {
@@ -28,6 +30,7 @@ impl<A: Allocator> Body<A> {
         match self {
             Body::Records(rdatas) => rdatas_len(rdatas),
             Body::Authority(owner, rdata) => owner.octets().len() + 2 + rdata.as_slice().len(),
+            Body::Nothing => 0,
         }
     }
 
@@ -42,6 +45,7 @@ impl<A: Allocator> Body<A> {
                 octets.extend_from_slice(owner.octets())?;
                 push_sized(octets, rdata.as_slice())
             }
+            Body::Nothing => Ok(()),
         }
     }
 
@@ -61,6 +65,7 @@ impl<A: Allocator> Body<A> {
                 let rdata = rdata.try_clone()?;
                 Ok(Body::Authority(owner, rdata))
             }
+            Body::Nothing => Ok(Body::Nothing),
         }
     }
 }

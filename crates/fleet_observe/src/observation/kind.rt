@@ -11,6 +11,8 @@ pub enum Kind {
     NoData = 2,
     /// 3: the name has these data of the type.
     Positive = 3,
+    /// 4: what was observed of the name, and of those below it, up to the moment is withdrawn.
+    Flush = 4,
 }
 
 impl Kind {

@@ -84,7 +84,7 @@ pub(crate) fn are_short<A: Allocator>(rdatas: &[Octets<A>]) -> bool
 }
 
 /// Whether an observation of the kind can have the rank: 1, 2 or 3 where it is positive, 1 or 3
-/// where it is a denial.
+/// where it is a denial, 3 where it is a flush.
 pub fn is_rank_of(kind: Kind, rank: u8) -> bool
     ensures { IsTrue result ↔ IsRankOf kind rank }
 {
@@ -92,11 +92,12 @@ pub fn is_rank_of(kind: Kind, rank: u8) -> bool
         Kind::Positive => is_rank(rank),
         Kind::NoData => is_denial_rank(rank),
         Kind::NameError => is_denial_rank(rank),
+        Kind::Flush => rank == ANSWER,
     }
 }
 
 /// Whether an observation of the kind can have the life, in seconds: at least one, and no more
-/// than `LONGEST_LIFE`, of a denial than `LONGEST_DENIAL`.
+/// than `LONGEST_LIFE`, of a denial than `LONGEST_DENIAL`; of a flush just `LONGEST_LIFE`.
 pub fn is_life_of(kind: Kind, life: u32) -> bool
     ensures { IsTrue result ↔ IsLifeOf kind life }
 {
@@ -104,11 +105,12 @@ pub fn is_life_of(kind: Kind, life: u32) -> bool
         Kind::Positive => is_life(LONGEST_LIFE, life),
         Kind::NoData => is_life(LONGEST_DENIAL, life),
         Kind::NameError => is_life(LONGEST_DENIAL, life),
+        Kind::Flush => life == LONGEST_LIFE,
     }
 }
 
-/// Whether an observation of the kind can have the type: 0 where it is a name error, else one that
-/// data can have.
+/// Whether an observation of the kind can have the type: 0 where it is a name error or a flush,
+/// else one that data can have.
 pub fn is_type_of(kind: Kind, rtype: u16) -> bool
     ensures { IsTrue result ↔ IsTypeOf kind rtype }
 {
@@ -116,6 +118,7 @@ pub fn is_type_of(kind: Kind, rtype: u16) -> bool
         Kind::Positive => is_data_type(rtype),
         Kind::NoData => is_data_type(rtype),
         Kind::NameError => rtype == 0,
+        Kind::Flush => rtype == 0,
     }
 }
 

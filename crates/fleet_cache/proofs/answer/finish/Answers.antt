@@ -1,5 +1,5 @@
 use Rattle.fleet_cache.specs.Shown.{shown_parts}
-use Rattle.fleet_cache.proofs.Follow.{finish_found, finish_no_data, finish_denied}
+use Rattle.fleet_cache.proofs.Follow.{finish_found, finish_no_data, finish_denied, finish_flush}
 use Rattle.fleet_cache.proofs.answer.finish.Goals as goal
 
 pub returns-in-Positive-clause-told : goal.returns-in-Positive-clause-told
@@ -15,3 +15,7 @@ returns-in-NoData-clause-told g c =
 pub returns-in-NameError-clause-told : goal.returns-in-NameError-clause-told
 returns-in-NameError-clause-told g c = rw (← c.last.view_is)
     (finish_denied (shown_parts c.args.chain.items) _ c.in-NameError.ensures.value)
+
+pub returns-in-Flush-clause-told : goal.returns-in-Flush-clause-told
+returns-in-Flush-clause-told g c = rw (← c.last.view_is)
+    (finish_flush (shown_parts c.args.chain.items) _ c.in-Flush.ensures.value)

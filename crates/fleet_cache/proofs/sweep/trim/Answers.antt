@@ -6,6 +6,7 @@ use Rattle.std.proofs.lemmas.List.{nil_from_length}
 use Rattle.fleet_observe.specs.Observation.{ObservationData}
 use Rattle.fleet_cache.specs.Front.{without_hidden}
 use Rattle.fleet_cache.specs.Live.{has_ended}
+use Rattle.fleet_cache.specs.Cut.{CutData, is_hidden}
 use Rattle.fleet_cache.specs.Slots.{is_nil}
 use Rattle.fleet_cache.proofs.Sweeps.{IsTrim, written, taken_out, trim_laid, trim_swept}
 use Rattle.fleet_cache.proofs.sweep.trim.Goals as goal
@@ -40,7 +41,7 @@ returns-then-is_empty-clause-laid g c =
     trim_laid (λ k. k.items) c.args.moment c.args.fronts.now.entries c.remove.new.self.entries
     (dropped (λ k. k.items) c.args.moment c.args.fronts.now.entries
     (c.get_mut.follows.lender c.drop_hidden.new.self).entries c.in-Some.front.now
-    c.drop_hidden.new.self _ c.in-Some.ensures.value c.drop_hidden.ensures.items
+    c.drop_hidden.new.self _ c.in-Some.ensures.value (c.drop_hidden.ensures.items ∙ ap (λ (k : CutData). without_hidden is_hidden k c.in-Some.front.now) c.at.ensures)
     (c.get_mut.follows.holds c.drop_hidden.new.self).0 c.remove.new.self.entries
     c.remove.ensures.entries none)
     c.requires
@@ -52,7 +53,7 @@ returns-then-is_empty-clause-swept g c =
     trim_swept (λ k. k.items) c.args.moment c.args.fronts.now.entries c.remove.new.self.entries
     (dropped (λ k. k.items) c.args.moment c.args.fronts.now.entries
     (c.get_mut.follows.lender c.drop_hidden.new.self).entries c.in-Some.front.now
-    c.drop_hidden.new.self _ c.in-Some.ensures.value c.drop_hidden.ensures.items
+    c.drop_hidden.new.self _ c.in-Some.ensures.value (c.drop_hidden.ensures.items ∙ ap (λ (k : CutData). without_hidden is_hidden k c.in-Some.front.now) c.at.ensures)
     (c.get_mut.follows.holds c.drop_hidden.new.self).0 c.remove.new.self.entries
     c.remove.ensures.entries none)
 
@@ -65,7 +66,7 @@ returns-else-is_empty-clause-laid g c =
     (c.get_mut.follows.lender c.drop_hidden.new.self).entries
     (kept (λ k. k.items) c.args.moment c.args.fronts.now.entries
     (c.get_mut.follows.lender c.drop_hidden.new.self).entries c.in-Some.front.now
-    c.drop_hidden.new.self _ c.in-Some.ensures.value c.drop_hidden.ensures.items
+    c.drop_hidden.new.self _ c.in-Some.ensures.value (c.drop_hidden.ensures.items ∙ ap (λ (k : CutData). without_hidden is_hidden k c.in-Some.front.now) c.at.ensures)
     (c.get_mut.follows.holds c.drop_hidden.new.self).0 some)
     c.requires
 
@@ -78,5 +79,5 @@ returns-else-is_empty-clause-swept g c =
     (c.get_mut.follows.lender c.drop_hidden.new.self).entries
     (kept (λ k. k.items) c.args.moment c.args.fronts.now.entries
     (c.get_mut.follows.lender c.drop_hidden.new.self).entries c.in-Some.front.now
-    c.drop_hidden.new.self _ c.in-Some.ensures.value c.drop_hidden.ensures.items
+    c.drop_hidden.new.self _ c.in-Some.ensures.value (c.drop_hidden.ensures.items ∙ ap (λ (k : CutData). without_hidden is_hidden k c.in-Some.front.now) c.at.ensures)
     (c.get_mut.follows.holds c.drop_hidden.new.self).0 some)

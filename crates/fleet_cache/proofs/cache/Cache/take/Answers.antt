@@ -1,66 +1,73 @@
-use Rattle.std.proofs.Common.{◌≡◌, ◌∷◌, Bool, true, false, Result, Ok, Err, IfOk, OnOk, sym, subst, arith}
-use Rattle.std.proofs.lemmas.Bool.Decides.{nat_tests}
+use Rattle.std.proofs.Common.{◌≡◌, ◌∷◌, Bool, true, false, ◌↔◌, Result, Ok, Err, IfOk, OnOk, IsTrue, inl, sym, subst, ◌∙◌, arith}
+use mathlib.Core.Bool.{false≢true}
 use Rattle.fleet_cache.specs.Front.{without_hidden}
 use Rattle.fleet_cache.specs.Live.{has_ended}
-use Rattle.fleet_cache.specs.Cached.{IsCached, IsNeedless}
+use Rattle.fleet_cache.specs.Cached.{CacheData, IsCached, IsPast, IsNeedless}
 use Rattle.fleet_cache.specs.Slots.{items_of}
-use Rattle.fleet_cache.proofs.Caches.{cached_ended, cached_needless, cached_taken, kept_put, needless_shown}
+use Rattle.fleet_cache.proofs.Caches.{cached_needless, needless_shown}
+use Rattle.fleet_cache.proofs.Admitted.{lasts, admitted_laid, admitted_kept, admitted_cached, admitted_size, admitted_of, admitted_needless}
 use Rattle.fleet_front.proofs.Lemmas.{on_err}
 use Rattle.fleet_cache.proofs.cache.Cache.take.Goals as goal
 
-pub returns-then-expires-value-clause-taken : goal.returns-then-expires-value-clause-taken
-returns-then-expires-value-clause-taken g c s cached =
-    let f = c.self.inside.floor in
-    let o = c.args.observation in
-    let ended : has_ended f o ≡ true = grind (
-      arith,
-      nat_tests,
-      c.expires.ensures.value,
-      c.value.ensures.value,
-      c.if-expires-value.true,
-    ) in
-    let old : IsCached s f (without_hidden has_ended f (items_of c.self.inside.fronts.entries)) =
-    subst (λ v. IsCached s v.floor v.items) (sym c.self.view_is) cached in
-    subst (λ v. IsCached (o ∷ s) v.floor v.items) c.self.view_is
-    (cached_ended s (without_hidden has_ended f (items_of c.self.inside.fronts.entries)) f o
-    c.expires.ensures.lawful old ended)
+pub returns-then-is_past-clause-taken : goal.returns-then-is_past-clause-taken
+returns-then-is_past-clause-taken g c s cached = cached_needless s c.args.self.now.items
+    c.args.self.now.floor c.args.observation c.is_past.ensures.lawful cached
+    (inl (c.is_past.ensures.past.0 c.if-is_past.true))
+
+-- what the test does not tell of
+not_told : {P Q : Type 0} (b : Bool) → IsTrue b ↔ P → b ≡ false → (Q → P) → ¬ Q
+not_told b test e into q = false≢true (sym e ∙ test.1 (into q))
 
 pub returns-clause-taken : goal.returns-clause-taken
 returns-clause-taken g c s cached =
     let i = c.self.inside in
     let o = c.args.observation in
     let items = items_of i.fronts.entries in
-    let live : has_ended i.floor o ≡ false = grind
-    (arith, nat_tests, c.expires.ensures.value, c.value.ensures.value, c.if-expires-value.false) in
-    let old : IsCached s i.floor (without_hidden has_ended i.floor items) =
-    subst (λ v. IsCached s v.floor v.items) (sym c.self.view_is) cached in
-    cached_taken s items (items_of c.store.new.fronts.entries) i.floor o c.expires.ensures.lawful
-    live old (c.in_ok-kept.ensures.put.taken items c.self.invariant.0.front)
+    let current : ¬ IsPast i.floor (without_hidden has_ended i.floor items) o =
+    not_told c.is_past.result c.is_past.ensures.past c.if-is_past.false
+    (λ p. subst (λ (v : CacheData). IsPast v.floor v.items o) c.self.view_is p) in
+    admitted_cached (λ k. k.items) i.fronts.entries c.admit.new.fronts.entries o c.in_ok-kept.kept
+    i.floor c.self.invariant.1 c.self.invariant.0 c.is_past.ensures.lawful current
+    c.in_ok-kept.ensures.admitted s
+    (subst (λ v. IsCached s v.floor v.items) (sym c.self.view_is) cached)
 
 pub returns-clause-kept : goal.returns-clause-kept
 returns-clause-kept g c =
     let i = c.self.inside in
     let o = c.args.observation in
-    let live : has_ended i.floor o ≡ false = grind
-    (arith, nat_tests, c.expires.ensures.value, c.value.ensures.value, c.if-expires-value.false) in
-    let put = c.in_ok-kept.ensures.put in
-    let there = needless_shown (items_of i.fronts.entries) i.floor o live in (
-      (λ e. subst (λ v. IsNeedless v.floor v.items o) c.self.view_is (there.0 (put.needless.0 e))),
-      λ n. put.needless.1 (there.1 (subst (λ v. IsNeedless v.floor v.items o) (sym c.self.view_is)
-          n)),
-    )
+    let items = items_of i.fronts.entries in
+    let current : ¬ IsPast i.floor (without_hidden has_ended i.floor items) o =
+    not_told c.is_past.result c.is_past.ensures.past c.if-is_past.false
+    (λ p. subst (λ (v : CacheData). IsPast v.floor v.items o) c.self.view_is p) in
+    subst (λ (v : CacheData). (c.in_ok-kept.kept ≡ false) ↔ IsNeedless v.floor v.items o)
+    c.self.view_is
+    (admitted_needless (λ k. k.items) i.fronts.entries c.admit.new.fronts.entries o
+    c.in_ok-kept.kept i.floor c.self.invariant.1 c.self.invariant.0 c.is_past.ensures.lawful current
+    c.in_ok-kept.ensures.admitted)
 
 pub invariant_of-self-2 : goal.invariant_of-self-2
 invariant_of-self-2 g c =
     let i = c.self.inside in
-    let items = items_of i.fronts.entries in
-    let put = c.in_ok-kept.ensures.put in (
-      kept_put items (items_of c.store.new.fronts.entries) c.args.observation c.self.invariant.0
-          c.expires.ensures.lawful (put.taken items c.self.invariant.0.front),
-      put.laid,
-      omega (arith, put.size, c.self.invariant.2),
-      λ o h. c.note.ensures items c.self.invariant.3 o
-          ((put.taken items c.self.invariant.0.front).of_set o h),
+    let o = c.args.observation in
+    let es = i.fronts.entries in
+    let items = items_of es in
+    let current : ¬ IsPast i.floor (without_hidden has_ended i.floor items) o =
+    not_told c.is_past.result c.is_past.ensures.past c.if-is_past.false
+    (λ p. subst (λ (v : CacheData). IsPast v.floor v.items o) c.self.view_is p) in
+    let new = c.admit.new.fronts.entries in
+    let kept = c.in_ok-kept.kept in
+    let laid = c.self.invariant.1 in
+    let own = c.self.invariant.0 in
+    let one = c.is_past.ensures.lawful in
+    let is = c.in_ok-kept.ensures.admitted in
+    let size = admitted_size (λ k. k.items) es new o kept i.floor laid own one current is in (
+      admitted_kept (λ k. k.items) es new o kept i.floor laid own one current is,
+      admitted_laid (λ k. k.items) es new o kept i.floor laid own one current is,
+      omega (arith, size, c.self.invariant.2),
+      λ y h. c.note.ensures items c.self.invariant.3 y
+          (admitted_of (λ k. k.items) es new o kept i.floor laid own one current is y h),
+      λ y h. c.note-2.ensures items c.self.invariant.4 y
+          (admitted_of (λ k. k.items) es new o kept i.floor laid own one current is y h),
     )
 
 -- what is told of a value holds where there is one
@@ -73,26 +80,32 @@ pub returns-then-self-clause-taken : goal.returns-then-self-clause-taken
 returns-then-self-clause-taken g c s cached =
     on_ok_from c.take_uncounted.result c.take_uncounted.ensures.needless
     (λ needless. cached_needless s c.args.self.now.items c.args.self.now.floor
-    c.args.observation c.expires.ensures.lawful cached needless)
+    c.args.observation c.is_past.ensures.lawful cached needless)
 
 pub returns-in_err-kept-clause-memory : goal.returns-in_err-kept-clause-memory
 returns-in_err-kept-clause-memory g c =
     let i = c.self.inside in
     let o = c.args.observation in
-    let live : has_ended i.floor o ≡ false = grind
-    (arith, nat_tests, c.expires.ensures.value, c.value.ensures.value, c.if-expires-value.false) in
+    let items = items_of i.fronts.entries in
+    let current : ¬ IsPast i.floor (without_hidden has_ended i.floor items) o =
+    not_told c.is_past.result c.is_past.ensures.past c.if-is_past.false
+    (λ p. subst (λ (v : CacheData). IsPast v.floor v.items o) c.self.view_is p) in
+    let live = lasts i.floor items o c.self.invariant.0 c.is_past.ensures.lawful current in
     let needed : ¬ IsNeedless c.args.self.now.floor c.args.self.now.items o =
-    λ n. c.in_err-kept.ensures.memory ((needless_shown (items_of i.fronts.entries) i.floor o live).1
-    (subst (λ v. IsNeedless v.floor v.items o) (sym c.self.view_is) n)) in
+    λ n. c.in_err-kept.ensures.memory ((needless_shown items i.floor o live current).1
+    (subst (λ (v : CacheData). IsNeedless v.floor v.items o) (sym c.self.view_is) n)) in
     on_err _ needed
 
 pub returns-in_err-make_room-clause-memory : goal.returns-in_err-make_room-clause-memory
 returns-in_err-make_room-clause-memory g c =
     let i = c.self.inside in
     let o = c.args.observation in
-    let live : has_ended i.floor o ≡ false = grind
-    (arith, nat_tests, c.expires.ensures.value, c.value.ensures.value, c.if-expires-value.false) in
+    let items = items_of i.fronts.entries in
+    let current : ¬ IsPast i.floor (without_hidden has_ended i.floor items) o =
+    not_told c.is_past.result c.is_past.ensures.past c.if-is_past.false
+    (λ p. subst (λ (v : CacheData). IsPast v.floor v.items o) c.self.view_is p) in
+    let live = lasts i.floor items o c.self.invariant.0 c.is_past.ensures.lawful current in
     let needed : ¬ IsNeedless c.args.self.now.floor c.args.self.now.items o =
-    λ n. c.in_err-make_room.ensures.memory ((needless_shown (items_of i.fronts.entries) i.floor o
-    live).1 (subst (λ v. IsNeedless v.floor v.items o) (sym c.self.view_is) n)) in
+    λ n. c.in_err-make_room.ensures.memory ((needless_shown items i.floor o live current).1
+    (subst (λ (v : CacheData). IsNeedless v.floor v.items o) (sym c.self.view_is) n)) in
     on_err _ needed

@@ -1,8 +1,9 @@
-//! Where name errors may stand.
+//! Where observations may stand that speak of the names below theirs.
 
 ghost use Rattle.std.specs.Prelude.{◌≡◌, ◌≤◌, false, List, [], ◌∷◌, get_or, length};
 ghost use Rattle.fleet_name.specs.declared.bounds.TheConstants.{LONGEST_NAME};
 ghost use Rattle.fleet_observe.specs.Observation.{ObservationData};
+ghost use Rattle.fleet_observe.specs.declared.observation.kind.Kind.{Kind};
 ghost use Rattle.fleet_cache.specs.Noted.{AreNoted};
 
 use fleet_name::bounds::LONGEST_NAME;
@@ -13,15 +14,15 @@ use std::marker::Model;
 /// How many lengths a name may have, in octets: 0 to `LONGEST_NAME`.
 const LENGTHS: usize = LONGEST_NAME + 1;
 
-/// How many octets the names have of which name errors were taken in: where none was noted of a
-/// length, no name of that length need be looked up for one. A length stays noted when its name
-/// errors have gone.
+/// How many octets the names have of which observations of a kind were taken in: where none was
+/// noted of a length, no name of that length need be looked up for one. A length stays noted when
+/// its observations have gone.
 #[derive(Drop)]
-pub(crate) struct Denied {
+pub(crate) struct Noted {
     lengths: [bool; LENGTHS],
 }
 
-impl Model for Denied {
+impl Model for Noted {
     ghost use Rattle.std.specs.Prelude.{List, Bool};
 
     ghost Value = { List Bool };
@@ -29,28 +30,28 @@ impl Model for Denied {
     ghost view = { λ d. d.lengths };
 }
 
-impl Denied {
+impl Noted {
     /// None was noted.
-    pub(crate) fn new() -> Denied
-        ensures { AreNoted result [] }
+    pub(crate) fn new() -> Noted
+        ensures { (kind : Kind) → AreNoted kind result [] }
     {
-        Denied {
+        Noted {
             lengths: [false; LENGTHS],
         }
     }
 
-    /// Notes an observation, if it is a name error.
-    pub(crate) fn note<A: Allocator>(&mut self, observation: &Observation<A>)
-        ensures { (items : List ObservationData) → AreNoted self.old items
-            → AreNoted self.new (observation.now ∷ items) }
+    /// Notes an observation, if it is of the kind.
+    pub(crate) fn note<A: Allocator>(&mut self, kind: Kind, observation: &Observation<A>)
+        ensures { (items : List ObservationData) → AreNoted kind self.old items
+            → AreNoted kind self.new (observation.now ∷ items) }
     {
-        if observation.kind() == Kind::NameError {
+        if observation.kind() == kind {
             self.lengths[observation.name().octets().len()] = true;
         }
     }
 
-    /// Whether a name error was noted of a name of as many octets.
-    pub(crate) fn may_deny(&self, name: &[u8]) -> bool
+    /// Whether an observation was noted of a name of as many octets.
+    pub(crate) fn may_stand(&self, name: &[u8]) -> bool
         requires { length name.now ≤ LONGEST_NAME }
         ensures { result ≡ get_or self.now (length name.now) false }
     {

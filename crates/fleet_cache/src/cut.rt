@@ -1,0 +1,56 @@
+//! What hides observations of a name.
+
+ghost use Rattle.std.specs.Prelude.{◌≡◌, None, Some};
+ghost use Rattle.fleet_cache.specs.Cut.{is_flushed, is_hidden as is_hidden_by};
+
+use fleet_observe::{Kind, Moment, Observation};
+use std::alloc::Allocator;
+use std::marker::Model;
+
+/// What hides observations of a name: a moment by which they have ended, and the greatest stamp of
+/// the flushes of the name and of those above it, if there are any.
+#[derive(Drop)]
+pub(crate) struct Cut {
+    pub(crate) moment: Moment,
+    pub(crate) flushed: Option<Moment>,
+}
+
+impl Model for Cut {
+    ghost use Rattle.fleet_cache.specs.Cut.{CutData};
+
+    ghost Value = { CutData };
+
+    ghost view = { λ c. record { moment = c.moment; flushed = c.flushed } };
+}
+
+impl Cut {
+    /// What has ended by a moment.
+    pub(crate) fn at(moment: Moment) -> Cut
+        ensures { result ≡ record { moment = moment; flushed = None } }
+    {
+        Cut {
+            moment,
+            flushed: None,
+        }
+    }
+
+    /// Whether it hides an observation.
+    pub(crate) fn hides<A: Allocator>(&self, observation: &Observation<A>) -> bool
+        ensures { result ≡ is_hidden_by self.now observation.now }
+    {
+        is_withdrawn(self.flushed, observation) || observation.expires() <= self.moment.value()
+    }
+}
+
+/// Whether an observation is no flush, and not stamped after this.
+fn is_withdrawn<A: Allocator>(flushed: Option<Moment>, observation: &Observation<A>) -> bool
+    ensures { result ≡ is_flushed flushed observation.now }
+{
+    let Some(stamp) = flushed else {
+        return false;
+    };
+    match observation.kind() {
+        Kind::Flush => false,
+        _ => observation.stamp().value() <= stamp.value(),
+    }
+}
