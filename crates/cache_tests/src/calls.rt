@@ -1,7 +1,7 @@
 //! Calls of caches, a row each.
 
 use crate::observations::{
-    denial_in, moment_of, push_name, push_observation, question_of, record_in,
+    denial_in, flush_in, moment_of, push_name, push_observation, question_of, record_in,
 };
 use crate::rows::{Row, Words, check_told, is_row, push_octets, read_row};
 use fleet_cache::{Answer, Cache, Chain, Shown};
@@ -135,6 +135,17 @@ fn take_denial(
     Ok(write!(told, "{is_new}")?)
 }
 
+/// Whether the cache takes a flush.
+fn take_flush(
+    caches: &mut Caches<'_>,
+    mut words: Words<'_>,
+    told: &mut String,
+) -> Result<(), Fail> {
+    let observation = flush_in(caches.heap, &mut words)?;
+    let is_new = caches.ours.take(observation)?;
+    Ok(write!(told, "{is_new}")?)
+}
+
 /// The records of words, one after the other.
 fn records_in<'a>(
     heap: &'a LocalHeap,
@@ -260,6 +271,7 @@ fn tell(
     match call {
         "take" => take_record(caches, words, told),
         "deny" => take_denial(caches, words, told),
+        "flush" => take_flush(caches, words, told),
         "list" => take_records(caches, words, told),
         "frame" => take_frame(caches, words, told),
         "purge" => purge(caches, words, told),

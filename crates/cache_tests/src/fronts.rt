@@ -2,7 +2,7 @@
 
 use crate::observations::{moment_of, record_in};
 use crate::rows::{Row, Words, check_told, is_row, read_row};
-use fleet_cache::Item;
+use fleet_cache::{Cut, Item};
 use fleet_front::Front;
 use std::alloc::Global;
 use std::process::Abort;
@@ -25,6 +25,16 @@ fn push_ranks(told: &mut String, front: &Front<Item>) -> Result<(), Fail> {
     Ok(())
 }
 
+/// A cut: its moment, and the stamp of the flush above, if there is one.
+fn cut_in(words: &mut Words<'_>) -> Result<Cut, Fail> {
+    let moment = moment_of(words.word())?;
+    if words.is_empty() {
+        return Ok(Cut::at(moment));
+    }
+    let flushed = Some(moment_of(words.word())?);
+    Ok(Cut { moment, flushed })
+}
+
 /// Adds what a call tells.
 fn tell(
     alloc: Global,
@@ -39,9 +49,9 @@ fn tell(
             let is_new = front.take(item)?;
             Ok(write!(told, "{is_new}")?)
         }
-        "first" => push_rank(told, front.first_shown(&moment_of(words.word())?)),
+        "first" => push_rank(told, front.first_shown(&cut_in(&mut words)?)),
         "drop" => {
-            front.drop_hidden(&moment_of(words.word())?);
+            front.drop_hidden(&cut_in(&mut words)?);
             push_ranks(told, front)
         }
         "ranks" => push_ranks(told, front),
@@ -103,4 +113,17 @@ first 499 => 1
 first 500 => none
 drop 400 => 1";
     check_calls(&rt, rt.alloc(), preferred_last)
+}
+
+#[test]
+fn a_cut_hides_what_was_stamped_up_to_a_flush(rt: HostRuntime) -> Result<(), Fail> {
+    let rows = "
+take example.com 1 3 100 300 c0000201 => true
+take example.com 1 1 200 300 c0000202 => true
+first 110 99 => 3
+first 110 100 => 1
+first 110 199 => 1
+first 110 200 => none
+drop 110 100 => 1";
+    check_calls(&rt, rt.alloc(), rows)
 }

@@ -8,6 +8,8 @@ mod calls;
 #[cfg(test)]
 mod exchanges;
 #[cfg(test)]
+mod flushes;
+#[cfg(test)]
 mod frames;
 #[cfg(test)]
 mod fronts;

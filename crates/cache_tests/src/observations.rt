@@ -132,6 +132,16 @@ pub(crate) fn denial_in<A: Allocator + Copy>(
     Ok(Observation::negative(name, denied, rank, stamp, life, soa)?)
 }
 
+/// A flush: its name and its stamp.
+pub(crate) fn flush_in<A: Allocator + Copy>(
+    alloc: A,
+    words: &mut Words<'_>,
+) -> Result<Observation<A>, Fail> {
+    let name = name_of(alloc, words.word())?;
+    let stamp = moment_of(words.word())?;
+    Ok(Observation::flush(name, stamp))
+}
+
 /// Adds numbers, each behind a space.
 fn push_numbers(told: &mut String, numbers: &[u64]) -> Result<(), Fail> {
     for number in numbers {
@@ -156,6 +166,7 @@ fn kind_text(kind: Kind) -> &'static str {
         Kind::Positive => "Positive",
         Kind::NoData => "NoData",
         Kind::NameError => "NameError",
+        Kind::Flush => "Flush",
     }
 }
 

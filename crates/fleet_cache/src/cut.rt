@@ -10,9 +10,11 @@ use std::marker::Model;
 /// What hides observations of a name: a moment by which they have ended, and the greatest stamp of
 /// the flushes of the name and of those above it, if there are any.
 #[derive(Drop)]
-pub(crate) struct Cut {
-    pub(crate) moment: Moment,
-    pub(crate) flushed: Option<Moment>,
+pub struct Cut {
+    /// What has ended by then is hidden.
+    pub moment: Moment,
+    /// What is no flush and not stamped after this is hidden, if there is such a stamp.
+    pub flushed: Option<Moment>,
 }
 
 impl Model for Cut {
@@ -25,7 +27,7 @@ impl Model for Cut {
 
 impl Cut {
     /// What has ended by a moment.
-    pub(crate) fn at(moment: Moment) -> Cut
+    pub fn at(moment: Moment) -> Cut
         ensures { result ≡ record { moment = moment; flushed = None } }
     {
         Cut {
