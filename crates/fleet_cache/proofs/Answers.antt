@@ -1,5 +1,5 @@
 -- What the lookups find is what the definition takes.
-use Rattle.std.proofs.Common.{ℕ, zero, suc, ◌≡◌, ◌≤◌, true, false, ◌&&◌, ◌||◌, not, nat_eq, List, [], ◌∷◌, ◌++◌, inl, inr, Option, Some, None, sym, ap, refl, ◌∙◌, arith}
+use Rattle.std.proofs.Common.{ℕ, zero, suc, ◌≡◌, ◌≤◌, Bool, true, false, ◌&&◌, ◌||◌, not, nat_eq, List, [], ◌∷◌, ◌++◌, inl, inr, Option, Some, None, sym, ap, refl, ◌∙◌, arith}
 use Rattle.std.specs.Ordering.{is_eq}
 use Rattle.std.proofs.lemmas.Cmp.{tied_itself, nat_list_cmp_total}
 use Rattle.std.proofs.lemmas.Map.Lookups.{exact_bytes}
@@ -9,7 +9,8 @@ use Rattle.fleet_name.specs.Name.{wire, IsUnder}
 use Rattle.fleet_wire.specs.declared.rtype.TheConstants.{CNAME}
 use Rattle.fleet_observe.specs.declared.observation.kind.Kind.{Kind}
 use Rattle.fleet_observe.specs.declared.observation.kind.Kind.TheVariants.{NameError, NoData as WithoutData, Positive, Flush}
-use Rattle.fleet_observe.specs.Observation.{ObservationData, IsObservation, key_of}
+use Rattle.fleet_observe.specs.Members.{Has}
+use Rattle.fleet_observe.specs.Observation.{ObservationData, IsObservation, AreObservations, key_of}
 use Rattle.fleet_cache.specs.Void.{is_void}
 use Rattle.fleet_cache.specs.Live.{has_ended, is_live}
 use Rattle.fleet_cache.specs.Relevant.{is_name, is_under, is_relevant, speaks_of}
@@ -18,7 +19,6 @@ use Rattle.fleet_cache.specs.Best.{IsBest, Speaks}
 use Rattle.fleet_cache.specs.Answer.{ShownData, AnswerData, Missed, Found, NoData, NxDomain, add_link, by_kind, is_link, target, decider, answer_by, answer_within, add_links, part_at}
 use Rattle.fleet_cache.proofs.Best.{best_same, best_unique, best_filtered, best_kept}
 use Rattle.fleet_cache.proofs.Beats.{live_parts, live_to}
-use Rattle.fleet_cache.proofs.Caches.{item_of_set}
 use mathlib.Core.Bool.{false≢true}
 use Rattle.fleet_cache.proofs.Lawful.{name_error_type}
 use Rattle.fleet_cache.proofs.Under.{name_from, name_to, under_from, under_to}
@@ -27,30 +27,30 @@ use Rattle.fleet_name.proofs.Lemmas.{wire_exact, Has-filter}
 use Rattle.std.specs.Cmp.{Equal-is}
 use Rattle.fleet_observe.proofs.Lemmas.{key_exact}
 
-abbrev pub Matters : ℕ → List (List ℕ) → ℕ → ObservationData → Type 0
-Matters t n q o = (has_ended t o ≡ false) × (is_relevant n q o ≡ true)
+abbrev pub Matters : (ObservationData → Bool) → List (List ℕ) → ℕ → ObservationData → Type 0
+Matters lives n q o = (lives o ≡ true) × (is_relevant n q o ≡ true)
 
-pub matters_from : (t : ℕ) (n : List (List ℕ)) (q : ℕ) (o : ObservationData) → Speaks t n q o
-    → Matters t n q o
-matters_from t n q o (inl (inl on)) = (
+pub matters_from : (lives : ObservationData → Bool) (n : List (List ℕ)) (q : ℕ) (o : ObservationData) → Speaks lives n q o
+    → Matters lives n q o
+matters_from lives n q o (inl (inl on)) = (
   on.live,
   rw on.of_kind (and_from _ _ (name_to n o.name on.named) (or_left _ _ (eq-eqb _ _ on.of_type))),
 )
-matters_from t n q o (inl (inr on)) = (
+matters_from lives n q o (inl (inr on)) = (
   on.live,
   rw on.of_kind (and_from _ _ (name_to n o.name on.named) (or_right _ _ (eq-eqb _ _ on.of_type))),
 )
-matters_from t n q o (inr (inl on)) = (
+matters_from lives n q o (inr (inl on)) = (
   on.live,
   rw on.of_kind (and_from _ _ (name_to n o.name on.named) (eq-eqb _ _ on.of_type)),
 )
-matters_from t n q o (inr (inr d)) = (d.live, rw d.of_kind (under_to n o.name d.under.0 d.under.1))
+matters_from lives n q o (inr (inr d)) = (d.live, rw d.of_kind (under_to n o.name d.under.0 d.under.1))
 
-pub speaks_from : (t : ℕ) (n : List (List ℕ)) (q : ℕ) (o : ObservationData) → IsObservation o
-    → Matters t n q o → Speaks t n q o
-speaks_from t n q o lawful m = by_cases o.kind refl
+pub speaks_from : (lives : ObservationData → Bool) (n : List (List ℕ)) (q : ℕ) (o : ObservationData)
+    → IsObservation o → Matters lives n q o → Speaks lives n q o
+speaks_from lives n q o lawful m = by_cases o.kind refl
   where
-    by_cases : (k : Kind) → o.kind ≡ k → Speaks t n q o
+    by_cases : (k : Kind) → o.kind ≡ k → Speaks lives n q o
     by_cases Positive k =
         let both : speaks_of n q Positive o.name o.rtype ≡ true = rw k at m.1 in
         let b = and_parts (is_name n o.name) (nat_eq o.rtype q || nat_eq o.rtype CNAME) both in
@@ -99,17 +99,36 @@ relevant_by_key n q x y k e =
     let same : is_relevant n q x ≡ is_relevant n q y = cc in
     sym same ∙ e
 
+-- what is found of what is live decides
+pub decider_of_held : (items : List ObservationData) (t : ℕ) (n : List (List ℕ)) (q : ℕ)
+    (a : Option ObservationData) → AreObservations items
+    → IsBest (Speaks (is_live items t) n q) items a → a ≡ decider items t n q
+decider_of_held items t n q a lawful best =
+    let test = λ (o : ObservationData). is_live items t o && is_relevant n q o in
+    best_unique (λ o. test o ≡ true) items a _
+    (best_same (Speaks (is_live items t) n q) (λ o. test o ≡ true) items a
+    (λ o h k. let m = matters_from (is_live items t) n q o k in and_from _ _ m.0 m.1)
+    (λ o h k. speaks_from (is_live items t) n q o (lawful o h)
+    (and_parts (is_live items t o) (is_relevant n q o) k)) best)
+    (best_filtered test items)
+
+-- what decides of a cache's items decides of its set
 pub decider_of_cache : (s items : List ObservationData) (f t : ℕ) (n : List (List ℕ)) (q : ℕ)
-    (a : Option ObservationData) → f ≤ t → IsCached s f items → IsBest (Speaks t n q) items a
-    → a ≡ decider s t n q
-decider_of_cache s items f t n q a le cached best =
-    let one = best_same (Speaks t n q) (Matters t n q) items a
-    (λ o h k. matters_from t n q o k)
-    (λ o h k. speaks_from t n q o
-    (cached.lawful o (item_of_set s items f cached o h).0) k) best in
+    → f ≤ t → IsCached s f items → ((o : ObservationData) → Has items o → is_void items o ≡ false)
+    → decider items t n q ≡ decider s t n q
+decider_of_cache s items f t n q le cached spared =
+    let a = decider items t n q in
+    let one : IsBest (λ o. (has_ended t o ≡ false) × (is_relevant n q o ≡ true)) items a =
+    best_same (λ o. (is_live items t o && is_relevant n q o) ≡ true)
+    (λ o. (has_ended t o ≡ false) × (is_relevant n q o ≡ true)) items a
+    (λ o h k. let p = and_parts (is_live items t o) (is_relevant n q o) k
+    in ((live_parts items t o p.0).0, p.1))
+    (λ o h k. and_from _ _ (live_to items t o k.0 (spared o h)) k.1)
+    (best_filtered (λ o. is_live items t o && is_relevant n q o) items) in
     let two = best_kept (λ o. is_relevant n q o ≡ true) (relevant_by_key n q) s items f t le cached
     a one in
-    let three = best_same (λ o. Matters t n q o × (is_void s o ≡ false))
+    let three = best_same
+    (λ o. ((has_ended t o ≡ false) × (is_relevant n q o ≡ true)) × (is_void s o ≡ false))
     (λ o. (is_live s t o && is_relevant n q o) ≡ true) s a
     (λ o h k. and_from _ _ (live_to s t o k.0.0 k.1) k.0.1)
     (λ o h k. let p = and_parts (is_live s t o) (is_relevant n q o) k in

@@ -10,8 +10,7 @@ use Rattle.fleet_cache.specs.Front.{IsDescending, IsUndominated, IsFront, withou
 use Rattle.fleet_cache.specs.Live.{has_ended}
 use Rattle.fleet_cache.specs.Void.{IsVoid, voids, is_void}
 use Rattle.fleet_cache.specs.Dominates.{dominates}
-use Rattle.fleet_cache.specs.Cached.{place, CacheData, IsCached, IsKept, IsCovered, IsPast, IsNeedless, IsSameSet}
-use Rattle.fleet_cache.specs.Swept.{IsSwept}
+use Rattle.fleet_cache.specs.Cached.{place, CacheData, IsCached, IsCovered, IsPast, IsNeedless, IsSameSet}
 use Rattle.fleet_cache.proofs.Places.{place_laws}
 use Rattle.fleet_cache.proofs.Voids.{void_from, void_to, voids_from, voids_to, unvoided_to, unvoided_by, void_outlived, flush_stays, other_spares}
 use Rattle.fleet_cache.proofs.Beats.{beats, beats_cases, dominates_beats, outlasts_beats, beats_chain, beaten_hidden, beats_laws, beats_itself, beats_shown, shown_parts, shown_of, LivesIn, lives_in, cached_front, cached_from}
@@ -76,7 +75,7 @@ front_covered s items x c front = record {
           ∙ (ap (beats c.0) (sym same) ∙ far)))
     ]
 
-more_lawful : (s : List ObservationData) (x : ObservationData) → IsObservation x → AreObservations s
+pub more_lawful : (s : List ObservationData) (x : ObservationData) → IsObservation x → AreObservations s
     → AreObservations (x ∷ s)
 more_lawful s x one all o h = elim h [
   | inl same ↦ subst IsObservation same one
@@ -328,68 +327,8 @@ pub cached_more : (ys s items : List ObservationData) (f : ℕ) (x : Observation
 cached_more ys s items f x cached = cached_listed (x ∷ (ys ++ s)) ((ys ++ x ∷ []) ++ s) items f
     cached (more_same ys s x)
 
--- what is kept is the front of itself, by what beats too
-pub kept_front : (items : List ObservationData) → IsKept items → IsFront place beats items items
-kept_front items kept = record {
-  descending = kept.front.descending;
-  of_set = λ x h. h;
-  undominated = λ x h w m. elim (cases_Bool (beats w x)) [
-    | inr nay ↦ nay
-    | inl yea ↦ elim (beats_cases w x yea) [
-      | inl over ↦ absurd (false≢true (sym (kept.front.undominated x h w m) ∙ over))
-      | inr out ↦ absurd (false≢true
-          (sym (unvoided_by items x w (kept.unvoided x h) m) ∙ voids_to w x out.voids))
-    ]
-  ];
-  whole = λ x m free. m;
-}
-
--- and back
-pub front_kept : (items : List ObservationData) → AreObservations items
-    → IsFront place beats items items → IsKept items
-front_kept items lawful front = record {
-  lawful = lawful;
-  front = record {
-    descending = front.descending;
-    of_set = λ x h. h;
-    undominated = λ x h w m. elim (cases_Bool (dominates w x)) [
-      | inr nay ↦ nay
-      | inl over ↦ absurd
-          (false≢true (sym (front.undominated x h w m) ∙ dominates_beats w x over))
-    ];
-    whole = λ x m free. m;
-  };
-  unvoided = λ x h. unvoided_to items x (λ g k. elim (cases_Bool (voids g x)) [
-    | inr nay ↦ nay
-    | inl yea ↦
-        let v = voids_from g x yea in
-        let longer = void_outlived g x (lawful g k) (lawful x h) v in
-        absurd (false≢true (sym (front.undominated x h g k)
-        ∙ outlasts_beats g x (record { voids = v; outlives = longer })))
-  ]);
-}
-
--- what is shown of all that is kept is its cache
-pub kept_cached : (items : List ObservationData) (f : ℕ) → IsKept items
-    → IsCached items f (without_hidden has_ended f items)
-kept_cached items f kept = cached_from items (without_hidden has_ended f items) f kept.lawful
-    (beats_shown f items items (kept_front items kept))
-
--- it is the cache of its own set
-pub kept_itself : (items : List ObservationData) (f : ℕ) → IsKept items
-    → IsCached (without_hidden has_ended f items) f (without_hidden has_ended f items)
-kept_itself items f kept = cached_itself items (without_hidden has_ended f items) f
-    (kept_cached items f kept)
-
--- nothing had ended at the start of time
-pub kept_whole : (items : List ObservationData) → IsKept items → IsCached items 0 items
-kept_whole items kept = cached_from items items 0 kept.lawful
-    (subst (λ v. IsFront place beats v items)
-    (sym (all_shown 0 items (λ x h. let l = (kept.lawful x h).life.0
-    in grind (arith, nat_tests, l)))) (kept_front items kept))
-
 -- the last of a list, or the first
-last_first : (s : List ObservationData) (x : ObservationData) → IsSameSet (s ++ x ∷ []) (x ∷ s)
+pub last_first : (s : List ObservationData) (x : ObservationData) → IsSameSet (s ++ x ∷ []) (x ∷ s)
 last_first s x = record {
   into = λ z h. elim (has_either s (x ∷ []) z h) [
     | inl l ↦ inr l
@@ -399,103 +338,8 @@ last_first s x = record {
   back = λ z h. elim h [ inl e ↦ has_right s (x ∷ []) z (inl e) | inr m ↦ has_left s (x ∷ []) z m ];
 }
 
-first_last : (s : List ObservationData) (x : ObservationData) → IsSameSet (x ∷ s) (s ++ x ∷ [])
+pub first_last : (s : List ObservationData) (x : ObservationData) → IsSameSet (x ∷ s) (s ++ x ∷ [])
 first_last s x = record { into = (last_first s x).back; back = (last_first s x).into }
-
--- one more was taken up into what is kept: what is shown of it is the cache of the set with it
-pub cached_taken : (s items new : List ObservationData) (f : ℕ) (x : ObservationData)
-    → IsObservation x → has_ended f x ≡ false → IsCached s f (without_hidden has_ended f items)
-    → IsFront place beats (x ∷ items) new → IsCached (x ∷ s) f (without_hidden has_ended f new)
-cached_taken s items new f x one live cached front =
-    let held = without_hidden has_ended f items in
-    let whole : IsFront place beats (x ∷ held) (without_hidden has_ended f new) =
-    rw live at (beats_shown f (x ∷ items) new front) in
-    let small : IsCached (x ∷ held) f (without_hidden has_ended f new) =
-    cached_from (x ∷ held) (without_hidden has_ended f new) f
-    (more_lawful held x one (cached_itself s held f cached).lawful)
-    (rw live (subst (λ v. IsFront place beats (x ∷ v) (without_hidden has_ended f new))
-    (sym (all_live s held f cached)) whole)) in
-    let both = cached_both (x ∷ []) s held (without_hidden has_ended f new) f f (omega arith) cached
-    (cached_listed (x ∷ held) (held ++ x ∷ []) (without_hidden has_ended f new) f small
-    (first_last held x)) in
-    cached_listed (s ++ x ∷ []) (x ∷ s) (without_hidden has_ended f new) f both (last_first s x)
-
--- what has ended covers nothing that has not
-pub covered_shown : (items : List ObservationData) (f : ℕ) (x : ObservationData)
-    → has_ended f x ≡ false → IsCovered items x → IsCovered (without_hidden has_ended f items) x
-covered_shown items f x live c =
-    let seen : has_ended f c.0 ≡ false = elim (cases_Bool (has_ended f c.0)) [
-      | inr nay ↦ nay
-      | inl end ↦ absurd (false≢true (sym live
-          ∙ elim c.2 [
-            | inl same ↦ ap (has_ended f) (sym same) ∙ end
-            | inr over ↦
-                place_laws.hides_below f c.0 x end over
-          ]))
-    ] in
-    (c.0, shown_of items f c.0 c.1 seen, c.2)
-
--- nor does it withdraw it
-pub void_shown : (items : List ObservationData) (f : ℕ) (x : ObservationData)
-    → AreObservations items → IsObservation x → has_ended f x ≡ false
-    → IsVoid items x ↔ IsVoid (without_hidden has_ended f items) x
-void_shown items f x all one live = (
-  (λ v. let longer = void_outlived v.0 x (all v.0 v.1) one v.2 in
-      let seen : has_ended f v.0 ≡ false = grind (arith, nat_tests, longer, live) in
-      (v.0, shown_of items f v.0 v.1 seen, v.2)),
-  λ v. (v.0, (shown_parts items f v.0 v.1).0, v.2),
-)
-
--- what is not past need not be held just where what is kept covers it
-pub needless_shown : (items : List ObservationData) (f : ℕ) (x : ObservationData)
-    → has_ended f x ≡ false → ¬ IsPast f (without_hidden has_ended f items) x
-    → IsCovered items x ↔ IsNeedless f (without_hidden has_ended f items) x
-needless_shown items f x live current = (
-  (λ c. inr (covered_shown items f x live c)),
-  λ n. elim n [
-    | inl past ↦ absurd (current past)
-    | inr c ↦ (c.0, (shown_parts items f c.0 c.1).0, c.2)
-  ],
-)
-
--- with one more, it is kept
-pub kept_put : (items new : List ObservationData) (x : ObservationData) → IsKept items
-    → IsObservation x → IsFront place beats (x ∷ items) new → IsKept new
-kept_put items new x kept one front = front_kept new
-    (λ y h. more_lawful items x one kept.lawful y (front.of_set y h))
-    (beats_itself (x ∷ items) new front)
-
--- what is left of what is kept, in order, is kept
-pub kept_swept : (items rest : List ObservationData) (m : ℕ) → IsKept items
-    → IsDescending place rest → IsSwept m items rest → IsKept rest
-kept_swept items rest m kept order swept = record {
-  lawful = λ x h. kept.lawful x (swept.of_items x h);
-  front = record {
-    descending = order;
-    of_set = λ x h. h;
-    undominated = λ x h w k. kept.front.undominated x (swept.of_items x h) w (swept.of_items w k);
-    whole = λ x h free. h;
-  };
-  unvoided = λ x h. unvoided_to rest x (λ g k.
-      unvoided_by items x g (kept.unvoided x (swept.of_items x h)) (swept.of_items g k));
-}
-
--- the same set at a later floor, and some of what has ended by then dropped
-pub cached_swept : (s items rest : List ObservationData) (f m : ℕ) → f ≤ m → IsSwept m items rest
-    → IsCached s f (without_hidden has_ended f items)
-    → IsCached s m (without_hidden has_ended m rest)
-cached_swept s items rest f m le swept cached =
-    subst (IsCached s m) (shown_twice f m items le ∙ sym swept.shown_still)
-    (cached_purged s (without_hidden has_ended f items) f m le cached)
-
--- what is shown is no more than what is there
-pub shown_shorter : (m : ℕ) (s : List ObservationData) → length (without_hidden has_ended m s)
-    ≤ length s
-shown_shorter m [] = omega arith
-shown_shorter m (x ∷ s) = elim (cases_Bool (has_ended m x)) [
-  | inl e ↦ rw e (let n = shown_shorter m s in omega (arith, n))
-  | inr e ↦ rw e (let n = shown_shorter m s in omega (arith, n))
-]
 
 -- a cache took a list in, and its floor stayed
 pub record HasTaken (before after : CacheData) (list : List ObservationData) : Type 0 where

@@ -1,5 +1,5 @@
 -- How far the observations of a kind above a name were looked up.
-use Rattle.std.proofs.Common.{ℕ, ◌≡◌, true, false, List, inl, inr, Option, Some, None, get_or, sym, ap, refl, ◌∙◌, subst}
+use Rattle.std.proofs.Common.{ℕ, ◌≡◌, Bool, true, false, List, inl, inr, Option, Some, None, get_or, sym, ap, refl, ◌∙◌, subst}
 use Rattle.std.specs.Ordering.{is_gt}
 use Rattle.std.specs.declared.cmp.Ordering.TheVariants.{Greater}
 use Rattle.fleet_name.specs.Name.{wire, IsWire}
@@ -16,11 +16,11 @@ use Rattle.fleet_front.proofs.Lemmas.{greater_from}
 use Rattle.fleet_observe.proofs.Lemmas.{preferred_chain}
 
 -- of the best so far and the best above it, the better one is the best of all
-pub record IsClimbed (t : ℕ) (kind : Kind) (items : List ObservationData) (name at : List ℕ)
+pub record IsClimbed (lives : ObservationData → Bool) (kind : Kind) (items : List ObservationData) (name at : List ℕ)
     (best : Option ObservationData) : Type 0 where
   pub wired : IsWire at
   pub rest : (n : List (List ℕ)) → name ≡ wire n → (b : Option ObservationData)
-      → IsBest (IsAbove t kind wired.name) items b → IsBest (IsAbove t kind n) items (better_of best b)
+      → IsBest (IsAbove lives kind wired.name) items b → IsBest (IsAbove lives kind n) items (better_of best b)
 
 not_greater : (x z : ObservationData) → AtLeast x z → is_gt (preference z x) ≡ false
 not_greater x z least = elim (cases_Bool (is_gt (preference z x))) [
@@ -56,35 +56,35 @@ better_chain (Some x) (Some y) (Some z) = elim (cases_Bool (is_gt (preference y 
   ]
 ]
 
-module _ (t : ℕ) (kind : Kind) (items : List ObservationData) (name : List ℕ) where
-  pub starts : IsWire name → IsClimbed t kind items name name None
+module _ (lives : ObservationData → Bool) (kind : Kind) (items : List ObservationData) (name : List ℕ) where
+  pub starts : IsWire name → IsClimbed lives kind items name name None
   starts w = record {
     wired = w;
-    rest = λ n is b best. subst (λ v. IsBest (IsAbove t kind v) items b)
+    rest = λ n is b best. subst (λ v. IsBest (IsAbove lives kind v) items b)
         (wire_exact w.name n (sym w.whole ∙ is)) best;
   }
 
-  module _ (at : List ℕ) (best here : Option ObservationData) (way : IsClimbed t kind items name at best)
-      (found : (n : List (List ℕ)) → at ≡ wire n → IsBest (IsOn t n kind 0) items here) where
+  module _ (at : List ℕ) (best here : Option ObservationData) (way : IsClimbed lives kind items name at best)
+      (found : (n : List (List ℕ)) → at ≡ wire n → IsBest (IsOn lives n kind 0) items here) where
     -- at the root
     pub ends : get_or at 0 0 ≡ 0 → (n : List (List ℕ)) → name ≡ wire n
-        → IsBest (IsAbove t kind n) items (better_of best here)
+        → IsBest (IsAbove lives kind n) items (better_of best here)
     ends e n is =
         let root = root_read at way.wired e way.wired.name way.wired.whole in
-        way.rest n is here (subst (λ v. IsBest (IsAbove t kind v) items here) (sym root)
-        (above_root t kind items here (subst (λ v. IsBest (IsOn t v kind 0) items here) root
+        way.rest n is here (subst (λ v. IsBest (IsAbove lives kind v) items here) (sym root)
+        (above_root lives kind items here (subst (λ v. IsBest (IsOn lives v kind 0) items here) root
         (found way.wired.name way.wired.whole))))
 
     -- one label further
     pub goes_up : (next : List ℕ) (b : Begins at way.wired.name) → next ≡ wire b.rest
-        → IsClimbed t kind items name next (better_of best here)
+        → IsClimbed lives kind items name next (better_of best here)
     goes_up next b above = record {
       wired = record { name = b.rest; named = b.named; whole = above };
       rest = λ n is c more.
-          subst (λ v. IsBest (IsAbove t kind n) items v) (sym (better_chain best here c))
+          subst (λ v. IsBest (IsAbove lives kind n) items v) (sym (better_chain best here c))
           (way.rest n is (better_of here c) (subst
-          (λ v. IsBest (IsAbove t kind v) items (better_of here c)) (sym b.is)
-          (above_more t kind b.label b.rest items here c
-          (subst (λ v. IsBest (IsOn t v kind 0) items here) b.is
+          (λ v. IsBest (IsAbove lives kind v) items (better_of here c)) (sym b.is)
+          (above_more lives kind b.label b.rest items here c
+          (subst (λ v. IsBest (IsOn lives v kind 0) items here) b.is
           (found way.wired.name way.wired.whole)) more)));
     }

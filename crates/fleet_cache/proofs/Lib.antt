@@ -6,13 +6,12 @@ mod Voids
 mod Beats
 mod Lawful
 mod Caches
+mod Holdings
 pub mod Lemmas
 mod Packed
 mod Packing
 mod Slots
 mod Sweeps
-mod Withdrawn
-mod Admitted
 mod Best
 mod Past
 mod Looked

@@ -1,30 +1,35 @@
 -- What is found by a key is the most preferred of its items.
-use Rattle.std.proofs.Common.{ℕ, ◌≡◌, ◌||◌, true, refl, not, List, [], ◌∷◌, inl, inr, Option, Some, None, MatchOption, ◌↔◌, sym, ap, ◌∙◌, subst}
+use Rattle.std.proofs.Common.{ℕ, ◌≡◌, ◌||◌, Bool, true, false, refl, not, List, [], ◌∷◌, inl, inr, Option, Some, None, MatchOption, ◌↔◌, sym, ap, ◌∙◌, subst}
 use mathlib.Core.Bool.{false≢true}
 use Rattle.std.specs.Map.{lookup}
 use Rattle.std.specs.Ordering.{is_eq}
 use Rattle.std.proofs.lemmas.Cmp.{tied_itself, nat_list_cmp_total}
 use denote.Ref.{Bor}
-use Rattle.fleet_front.specs.Front.{IsFront as IsFrontOf, IsGreatest}
+use Rattle.fleet_front.specs.Front.{IsGreatest}
 use Rattle.fleet_observe.specs.Members.{Has}
 use Rattle.fleet_observe.specs.declared.observation.kind.Kind.{Kind}
 use Rattle.fleet_observe.specs.Observation.{ObservationData, key_at, key_of}
 use Rattle.fleet_observe.specs.Preference.{preference, preference_total, octets_cmp}
 use Rattle.fleet_cache.specs.Front.{without_hidden}
-use Rattle.fleet_cache.specs.Live.{has_ended}
+use Rattle.fleet_cache.specs.Cut.{CutData, is_hidden}
 use Rattle.fleet_cache.specs.Dominates.{dominates}
 use Rattle.fleet_cache.specs.Cached.{is_covered, IsCovered}
 use Rattle.fleet_cache.specs.Packed.{octet_words, words_of, IsPackable}
 use Rattle.fleet_cache.specs.Slots.{items_of, IsSlot, IsLaid}
-use Rattle.fleet_cache.specs.Best.{IsBest, referent, IsAt, IsOn}
+use Rattle.fleet_cache.specs.Best.{IsBest, referent, IsOn}
+use Rattle.fleet_cache.specs.Keyed.{HasNoKey, IsOfKey}
 use Rattle.fleet_cache.specs.Orders.{over_from}
-use Rattle.fleet_cache.proofs.Best.{best_same}
 use Rattle.fleet_cache.proofs.Packed.{packed_exact}
 use Rattle.fleet_cache.proofs.Slots.{Around, in_slot, slot_of_key, covered_in_front, in_front, in_items}
 use Rattle.std.proofs.lemmas.Bool.{cases_Bool, not-true, or_left, or_right}
 use Rattle.std.specs.Cmp.{Equal-is}
 use Rattle.fleet_name.proofs.Lemmas.{Has-filter, Has-in_filter}
 use Rattle.fleet_observe.proofs.Lemmas.{key_exact, preference_exact}
+
+-- what is not false is true
+twice : (b : Bool) → not b ≡ false → b ≡ true
+twice true e = refl
+twice false e = absurd (false≢true (sym e))
 
 -- the test for what is covered
 pub covered_from : (items : List ObservationData) (x : ObservationData) → is_covered items x ≡ true
@@ -80,13 +85,12 @@ module _ {K : Type 0} (octets : K → List ℕ) (q : List ℕ) where
       ] in
       looked_none es none e.0 e.1 (sym ((laid.slots e.0 e.1).one_key c.0 e.2) ∙ (same ∙ sym is))
 
-module _ {K : Type 0} (octets : K → List ℕ) (t : ℕ) (q : List ℕ) where
+module _ {K : Type 0} (octets : K → List ℕ) (q : List ℕ) where
   -- the key is not there
   pub look_none : (es : List (K × List ObservationData)) → IsLaid octets es
-      → lookup (λ k. is_eq (octets_cmp q (octets k))) es ≡ None
-      → IsBest (IsAt t q) (items_of es) None
+      → lookup (λ k. is_eq (octets_cmp q (octets k))) es ≡ None → HasNoKey (items_of es) q
   look_none es laid none = λ y h k. let e = in_slot es y h
-      in looked_none octets q es none e.0 e.1 (sym ((laid.slots e.0 e.1).one_key y e.2) ∙ k.keyed)
+      in looked_none octets q es none e.0 e.1 (sym ((laid.slots e.0 e.1).one_key y e.2) ∙ k)
 
   -- the key's front is there
   module _ (es : List (K × List ObservationData)) (f : List ObservationData)
@@ -95,53 +99,62 @@ module _ {K : Type 0} (octets : K → List ℕ) (t : ℕ) (q : List ℕ) where
     slot : IsSlot q f
     slot = (slot_of_key octets es q f laid found).slot
 
-    pub slot_front : IsFrontOf preference dominates f f
-    slot_front = slot.own_front
-
-    here : (y : ObservationData) → Has (items_of es) y → words_of y ≡ q → Has f y
-    here y h same = in_front octets es q f (slot_of_key octets es q f laid found).around y h same
-
-    live_here : (y : ObservationData) → Has (items_of es) y → IsAt t q y
-        → Has (without_hidden has_ended t f) y
-    live_here y h k = Has-in_filter (λ o. not (has_ended t o)) f y (here y h k.keyed)
-        (ap not k.live)
+    pub look_some : IsOfKey (items_of es) q f
+    look_some = record {
+      member = λ y h. in_items octets es q f (slot_of_key octets es q f laid found).around y h;
+      keyed = λ y h. slot.one_key y h;
+      packable = λ y h. slot.packable y h;
+      whole = λ y h same. in_front octets es q f (slot_of_key octets es q f laid found).around y h same;
+      own_front = slot.own_front;
+    }
 
     pub covered_there : (x : ObservationData) → q ≡ words_of x → IsCovered f x
         ↔ IsCovered (items_of es) x
     covered_there x is = covered_in_front octets es x f
         (subst (λ v. Around octets es v f) is (slot_of_key octets es q f laid found).around)
 
-    pub look_some : (r : Option (Bor ObservationData))
-        → MatchOption r (without_hidden has_ended t f ≡ [])
-        (λ x. IsGreatest preference (without_hidden has_ended t f) x.now)
-        → IsBest (IsAt t q) (items_of es) (referent r)
-    look_some None e = λ y h k. let m = live_here y h k in subst (λ v. Has v y) e m
-    look_some (Some x) e =
-        let m = Has-filter (λ o. not (has_ended t o)) f x.now e.member in (
-          in_items octets es q f (slot_of_key octets es q f laid found).around x.now m.0,
-          record { live = not-true _ m.1; keyed = slot.one_key x.now m.0 },
-          λ y h k. e.greatest y (live_here y h k),
-        )
-
 -- a key stands for a name, a kind and a type
-pub best_on : (t : ℕ) (words : List ℕ) (n : List (List ℕ)) (kind : Kind) (rtype : ℕ)
-    (s : List ObservationData) (a : Option ObservationData)
-    → words ≡ octet_words (key_at n kind rtype) → IsPackable (key_at n kind rtype)
-    → ((o : ObservationData) → Has s o → IsPackable (key_of o)) → IsBest (IsAt t words) s a
-    → IsBest (IsOn t n kind rtype) s a
-best_on t words n kind rtype s a e fits all best = best_same (IsAt t words) (IsOn t n kind rtype) s
-    a
-    (λ o h k. let x = key_exact o.name n o.kind kind o.rtype rtype
-    (packed_exact (key_of o) (key_at n kind rtype) (all o h) fits (k.keyed ∙ e))
-    in record { live = k.live; named = x.0; of_kind = x.1; of_type = x.2 })
-    (λ o h k. record { live = k.live; keyed = one_key o k })
-    best
-  where
-    one_key : (o : ObservationData) → IsOn t n kind rtype o → words_of o ≡ words
-    one_key o k = let i = k.named in let j = k.of_kind in let l = k.of_type
-        in let m : key_of o ≡ key_at n kind rtype = cc in ap octet_words m ∙ sym e
+module _ (lives : ObservationData → Bool) (words : List ℕ) (n : List (List ℕ)) (kind : Kind)
+    (rtype : ℕ) (items : List ObservationData) (e : words ≡ octet_words (key_at n kind rtype)) where
+  one_key : (o : ObservationData) → IsOn lives n kind rtype o → words_of o ≡ words
+  one_key o k = let i = k.named in let j = k.of_kind in let l = k.of_type
+      in let m : key_of o ≡ key_at n kind rtype = cc in ap octet_words m ∙ sym e
 
--- the items' keys fit in words
-pub items_packable : {K : Type 0} (words : K → List ℕ) (es : List (K × List ObservationData))
-    → IsLaid words es → (o : ObservationData) → Has (items_of es) o → IsPackable (key_of o)
-items_packable words es laid o h = let e = in_slot es o h in (laid.slots e.0 e.1).packable o e.2
+  pub none_on : HasNoKey items words → IsBest (IsOn lives n kind rtype) items None
+  none_on none = λ y h k. none y h (one_key y k)
+
+  module _ (fits : IsPackable (key_at n kind rtype)) (f : List ObservationData)
+      (front : IsOfKey items words f) (cut : CutData) where
+    same_key : (o : ObservationData) → Has f o → key_of o ≡ key_at n kind rtype
+    same_key o h = packed_exact (key_of o) (key_at n kind rtype) (front.packable o h) fits
+        (front.keyed o h ∙ e)
+
+    pub front_named : (o : ObservationData) → Has f o → o.name ≡ n
+    front_named o h = (key_exact o.name n o.kind kind o.rtype rtype (same_key o h)).0
+
+    pub front_kind : (o : ObservationData) → Has f o → o.kind ≡ kind
+    front_kind o h = (key_exact o.name n o.kind kind o.rtype rtype (same_key o h)).1
+
+    pub some_on : ((o : ObservationData) → Has f o → is_hidden cut o ≡ not (lives o))
+        → (r : Option (Bor ObservationData))
+        → MatchOption r (without_hidden is_hidden cut f ≡ [])
+        (λ x. IsGreatest preference (without_hidden is_hidden cut f) x.now)
+        → IsBest (IsOn lives n kind rtype) items (referent r)
+    some_on told None none = λ y h k. let there = front.whole y h (one_key y k) in
+        let seen : not (is_hidden cut y) ≡ true = ap not (told y there ∙ ap not k.live) in
+        subst (λ v. Has v y) none (Has-in_filter (λ o. not (is_hidden cut o)) f y there seen)
+    some_on told (Some x) best =
+        let m = Has-filter (λ o. not (is_hidden cut o)) f x.now best.member in
+        let k = key_exact x.now.name n x.now.kind kind x.now.rtype rtype (same_key x.now m.0) in
+        let seen : is_hidden cut x.now ≡ false = not-true (is_hidden cut x.now) m.1 in (
+          front.member x.now m.0,
+          record {
+            live = twice (lives x.now) (sym (told x.now m.0) ∙ seen);
+            named = k.0;
+            of_kind = k.1;
+            of_type = k.2;
+          },
+          λ y h j. let there = front.whole y h (one_key y j) in
+              best.greatest y (Has-in_filter (λ o. not (is_hidden cut o)) f y there
+              (ap not (told y there ∙ ap not j.live))),
+        )

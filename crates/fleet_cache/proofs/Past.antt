@@ -1,25 +1,24 @@
--- What is past for a cache, as the latest flush above tells it.
+-- What is live at a name, as the latest flush above it tells.
 use Rattle.std.proofs.Common.{ℕ, ◌≡◌, ◌≤◌, Bool, true, false, not, ◌&&◌, ◌||◌, nat_le, List, ◌⊎◌, ◌↔◌, IsTrue, inl, inr, Option, Some, None, refl, sym, ap, ◌∙◌, subst, arith}
 use mathlib.Core.Bool.{false≢true}
 use Rattle.std.specs.declared.cmp.Ordering.{Ordering}
 use Rattle.std.specs.declared.cmp.Ordering.TheVariants.{Less, Equal, Greater}
 use Rattle.std.specs.Ordering.{nat_cmp, ordering_then}
 use Rattle.std.proofs.lemmas.Cmp.{nat_cmp_total, tied_itself, ranked}
-use Rattle.std.proofs.lemmas.Bool.{and_parts, and_from, or_cases, or_left, or_right}
+use Rattle.std.proofs.lemmas.Bool.{cases_Bool, and_parts, and_from, or_left, or_right}
 use Rattle.std.proofs.lemmas.Bool.Decides.{nat_tests}
-use Rattle.fleet_observe.specs.Members.{Has}
+use Rattle.fleet_name.specs.Name.{IsUnder}
 use Rattle.fleet_observe.specs.declared.observation.kind.Kind.TheVariants.{Flush}
 use Rattle.fleet_observe.specs.Observation.{ObservationData, IsObservation, AreObservations, expires}
 use Rattle.fleet_observe.specs.Preference.{preference}
-use Rattle.fleet_cache.specs.Front.{without_hidden}
-use Rattle.fleet_cache.specs.Void.{IsVoid, is_flush}
-use Rattle.fleet_cache.specs.Live.{has_ended}
-use Rattle.fleet_cache.specs.Cut.{stamp_of, is_flushed, is_hidden}
-use Rattle.fleet_cache.specs.Cached.{IsPast}
+use Rattle.fleet_cache.specs.Void.{IsVoid, is_flush, is_void}
+use Rattle.fleet_cache.specs.Live.{has_ended, is_live}
+use Rattle.fleet_cache.specs.Cut.{stamp_of, is_flushed, is_hidden, IsCutAt}
 use Rattle.fleet_cache.specs.Best.{IsBest, IsAbove}
 use Rattle.fleet_cache.proofs.Best.{AtLeast}
-use Rattle.fleet_cache.proofs.Beats.{shown_parts, shown_of}
-use Rattle.fleet_cache.proofs.Voids.{other_to, other_from}
+use Rattle.fleet_cache.proofs.Beats.{live_to}
+use Rattle.fleet_cache.proofs.Holdings.{gone_ended, gone_void}
+use Rattle.fleet_cache.proofs.Voids.{other_to, other_from, void_from, void_to, void_outlived}
 
 stamps_first : (a : Ordering) (n m : ℕ) (rest : Ordering) → a ≡ Equal
     → ordering_then a (ordering_then (nat_cmp n m) rest) ≡ Greater → m ≤ n
@@ -41,58 +40,73 @@ later_flush x y lx ly kx ky (inl more) =
     stamps_first (nat_cmp x.rank y.rank) x.stamp y.stamp _
     (ap (λ r. nat_cmp r y.rank) ranks ∙ tied_itself nat_cmp_total y.rank) more
 
-module _ (f : ℕ) (items : List ObservationData) (o : ObservationData)
-    (lawful : AreObservations items) where
-  flushed_from : (best : Option ObservationData) → IsBest (IsAbove f Flush o.name) items best
-      → is_flushed (stamp_of best) o ≡ true → IsVoid (without_hidden has_ended f items) o
+module _ (t : ℕ) (items : List ObservationData) (n : List (List ℕ))
+    (lawful : AreObservations items) (o : ObservationData) (one : IsObservation o)
+    (named : o.name ≡ n) where
+  Lasts : ObservationData → Bool
+  Lasts f = not (has_ended t f)
+
+  flushed_from : (best : Option ObservationData) → IsBest (IsAbove Lasts Flush n) items best
+      → is_flushed (stamp_of best) o ≡ true → IsVoid items o
   flushed_from None best e = absurd (false≢true e)
   flushed_from (Some x) best e =
       let p = and_parts (not (is_flush o.kind)) (nat_le o.stamp x.stamp) e in
       let later : o.stamp ≤ x.stamp = grind (arith, nat_tests, p.1) in (
         x,
-        shown_of items f x best.0 best.1.live,
+        best.0,
         record {
           flush = best.1.of_kind;
           other = other_from o.kind p.0;
-          under = best.1.under;
+          under = subst (λ v. IsUnder v x.name) (sym named) best.1.under;
           later = later;
         },
       )
 
-  flushed_to : (best : Option ObservationData) → IsBest (IsAbove f Flush o.name) items best
-      → IsVoid (without_hidden has_ended f items) o → is_flushed (stamp_of best) o ≡ true
-  flushed_to best is v =
-      let k = shown_parts items f v.0 v.1 in
-      by_cases best is (record {
-        live = k.1;
-        under = v.2.under;
-        of_kind = v.2.flush;
-        of_type = ((lawful v.0 k.0).flush v.2.flush).untyped;
-      })
+  flushed_to : has_ended t o ≡ false → (best : Option ObservationData)
+      → IsBest (IsAbove Lasts Flush n) items best → IsVoid items o
+      → is_flushed (stamp_of best) o ≡ true
+  flushed_to lasts best is v = by_cases best is (record {
+    live = ap not seen;
+    under = subst (λ w. IsUnder w v.0.name) named v.2.under;
+    of_kind = v.2.flush;
+    of_type = ((lawful v.0 v.1).flush v.2.flush).untyped;
+  })
     where
-      by_cases : (b : Option ObservationData) → IsBest (IsAbove f Flush o.name) items b
-          → IsAbove f Flush o.name v.0 → is_flushed (stamp_of b) o ≡ true
-      by_cases None none above = absurd (none v.0 (shown_parts items f v.0 v.1).0 above)
+      seen : has_ended t v.0 ≡ false
+      seen = let longer = void_outlived v.0 o (lawful v.0 v.1) one v.2
+          in grind (arith, nat_tests, longer, lasts)
+
+      by_cases : (b : Option ObservationData) → IsBest (IsAbove Lasts Flush n) items b
+          → IsAbove Lasts Flush n v.0 → is_flushed (stamp_of b) o ≡ true
+      by_cases None none above = absurd (none v.0 v.1 above)
       by_cases (Some x) top above =
-          let least = top.2 v.0 (shown_parts items f v.0 v.1).0 above in
-          let after = later_flush x v.0 (lawful x top.0)
-          (lawful v.0 (shown_parts items f v.0 v.1).0) top.1.of_kind v.2.flush least in
+          let least = top.2 v.0 v.1 above in
+          let after = later_flush x v.0 (lawful x top.0) (lawful v.0 v.1) top.1.of_kind v.2.flush
+          least in
           let later = v.2.later in
           and_from (not (is_flush o.kind)) (nat_le o.stamp x.stamp) (other_to o.kind v.2.other)
           (grind (arith, nat_tests, after, later))
 
-  pub past_test : (best : Option ObservationData) → IsBest (IsAbove f Flush o.name) items best
-      → (hid : Bool)
-      → hid ≡ is_hidden (record { moment = f; flushed = stamp_of best }) o
-      → IsTrue hid ↔ IsPast f (without_hidden has_ended f items) o
-  past_test best is hid e = (
-    (λ h. elim (or_cases (is_flushed (stamp_of best) o) (has_ended f o) (sym e ∙ h)) [
-      | inl void ↦ inr (flushed_from best is void)
-      | inr end ↦ inl (grind (arith, nat_tests, end))
-    ]),
-    λ past. e ∙ elim past [
-      | inl end ↦ or_right (is_flushed (stamp_of best) o) (has_ended f o)
-          (grind (arith, nat_tests, end))
-      | inr v ↦ or_left (is_flushed (stamp_of best) o) (has_ended f o) (flushed_to best is v)
-    ],
-  )
+  cut_tells : (best : Option ObservationData) → IsBest (IsAbove Lasts Flush n) items best
+      → is_hidden (record { moment = t; flushed = stamp_of best }) o ≡ not (is_live items t o)
+  cut_tells best is = elim (cases_Bool (has_ended t o)) [
+    | inl end ↦ or_right (is_flushed (stamp_of best) o) (has_ended t o) end
+        ∙ sym (ap not (gone_ended items t o end))
+    | inr lasts ↦ elim (cases_Bool (is_flushed (stamp_of best) o)) [
+      | inl yea ↦ or_left (is_flushed (stamp_of best) o) (has_ended t o) yea
+          ∙ sym (ap not (gone_void items t o (void_to items o (flushed_from best is yea))))
+      | inr nay ↦ rw (nay, lasts) (sym (ap not (live_to items t o lasts
+          (elim (cases_Bool (is_void items o)) [
+            | inr spared ↦ spared
+            | inl void ↦ absurd (false≢true (sym nay
+                ∙ flushed_to lasts best is (void_from items o void)))
+          ]))))
+    ]
+  ]
+
+-- the latest flush above a name tells what is live there
+pub cut_of_flush : (t : ℕ) (items : List ObservationData) (n : List (List ℕ))
+    (best : Option ObservationData) → AreObservations items
+    → IsBest (IsAbove (λ o. not (has_ended t o)) Flush n) items best
+    → IsCutAt items t n (record { moment = t; flushed = stamp_of best })
+cut_of_flush t items n best lawful is o one named = cut_tells t items n lawful o one named best is

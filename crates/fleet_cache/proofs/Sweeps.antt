@@ -1,67 +1,98 @@
--- What dropping the ended observations of one key does to the map.
-use Rattle.std.proofs.Common.{ℕ, length-append, arith, ◌≡◌, Bool, false, not, List, [], ◌∷◌, ◌++◌, ◌⊎◌, inl, inr, Some, sym, ap, refl, ◌∙◌, subst}
+-- What dropping what a cut hides of one key does to the map.
+use Rattle.std.proofs.Common.{ℕ, length-append, arith, ◌≡◌, Bool, true, false, not, List, [], ◌∷◌, ◌++◌, ◌⊎◌, inl, inr, Some, sym, ap, refl, ◌∙◌, subst}
+use Rattle.std.specs.List.{filter}
 use Rattle.std.specs.Map.{lookup, set_value, remove_entry}
 use Rattle.std.proofs.lemmas.List.Elements.{filter-append}
 use Rattle.std.specs.declared.cmp.Ordering.{Ordering}
 use Rattle.fleet_observe.specs.Members.{Has}
 use Rattle.fleet_observe.specs.Observation.{ObservationData}
-use Rattle.fleet_cache.specs.Front.{IsDescending, without_hidden}
-use Rattle.fleet_cache.specs.Live.{has_ended}
+use Rattle.fleet_cache.specs.Front.{IsDescending}
+use Rattle.fleet_cache.specs.Cut.{CutData, is_hidden}
+use Rattle.fleet_cache.specs.Packed.{words_of}
 use Rattle.fleet_cache.specs.Slots.{items_of, is_nil, IsSlot, IsLaid}
-use Rattle.fleet_cache.specs.Swept.{IsSwept}
-use Rattle.fleet_cache.proofs.Caches.{shown_twice, shown_shorter}
-use Rattle.fleet_cache.specs.Orders.{preference_laws}
+use Rattle.fleet_cache.specs.Swept.{IsThinned, IsSwept}
+use Rattle.fleet_cache.proofs.Holdings.{live_shorter}
+use Rattle.fleet_cache.specs.Orders.{cut_laws}
 use Rattle.fleet_observe.specs.Preference.{octets_cmp}
 use Rattle.std.proofs.lemmas.Bool.{cases_Bool}
 use Rattle.fleet_front.proofs.Lemmas.{front_itself, front_shown}
 use Rattle.fleet_name.proofs.Lemmas.{Has-filter, has_left, has_right, has_either}
 
+pub thinned_none : (lives : ObservationData → Bool) (items : List ObservationData)
+    → IsThinned lives items items
+thinned_none lives items = record { live_still = refl; of_items = λ x h. h; size = omega arith }
+
 pub swept_none : (m : ℕ) (items : List ObservationData) → IsSwept m items items
-swept_none m items = record { shown_still = refl; of_items = λ x h. h; size = omega arith }
+swept_none m items = record { live_still = refl; of_items = λ x h. h; size = omega arith }
 
 pub swept_more : (m : ℕ) (items mid rest : List ObservationData) → IsSwept m items mid
     → IsSwept m mid rest → IsSwept m items rest
 swept_more m items mid rest a b = record {
-  shown_still = b.shown_still ∙ a.shown_still;
+  live_still = b.live_still ∙ a.live_still;
   of_items = λ x h. a.of_items x (b.of_items x h);
   size = omega (arith, a.size, b.size);
 }
 
-module _ {K : Type 0} (octets : K → List ℕ) (m : ℕ) where
+-- what is hidden does not live
+shown_live : (lives hid : ObservationData → Bool) (s : List ObservationData)
+    → ((x : ObservationData) → Has s x → hid x ≡ not (lives x))
+    → filter lives (filter (λ x. not (hid x)) s) ≡ filter lives s
+shown_live lives hid [] told = refl
+shown_live lives hid (x ∷ s) told = elim (cases_Bool (lives x)) [
+  | inl e ↦ let f : hid x ≡ false = told x (inl refl) ∙ ap not e in
+      rw (f, e) (rw e (ap (λ v. x ∷ v) (shown_live lives hid s (λ y h. told y (inr h)))))
+  | inr e ↦ let f : hid x ≡ true = told x (inl refl) ∙ ap not e in
+      rw (f, e) (shown_live lives hid s (λ y h. told y (inr h)))
+]
+
+module _ {K : Type 0} (octets : K → List ℕ) (words : List ℕ) (cut : CutData) where
   abbrev Slot : Type 0
   Slot = K × List ObservationData
+
+  abbrev Shows : ObservationData → Bool
+  Shows o = not (is_hidden cut o)
+
+  -- what lives of a front of the key is what the cut shows
+  abbrev Tells : (ObservationData → Bool) → List ObservationData → Type 0
+  Tells lives items = (o : ObservationData) → Has items o → words_of o ≡ words
+      → is_hidden cut o ≡ not (lives o)
 
   -- the slot d is e, or what is left of it
   pub record IsRest (e d : Slot) : Type 0 where
     pub key : d.0 ≡ e.0
-    pub swept : IsSwept m e.1 d.1
+    pub thinned : (lives : ObservationData → Bool) → Tells lives e.1 → IsThinned lives e.1 d.1
     pub slot : IsSlot (octets e.0) e.1 → IsSlot (octets d.0) d.1
 
-  -- slots of which some have lost ended observations, those of which nothing was left out
+  -- slots of which some have lost observations, those of which nothing was left out
   abbrev pub IsTrim : List Slot → List Slot → Type 0
   IsTrim [] new = new ≡ []
   IsTrim (e ∷ es) new = (n : List Slot) × IsTrim es n
       × (((d : Slot) × (new ≡ d ∷ n) × IsRest e d)
-      ⊎ ((new ≡ n) × (without_hidden has_ended m e.1 ≡ [])))
+      ⊎ ((new ≡ n) × (filter Shows e.1 ≡ []) × ((o : ObservationData) → Has e.1 o → words_of o ≡ words)))
 
   same : (e : Slot) → IsRest e e
-  same e = record { key = refl; swept = swept_none m e.1; slot = λ s. s }
+  same e = record { key = refl; thinned = λ lives told. thinned_none lives e.1; slot = λ s. s }
 
-  part : (e : Slot) → is_nil (without_hidden has_ended m e.1) ≡ false
-      → IsRest e (e.0, without_hidden has_ended m e.1)
-  part e left = record {
+  part_thinned : (f : List ObservationData)
+      → ((o : ObservationData) → Has f o → words_of o ≡ words) → (lives : ObservationData → Bool)
+      → Tells lives f → IsThinned lives f (filter Shows f)
+  part_thinned f keyed lives told = record {
+    live_still = shown_live lives (is_hidden cut) f (λ x h. told x h (keyed x h));
+    of_items = λ x h. (Has-filter Shows f x h).0;
+    size = live_shorter Shows f;
+  }
+
+  part : (e : Slot) → ((o : ObservationData) → Has e.1 o → words_of o ≡ words)
+      → is_nil (filter Shows e.1) ≡ false → IsRest e (e.0, filter Shows e.1)
+  part e keyed left = record {
     key = refl;
-    swept = record {
-      shown_still = shown_twice m m e.1 (omega arith);
-      of_items = λ x h. (Has-filter (λ o. not (has_ended m o)) e.1 x h).0;
-      size = shown_shorter m e.1;
-    };
+    thinned = part_thinned e.1 keyed;
     slot = λ s. record {
       some = left;
-      one_key = λ x h. s.one_key x (Has-filter (λ o. not (has_ended m o)) e.1 x h).0;
-      packable = λ x h. s.packable x (Has-filter (λ o. not (has_ended m o)) e.1 x h).0;
-      own_front = front_itself preference_laws (without_hidden has_ended m e.1)
-          (without_hidden has_ended m e.1) (front_shown preference_laws m e.1 e.1 s.own_front);
+      one_key = λ x h. s.one_key x (Has-filter Shows e.1 x h).0;
+      packable = λ x h. s.packable x (Has-filter Shows e.1 x h).0;
+      own_front = front_itself cut_laws (filter Shows e.1) (filter Shows e.1)
+          (front_shown cut_laws cut e.1 e.1 s.own_front);
     };
   }
 
@@ -69,12 +100,12 @@ module _ {K : Type 0} (octets : K → List ℕ) (m : ℕ) where
   untouched [] = refl
   untouched (e ∷ es) = (es, untouched es, inl (e, refl, same e))
 
-  -- a front was written back without what has ended of it
+  -- a front was written back without what is hidden of it
   pub written : (test : K → Bool) (es : List Slot) (f : List ObservationData)
-      → lookup test es ≡ Some f → is_nil (without_hidden has_ended m f) ≡ false
-      → IsTrim es (set_value test es (without_hidden has_ended m f))
-  written test [] f found left = absurd (cc)
-  written test (e ∷ es) f found left = elim (cases_Bool (test e.0)) [
+      → lookup test es ≡ Some f → ((o : ObservationData) → Has f o → words_of o ≡ words)
+      → is_nil (filter Shows f) ≡ false → IsTrim es (set_value test es (filter Shows f))
+  written test [] f found keyed left = absurd (cc)
+  written test (e ∷ es) f found keyed left = elim (cases_Bool (test e.0)) [
     | inl yea ↦
         let value : Some e.1 ≡ Some f = rw yea at found in
         let is : e.1 ≡ f = cc in
@@ -82,32 +113,42 @@ module _ {K : Type 0} (octets : K → List ℕ) (m : ℕ) where
           es,
           untouched es,
           inl (
-            (e.0, without_hidden has_ended m f),
+            (e.0, filter Shows f),
             refl,
-            subst (λ v. IsRest e (e.0, without_hidden has_ended m v)) is
-                (part e (ap (λ v. is_nil (without_hidden has_ended m v)) is ∙ left)),
+            subst (λ v. IsRest e (e.0, filter Shows v)) is
+                (part e (λ o h. keyed o (subst (λ v. Has v o) is h))
+                (ap (λ v. is_nil (filter Shows v)) is ∙ left)),
           ),
         )
     | inr nay ↦ rw nay (
-      set_value test es (without_hidden has_ended m f),
-      written test es f (rw nay at found) left,
+      set_value test es (filter Shows f),
+      written test es f (rw nay at found) keyed left,
       inl (e, refl, same e),
     )
   ]
 
   -- a front of which nothing is left was taken out
   pub taken_out : (test : K → Bool) (es : List Slot) (f : List ObservationData)
-      → lookup test es ≡ Some f → without_hidden has_ended m f ≡ []
-      → IsTrim es (remove_entry test (set_value test es (without_hidden has_ended m f)))
-  taken_out test [] f found none = absurd (cc)
-  taken_out test (e ∷ es) f found none = elim (cases_Bool (test e.0)) [
+      → lookup test es ≡ Some f → ((o : ObservationData) → Has f o → words_of o ≡ words)
+      → filter Shows f ≡ []
+      → IsTrim es (remove_entry test (set_value test es (filter Shows f)))
+  taken_out test [] f found keyed none = absurd (cc)
+  taken_out test (e ∷ es) f found keyed none = elim (cases_Bool (test e.0)) [
     | inl yea ↦
         let value : Some e.1 ≡ Some f = rw yea at found in
         let is : e.1 ≡ f = cc in
-        rw (yea, yea) (es, untouched es, inr (refl, ap (without_hidden has_ended m) is ∙ none))
+        rw (yea, yea) (
+          es,
+          untouched es,
+          inr (
+            refl,
+            ap (filter Shows) is ∙ none,
+            λ o h. keyed o (subst (λ v. Has v o) is h),
+          ),
+        )
     | inr nay ↦ rw (nay, nay) (
-      remove_entry test (set_value test es (without_hidden has_ended m f)),
-      taken_out test es f (rw nay at found) none,
+      remove_entry test (set_value test es (filter Shows f)),
+      taken_out test es f (rw nay at found) keyed none,
       inl (e, refl, same e),
     )
   ]
@@ -146,13 +187,11 @@ module _ {K : Type 0} (octets : K → List ℕ) (m : ℕ) where
   }
 
   -- lists one behind the other
-  both_swept : (a b c d : List ObservationData) → IsSwept m a b → IsSwept m c d
-      → IsSwept m (a ++ c) (b ++ d)
-  both_swept a b c d s t = record {
-    shown_still = filter-append (λ o. not (has_ended m o)) b d
-        ∙ (ap (λ v. v ++ without_hidden has_ended m d) s.shown_still
-        ∙ (ap (λ v. without_hidden has_ended m a ++ v) t.shown_still
-        ∙ sym (filter-append (λ o. not (has_ended m o)) a c)));
+  both_thinned : (lives : ObservationData → Bool) (a b c d : List ObservationData)
+      → IsThinned lives a b → IsThinned lives c d → IsThinned lives (a ++ c) (b ++ d)
+  both_thinned lives a b c d s t = record {
+    live_still = filter-append lives b d ∙ (ap (λ v. v ++ filter lives d) s.live_still
+        ∙ (ap (λ v. filter lives a ++ v) t.live_still ∙ sym (filter-append lives a c)));
     of_items = λ x h. elim (has_either b d x h) [
       | inl l ↦ has_left a c x (s.of_items x l)
       | inr r ↦
@@ -161,19 +200,19 @@ module _ {K : Type 0} (octets : K → List ℕ) (m : ℕ) where
     size = omega (arith, s.size, t.size, length-append a c, length-append b d);
   }
 
-  none_swept : (a : List ObservationData) → without_hidden has_ended m a ≡ [] → IsSwept m a []
-  none_swept a none = record {
-    shown_still = sym none;
-    of_items = λ x h. absurd h;
-    size = omega arith;
-  }
-
-  pub trim_swept : (es new : List Slot) → IsTrim es new → IsSwept m (items_of es) (items_of new)
-  trim_swept [] new t = subst (λ v. IsSwept m [] (items_of v)) (sym t) (swept_none m [])
-  trim_swept (e ∷ es) new t = elim t.2 [
-    | inl kept ↦ subst (λ v. IsSwept m (e.1 ++ items_of es) (items_of v)) (sym kept.1)
-        (both_swept e.1 kept.0.1 (items_of es) (items_of t.0) kept.2.swept (trim_swept es t.0 t.1))
-    | inr gone ↦ subst (λ v. IsSwept m (e.1 ++ items_of es) (items_of v)) (sym gone.0)
-        (both_swept e.1 [] (items_of es) (items_of t.0) (none_swept e.1 gone.1)
-        (trim_swept es t.0 t.1))
-  ]
+  pub trim_thinned : (es new : List Slot) → IsTrim es new → (lives : ObservationData → Bool)
+      → Tells lives (items_of es) → IsThinned lives (items_of es) (items_of new)
+  trim_thinned [] new t lives told = subst (λ v. IsThinned lives [] (items_of v)) (sym t)
+      (thinned_none lives [])
+  trim_thinned (e ∷ es) new t lives told =
+      let first : Tells lives e.1 = λ o h. told o (has_left e.1 (items_of es) o h) in
+      let after : Tells lives (items_of es) = λ o h. told o (has_right e.1 (items_of es) o h) in
+      elim t.2 [
+        | inl kept ↦ subst (λ v. IsThinned lives (e.1 ++ items_of es) (items_of v)) (sym kept.1)
+            (both_thinned lives e.1 kept.0.1 (items_of es) (items_of t.0)
+            (kept.2.thinned lives first) (trim_thinned es t.0 t.1 lives after))
+        | inr gone ↦ subst (λ v. IsThinned lives (e.1 ++ items_of es) (items_of v)) (sym gone.0)
+            (both_thinned lives e.1 [] (items_of es) (items_of t.0)
+            (subst (IsThinned lives e.1) gone.1 (part_thinned e.1 gone.2 lives first))
+            (trim_thinned es t.0 t.1 lives after))
+      ]

@@ -3,7 +3,6 @@ use Rattle.std.specs.Prelude.{◌≡◌, ℕ, ◌-◌, ◌≤◌, List, length, 
 use Rattle.fleet_name.specs.Name.{wire, IsWire}
 use Rattle.fleet_observe.specs.declared.bounds.TheConstants.{MOST_LINKS}
 use Rattle.fleet_observe.specs.Observation.{ObservationData}
-use Rattle.fleet_cache.specs.Cached.{IsCached}
 use Rattle.fleet_cache.specs.Answer.{ShownData, answer_of, answer_within, add_links}
 use Rattle.fleet_cache.specs.Shown.{shown_parts, AllSome}
 
@@ -13,8 +12,7 @@ pub record IsUnderway (items : List ObservationData) (name : List ℕ) (rtype mo
   pub wired : IsWire at
   pub filled : AllSome chain
   pub room : length chain ≤ MOST_LINKS
-  pub goes_on : (n : List (List ℕ)) → name ≡ wire n → (s : List ObservationData) → (floor : ℕ)
-      → floor ≤ moment
-      → IsCached s floor items → (m : List (List ℕ)) → at ≡ wire m
-      → answer_of s moment n rtype
-      ≡ add_links (shown_parts chain) (answer_within (MOST_LINKS - length chain) s moment rtype m)
+  pub goes_on : (n : List (List ℕ)) → name ≡ wire n → (m : List (List ℕ)) → at ≡ wire m
+      → answer_of items moment n rtype
+      ≡ add_links (shown_parts chain)
+      (answer_within (MOST_LINKS - length chain) items moment rtype m)

@@ -96,18 +96,24 @@ voids_below g w x v e =
       later = later;
     }
 
+-- and what dominates what withdraws it withdraws it too
+pub voids_over : (c g x : ObservationData) → dominates c g ≡ true → Voids g x → Voids c x
+voids_over c g x e v =
+    let over = over_from c g e in
+    let key = key_parts c g over.same_key in
+    let later : x.stamp ≤ c.stamp = grind (arith, nat_tests, over.later, v.later) in
+    record {
+      flush = key.kind ∙ v.flush;
+      other = v.other;
+      under = subst (IsUnder x.name) (sym key.name) v.under;
+      later = later;
+    }
+
 -- a flush is withdrawn by none
 pub flush_stays : (f o : ObservationData) → o.kind ≡ Flush → voids f o ≡ false
 flush_stays f o e = elim (cases_Bool (voids f o)) [
   | inr nay ↦ nay
   | inl yea ↦ absurd ((voids_from f o yea).other e)
-]
-
--- and nothing else withdraws
-pub other_spares : (f o : ObservationData) → (f.kind ≡ Flush → ⊥) → voids f o ≡ false
-other_spares f o e = elim (cases_Bool (voids f o)) [
-  | inr nay ↦ nay
-  | inl yea ↦ absurd (e (voids_from f o yea).flush)
 ]
 
 -- a flush lasts as long as all that it withdraws

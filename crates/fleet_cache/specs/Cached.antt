@@ -1,5 +1,5 @@
 -- What a cache holds of a set of observations.
-use Rattle.std.specs.Prelude.{◌≡◌, ℕ, Bool, false, ◌≤◌, ◌⊎◌, List, ◌∷◌, ◌++◌, slice_get, Some}
+use Rattle.std.specs.Prelude.{◌≡◌, ℕ, Bool, ◌≤◌, ◌⊎◌, List, ◌∷◌, ◌++◌, slice_get, Some}
 use Rattle.std.specs.declared.cmp.Ordering.{Ordering}
 use Rattle.std.specs.Ordering.{ordering_then}
 use Rattle.fleet_wire.specs.Number.{u16_octets}
@@ -9,7 +9,7 @@ use Rattle.fleet_observe.specs.Observation.{ObservationData, AreObservations, ki
 use Rattle.fleet_observe.specs.Preference.{octets_cmp, preference}
 use Rattle.fleet_front.specs.Front.{IsCovered as IsCoveredBy, is_covered as is_covered_by}
 use Rattle.fleet_cache.specs.Front.{IsFront}
-use Rattle.fleet_cache.specs.Void.{IsVoid, is_void}
+use Rattle.fleet_cache.specs.Void.{IsVoid}
 use Rattle.fleet_cache.specs.Live.{live_of}
 use Rattle.fleet_cache.specs.Dominates.{dominates}
 
@@ -31,12 +31,6 @@ pub record IsCached (s : List ObservationData) (floor : ℕ) (items : List Obser
 pub record CacheData : Type 0 where
   pub floor : ℕ
   pub items : List ObservationData
-
--- what a cache keeps: observations of which none dominates or withdraws another, in order
-pub record IsKept (items : List ObservationData) : Type 0 where
-  pub lawful : AreObservations items
-  pub front : IsFront place dominates items items
-  pub unvoided : (o : ObservationData) → Has items o → is_void items o ≡ false
 
 -- o is one of the items, or one of them dominates it
 abbrev pub IsCovered : List ObservationData → ObservationData → Type 0

@@ -1,8 +1,8 @@
 -- What hides observations of a name.
-use Rattle.std.specs.Prelude.{ℕ, Bool, false, not, ◌&&◌, ◌||◌, nat_le, Option, Some, None}
-use Rattle.fleet_observe.specs.Observation.{ObservationData}
+use Rattle.std.specs.Prelude.{◌≡◌, ℕ, Bool, false, not, ◌&&◌, ◌||◌, nat_le, List, Option, Some, None}
+use Rattle.fleet_observe.specs.Observation.{ObservationData, IsObservation}
 use Rattle.fleet_cache.specs.Void.{is_flush}
-use Rattle.fleet_cache.specs.Live.{has_ended}
+use Rattle.fleet_cache.specs.Live.{has_ended, is_live}
 
 -- a moment, and the greatest stamp of the flushes of the name and of those above it, if there are
 -- any
@@ -23,3 +23,8 @@ is_flushed (Some stamp) o = not (is_flush o.kind) && nat_le o.stamp stamp
 -- o is withdrawn, or has ended
 abbrev pub is_hidden : CutData → ObservationData → Bool
 is_hidden cut o = is_flushed cut.flushed o || has_ended cut.moment o
+
+-- at the name n the cut hides what is not live in s at the moment t
+abbrev pub IsCutAt : List ObservationData → ℕ → List (List ℕ) → CutData → Type 0
+IsCutAt s t n cut = (o : ObservationData) → IsObservation o → o.name ≡ n
+    → is_hidden cut o ≡ not (is_live s t o)

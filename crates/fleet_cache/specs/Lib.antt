@@ -5,6 +5,7 @@ pub mod Live
 pub mod Cut
 pub mod Dominates
 pub mod Cached
+pub mod Held
 pub mod Answer
 pub mod Shown
 pub mod AnswerData
@@ -14,8 +15,8 @@ pub mod Best
 pub mod Orders
 pub mod Slots
 pub mod Noted
+pub mod Keyed
 pub mod Swept
-pub mod Withdrawn
 pub mod Path
 pub mod Laws
 pub mod Rows

@@ -1,22 +1,18 @@
 //! What a question is answered.
 
-ghost use Rattle.std.specs.Prelude.{◌≡◌, ℕ, ◌≤◌, List};
+ghost use Rattle.std.specs.Prelude.{◌≡◌, ℕ, List};
 ghost use Rattle.fleet_name.specs.Name.{wire, IsName, IsWire};
 ghost use Rattle.fleet_wire.specs.declared.rtype.TheConstants.{CNAME};
-ghost use Rattle.fleet_observe.specs.declared.observation.kind.Kind.TheVariants.{NameError, Positive};
+ghost use Rattle.fleet_observe.specs.declared.observation.kind.Kind.TheVariants.{Positive};
 ghost use Rattle.fleet_observe.specs.Observation.{ObservationData};
-ghost use Rattle.fleet_cache.specs.Slots.{items_of, IsLaid};
-ghost use Rattle.fleet_cache.specs.Noted.{AreNoted};
-ghost use Rattle.fleet_cache.specs.Cached.{IsCached};
 ghost use Rattle.fleet_cache.specs.Live.{shown_ttl as ttl_at};
 ghost use Rattle.fleet_cache.specs.Answer.{answer_of, part_at, add_links, by_kind, is_link as leads_on, target as alias_target};
 ghost use Rattle.fleet_cache.specs.Shown.{shown_parts, AllSome};
 ghost use Rattle.fleet_cache.specs.AnswerData.{answer_data, chain_of};
 
+use crate::held::Held;
 use crate::lookup::decider;
-use crate::noted::Noted;
 use crate::shown::Shown;
-use crate::store::Fronts;
 use arrayvec::ArrayVec;
 use fleet_observe::bounds::MOST_LINKS;
 use fleet_observe::{Kind, Moment, Observation};
@@ -110,24 +106,20 @@ fn finish<'a, A: Allocator>(chain: Chain<'a, A>, last: Shown<'a, A>) -> Answer<'
 
 /// Follows the aliases from a name, by its octets.
 pub(crate) fn follow<'a, A: Allocator>(
-    fronts: &'a Fronts<A>,
-    denied: &Noted,
+    held: &'a Held<A>,
     name: &[u8],
     rtype: u16,
     moment: Moment,
 ) -> Answer<'a, A>
-    requires laid { IsLaid (λ k. k.items) fronts.now.entries }
-    requires noted { AreNoted NameError denied.now (items_of fronts.now.entries) }
     requires named { IsWire name.now }
     ensures filled { AllSome (chain_of result) }
-    ensures told { (n : List (List ℕ)) → name.now ≡ wire n → (s : List ObservationData)
-        → (floor : ℕ) → floor ≤ moment → IsCached s floor (items_of fronts.now.entries)
-        → answer_data result ≡ answer_of s moment n rtype }
+    ensures told { (n : List (List ℕ)) → name.now ≡ wire n
+        → answer_data result ≡ answer_of held.now moment n rtype }
 {
     let mut chain = ArrayVec::new();
     let mut at = name;
     loop {
-        let Some(observation) = decider(fronts, denied, at, rtype, moment) else {
+        let Some(observation) = decider(held, at, rtype, moment) else {
             return Answer::Miss;
         };
         let part = show(observation, moment);

@@ -3,25 +3,19 @@
 ghost use Rattle.std.specs.Prelude.{◌≡◌, ℕ, ◌^◌, ◌<◌, ◌≤◌, max, true, false, List, [], ◌∷◌, ◌++◌, ◌↔◌, length, take, IsTrue, IfOk, IfErr, OnOk, OnErr};
 ghost use Rattle.fleet_observe.specs.Observation.{ObservationData, IsObservation};
 ghost use Rattle.fleet_cache.specs.Cached.{IsCached, IsPast, IsNeedless, IsNeededAt, IsSameSet};
-ghost use Rattle.fleet_cache.specs.Cut.{stamp_of as stamp_at};
-ghost use Rattle.fleet_cache.specs.Best.{referent};
 ghost use Rattle.fleet_cache.specs.Answer.{answer_of};
 ghost use Rattle.fleet_cache.specs.Shown.{AllSome};
 ghost use Rattle.fleet_cache.specs.AnswerData.{answer_data, chain_of};
 ghost use Rattle.fleet_cache.specs.Kinds.{HasKinds};
 
-use crate::admit::admit;
 use crate::answer::{Answer, follow};
-use crate::cut::Cut;
+use crate::held::Held;
 use crate::items::Items;
-use crate::lookup::stands_above;
-use crate::noted::Noted;
-use crate::store::{Fronts, covers};
+use crate::lookup::is_past;
 use crate::sweep::{Cursor, sweep};
-use fleet_observe::{Kind, Moment, Observation};
+use fleet_observe::{Moment, Observation};
 use fleet_wire::Question;
 use std::alloc::{AllocError, Allocator, Global};
-use std::collections::BTreeMap;
 use std::marker::Model;
 use thiserror::Error;
 
@@ -37,44 +31,29 @@ pub struct Stopped {
 /// name, the kind, the type) in one front, the preferred first, and the fronts in a map by their
 /// keys, seven octets to a word.
 ///
-/// The fronts may hold observations that ended by the floor: they are shown to nobody, and a sweep,
-/// which goes on at the cursor, drops some of them at each purge. `most` is how many the fronts
-/// hold at most, so that they can be counted: at the greatest number, which no machine reaches,
-/// nothing more is taken. `denied` says at which names a name error may stand, `flushed` at which a
-/// flush. What a flush withdraws is dropped as the flush comes in, so no answer looks for one.
+/// What is held may have ended by the floor, or be withdrawn by a flush that is held: it is shown to
+/// nobody, and a sweep, which goes on at the cursor, drops some of it at each purge. `most` is how
+/// many observations are held at most, so that they can be counted: at the greatest number, which no
+/// machine reaches, nothing more is taken.
 #[derive(Drop)]
 pub struct Cache<A: Allocator = Global> {
     floor: Moment,
     most: usize,
-    fronts: Fronts<A>,
-    denied: Noted,
-    flushed: Noted,
+    held: Held<A>,
     cursor: Cursor<A>,
     alloc: A,
 }
 
 impl<A: Allocator> Model for Cache<A> {
     ghost use Rattle.std.specs.Prelude.{length, ◌≤◌};
-    ghost use Rattle.fleet_observe.specs.declared.observation.kind.Kind.TheVariants.{NameError, Flush};
-    ghost use Rattle.fleet_cache.specs.Front.{without_hidden};
-    ghost use Rattle.fleet_cache.specs.Live.{has_ended};
-    ghost use Rattle.fleet_cache.specs.Cached.{CacheData, IsKept};
-    ghost use Rattle.fleet_cache.specs.Slots.{items_of, IsLaid};
-    ghost use Rattle.fleet_cache.specs.Noted.{AreNoted};
+    ghost use Rattle.fleet_cache.specs.Live.{live_of};
+    ghost use Rattle.fleet_cache.specs.Cached.{CacheData};
 
     ghost Value = { CacheData };
 
-    ghost view = { λ c.
-        record {
-          floor = c.floor;
-          items = without_hidden has_ended c.floor
-              (items_of c.fronts.entries);
-        } };
+    ghost view = { λ c. record { floor = c.floor; items = live_of c.held c.floor } };
 
-    ghost invariant = { λ c. IsKept (items_of c.fronts.entries)
-        × IsLaid (λ k. k.items) c.fronts.entries × (length (items_of c.fronts.entries) ≤ c.most)
-        × AreNoted NameError c.denied (items_of c.fronts.entries)
-        × AreNoted Flush c.flushed (items_of c.fronts.entries) };
+    ghost invariant = { λ c. length c.held ≤ c.most };
 }
 
 impl<A: Allocator> Cache<A> {
@@ -88,9 +67,7 @@ impl<A: Allocator> Cache<A> {
         Cache {
             floor: Moment::new(0).unwrap(),
             most: 0,
-            fronts: BTreeMap::new(alloc),
-            denied: Noted::new(),
-            flushed: Noted::new(),
+            held: Held::new(alloc),
             cursor: Cursor::new(alloc),
             alloc,
         }
@@ -98,8 +75,9 @@ impl<A: Allocator> Cache<A> {
 
     /// Takes an observation in; `false` where it had ended at the floor, or is void, or was there
     /// already, or is dominated, and nothing changed. Else what it dominates goes, and what it
-    /// withdraws, if it is a flush: for that it goes over all fronts. Memory is wanted only for one
-    /// that is to be held; without it nothing changes.
+    /// withdraws, if it is a flush, is not held any more: it is hidden at once, and leaves the memory
+    /// at further purges. Memory is wanted only for one that is to be held; without it nothing
+    /// changes.
     pub fn take(&mut self, observation: Observation<A>) -> Result<bool, AllocError>
     where
         A: Copy,
@@ -117,10 +95,8 @@ impl<A: Allocator> Cache<A> {
         if self.most == usize::MAX {
             return self.take_uncounted(&observation);
         }
-        self.cursor.make_room(&self.fronts, &observation)?;
-        self.denied.note(Kind::NameError, &observation);
-        self.flushed.note(Kind::Flush, &observation);
-        let kept = admit(&mut self.fronts, self.alloc, observation)?;
+        self.cursor.make_room(&self.held, &observation)?;
+        let kept = self.held.take(self.alloc, observation)?;
         self.most += 1;
         Ok(kept)
     }
@@ -181,9 +157,9 @@ impl<A: Allocator> Cache<A> {
     }
 
     /// Raises the floor to the moment, if that is later: what has ended by then is not held any
-    /// more. A part of it leaves the memory at once, the rest at further purges: each one that
-    /// raises the floor looks at 4096 fronts, or at the 256th part of them where that is more, in
-    /// turn.
+    /// more. A part of it leaves the memory at once, and of what is withdrawn, the rest at further
+    /// purges: each one that raises the floor looks at 4096 fronts, or at the 256th part of them
+    /// where that is more, in turn.
     pub fn purge(&mut self, moment: Moment)
         ensures purged { (s : List ObservationData) → IsCached s self.old.floor self.old.items
             → IsCached s self.new.floor self.new.items }
@@ -193,7 +169,7 @@ impl<A: Allocator> Cache<A> {
             return;
         }
         self.floor = moment;
-        sweep(&mut self.fronts, &mut self.cursor, moment);
+        sweep(&mut self.held, &mut self.cursor, moment);
     }
 
     /// Drops all items and sets the floor back to 0: it is then as a new cache. This takes no
@@ -204,9 +180,7 @@ impl<A: Allocator> Cache<A> {
     {
         self.floor = Moment::new(0).unwrap();
         self.most = 0;
-        self.fronts.clear();
-        self.denied = Noted::new();
-        self.flushed = Noted::new();
+        self.held.clear();
         self.cursor.rewind();
     }
 
@@ -227,14 +201,14 @@ impl<A: Allocator> Cache<A> {
         self.floor == other.floor && same_items(self.items(), other.items())
     }
 
-    /// How many items there are: it goes over them, and over what has ended and is still in memory.
+    /// How many items there are: it goes over them, and over what is not live and is still in memory.
     pub fn len(&self) -> usize
         ensures { result ≡ length self.now.items }
     {
         count(self.items())
     }
 
-    /// Whether there are no items: it goes over what has ended before the first one.
+    /// Whether there are no items: it goes over what is not live before the first one.
     pub fn is_empty(&self) -> bool
         ensures { IsTrue result ↔ (self.now.items ≡ []) }
     {
@@ -250,7 +224,7 @@ impl<A: Allocator> Cache<A> {
     {
         // What the proof needs to know of the count.
         prove!(self.most <= usize::MAX);
-        Items::new(self.floor, self.fronts.values())
+        Items::new(&self.held, self.floor)
     }
 
     /// What the set answers to a question at a moment, or at the floor where the moment is before
@@ -266,13 +240,7 @@ impl<A: Allocator> Cache<A> {
             ≡ answer_of s (max self.now.floor moment) question.now.name question.now.rtype }
     {
         let at = later_of(self.floor, moment);
-        follow(
-            &self.fronts,
-            &self.denied,
-            question.name.octets(),
-            question.rtype,
-            at,
-        )
+        follow(&self.held, question.name.octets(), question.rtype, at)
     }
 
     /// Takes a copy of an observation in.
@@ -309,7 +277,7 @@ impl<A: Allocator> Cache<A> {
             ↔ IsNeedless self.now.floor self.now.items observation.now }
         ensures lawful { IsObservation observation.now }
     {
-        !self.is_past(observation) && !covers(&self.fronts, observation)
+        !self.is_past(observation) && !self.held.covers(observation)
     }
 
     /// Whether an observation had ended at the floor, or is void.
@@ -317,24 +285,8 @@ impl<A: Allocator> Cache<A> {
         ensures past { IsTrue result ↔ IsPast self.now.floor self.now.items observation.now }
         ensures lawful { IsObservation observation.now }
     {
-        let name = observation.name().octets();
-        let flush = stands_above(&self.fronts, &self.flushed, Kind::Flush, name, self.floor);
-        let cut = Cut {
-            moment: self.floor,
-            flushed: stamp_of(flush),
-        };
-        cut.hides(observation)
+        is_past(&self.held, observation, self.floor)
     }
-}
-
-/// The stamp of an observation, if there is one.
-fn stamp_of<A: Allocator>(observation: Option<&Observation<A>>) -> Option<Moment>
-    ensures { result ≡ stamp_at (referent observation.entry) }
-{
-    let Some(found) = observation else {
-        return None;
-    };
-    Some(found.stamp())
 }
 
 /// The later of two moments.

@@ -3,18 +3,17 @@
 ghost use Rattle.std.specs.Prelude.{◌≡◌, ◌||◌};
 ghost use Rattle.std.specs.Ordering.{is_eq};
 ghost use Rattle.fleet_observe.specs.Preference.{preference};
-ghost use Rattle.fleet_cache.specs.Live.{has_ended as ended_at};
 ghost use Rattle.fleet_cache.specs.Dominates.{dominates as over, is_same_key};
 
 use crate::cut::Cut;
 use fleet_front::Ranked;
-use fleet_observe::{Moment, Observation};
+use fleet_observe::Observation;
 use std::alloc::{Allocator, Global};
 use std::cmp::Ordering;
 use std::marker::Model;
 
-/// An observation as a front ranks it: by its preference, and hidden from the moment at which it
-/// ends.
+/// An observation as a front ranks it: by its preference, and hidden by a cut, from the moment at
+/// which it ends, or by a flush that is not stamped before it.
 #[derive(Drop)]
 pub struct Item<A: Allocator = Global> {
     observation: Observation<A>,
@@ -41,13 +40,6 @@ impl<A: Allocator> Item<A> {
         ensures { result.now ≡ self.now }
     {
         &self.observation
-    }
-
-    /// Whether it has ended at a moment.
-    pub(crate) fn has_ended(&self, moment: Moment) -> bool
-        ensures { result ≡ ended_at moment self.now }
-    {
-        self.observation.expires() <= moment.value()
     }
 
     /// Whether it is this observation, or dominates it.

@@ -1,14 +1,14 @@
 //! What a site holds of the observations that it took in, and what it answers.
 //!
 //! A [`Cache`] stands for the plain set of all observations that it was given, and for a floor, the
-//! moment up to which it was purged: it holds those that end after the floor and that no other one
-//! dominates. Neither the order in which they arrived counts, nor how often, nor by which calls.
+//! moment up to which it was purged: it holds those that end after the floor, that no flush withdraws
+//! and that no other one dominates. Neither the order in which they arrived counts, nor how often, nor by which calls.
 #![tactic(auto)]
 
-mod admit;
 mod answer;
 mod cache;
 mod cut;
+mod held;
 mod item;
 mod items;
 mod laws;

@@ -9,7 +9,9 @@ ghost use Rattle.fleet_cache.specs.Dominates.{dominates};
 ghost use Rattle.fleet_cache.specs.Cached.{key_with, is_covered, IsCovered};
 ghost use Rattle.fleet_cache.specs.Packed.{octet_words, words_of, IsPackable};
 ghost use Rattle.fleet_cache.specs.Slots.{items_of, IsLaid, IsPut};
+ghost use Rattle.fleet_cache.specs.Swept.{IsTrimmed};
 
+use crate::cut::Cut;
 use crate::item::Item;
 use crate::words::{MOST_WORDS, key_octets, pack};
 use arrayvec::ArrayVec;
@@ -85,6 +87,22 @@ pub(crate) fn store<A: Allocator + Copy>(
     let front = front_of(alloc, observation)?;
     fronts.insert(key, front)?;
     Ok(true)
+}
+
+/// Drops what a cut hides of the front of a key, and the front where nothing is left of it.
+pub(crate) fn drop_hidden<A: Allocator>(fronts: &mut Fronts<A>, key: &Key<A>, cut: &Cut)
+    requires { IsLaid (λ k. k.items) fronts.old.entries }
+    ensures laid { IsLaid (λ k. k.items) fronts.new.entries }
+    ensures trimmed { IsTrimmed key.now.items cut.now (items_of fronts.old.entries)
+        (items_of fronts.new.entries) }
+{
+    let Some(front) = fronts.get_mut(key) else {
+        return;
+    };
+    front.drop_hidden(cut);
+    if front.items().is_empty() {
+        fronts.remove(key);
+    }
 }
 
 /// The front of one observation.

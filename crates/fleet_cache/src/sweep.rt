@@ -1,16 +1,15 @@
-//! Dropping what has ended, a part of the map at a time.
+//! Dropping what is not live any more, a part of the map at a time.
 
 ghost use Rattle.std.specs.Prelude.{OnErr};
 ghost use Rattle.fleet_cache.specs.Cached.{IsCovered};
-ghost use Rattle.fleet_cache.specs.Slots.{items_of, IsLaid};
 ghost use Rattle.fleet_cache.specs.Swept.{IsSwept};
 
-use crate::cut::Cut;
-use crate::store::{Fronts, Key, covers};
+use crate::held::Held;
+use crate::lookup::cut_at;
+use crate::store::Key;
 use crate::words::MOST_WORDS;
 use fleet_observe::{Moment, Observation};
 use std::alloc::{AllocError, Allocator};
-use std::ops::Bound;
 
 /// A sweep looks at one front of so many, ..
 const SHARE: usize = 256;
@@ -36,13 +35,12 @@ impl<A: Allocator> Cursor<A> {
     /// it does not hold. Memory is wanted once at most.
     pub(crate) fn make_room(
         &mut self,
-        fronts: &Fronts<A>,
+        held: &Held<A>,
         observation: &Observation<A>,
     ) -> Result<(), AllocError>
-        requires { IsLaid (λ k. k.items) fronts.now.entries }
-        ensures memory { OnErr result (¬ IsCovered (items_of fronts.now.entries) observation.now) }
+        ensures memory { OnErr result (¬ IsCovered held.now observation.now) }
     {
-        if self.key.capacity() >= MOST_WORDS || covers(fronts, observation) {
+        if self.key.capacity() >= MOST_WORDS || held.covers(observation) {
             return Ok(());
         }
         self.key.clear();
@@ -56,9 +54,8 @@ impl<A: Allocator> Cursor<A> {
 
     /// Goes on to the next key, or back to the start where there is none. It takes no memory: where
     /// there is no room for the key, it goes back to the start too.
-    fn advance(&mut self, fronts: &Fronts<A>) -> bool {
-        let mut behind = fronts.range((Bound::Excluded(&self.key), Bound::Unbounded));
-        let Some((key, _)) = behind.next() else {
+    fn advance(&mut self, held: &Held<A>) -> bool {
+        let Some(key) = held.key_behind(&self.key) else {
             self.key.clear();
             return false;
         };
@@ -67,31 +64,28 @@ impl<A: Allocator> Cursor<A> {
     }
 }
 
-/// Drops what has ended at the moment, in a part of the fronts: those behind the cursor, which goes
+/// Drops what is not live at the moment, in a part of the fronts: those behind the cursor, which goes
 /// on with them, and back to the start behind the last one. Fronts of which nothing is left go too.
-pub(crate) fn sweep<A: Allocator>(fronts: &mut Fronts<A>, cursor: &mut Cursor<A>, moment: Moment)
-    requires { IsLaid (λ k. k.items) fronts.old.entries }
-    ensures laid { IsLaid (λ k. k.items) fronts.new.entries }
-    ensures swept { IsSwept moment (items_of fronts.old.entries) (items_of fronts.new.entries) }
+pub(crate) fn sweep<A: Allocator>(held: &mut Held<A>, cursor: &mut Cursor<A>, moment: Moment)
+    ensures swept { IsSwept moment held.old held.new }
 {
-    let mut left = (fronts.len() / SHARE).max(LEAST);
-    while left > 0 && cursor.advance(fronts) {
-        trim(fronts, &cursor.key, moment);
+    let mut left = (held.len() / SHARE).max(LEAST);
+    while left > 0 && cursor.advance(held) {
+        trim(held, &cursor.key, moment);
         left -= 1;
     }
 }
 
-/// Drops what has ended of the front of a key, and the front where nothing is left of it.
-fn trim<A: Allocator>(fronts: &mut Fronts<A>, key: &Key<A>, moment: Moment)
-    requires { IsLaid (λ k. k.items) fronts.old.entries }
-    ensures laid { IsLaid (λ k. k.items) fronts.new.entries }
-    ensures swept { IsSwept moment (items_of fronts.old.entries) (items_of fronts.new.entries) }
+/// Drops what is not live at the moment of the front of a key.
+fn trim<A: Allocator>(held: &mut Held<A>, key: &Key<A>, moment: Moment)
+    ensures swept { IsSwept moment held.old held.new }
 {
-    let Some(front) = fronts.get_mut(key) else {
+    let Some(front) = held.front(key) else {
         return;
     };
-    front.drop_hidden(&Cut::at(moment));
-    if front.items().is_empty() {
-        fronts.remove(key);
-    }
+    let Some(first) = front.items().first() else {
+        return;
+    };
+    let cut = cut_at(held, first.observation().name().octets(), moment);
+    held.trim(key, &cut);
 }

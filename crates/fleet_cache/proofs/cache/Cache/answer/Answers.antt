@@ -1,11 +1,9 @@
 use Rattle.std.proofs.Common.{◌≡◌, ◌≤◌, max, sym, ap, ◌∙◌, subst, arith}
-use Rattle.fleet_cache.specs.Front.{without_hidden}
-use Rattle.fleet_cache.specs.Live.{has_ended}
-use Rattle.fleet_cache.specs.Slots.{items_of}
+use Rattle.fleet_cache.specs.Live.{live_of}
 use Rattle.fleet_cache.specs.Cached.{CacheData, IsCached}
 use Rattle.fleet_cache.specs.Answer.{answer_of}
 use Rattle.fleet_cache.specs.AnswerData.{answer_data}
-use Rattle.fleet_cache.proofs.Caches.{kept_whole, kept_cached}
+use Rattle.fleet_cache.proofs.Holdings.{held_cached}
 use Rattle.fleet_cache.proofs.OneAnswer.{sets_answer_alike}
 use Rattle.fleet_cache.proofs.KindsOfParts.{kinds_told}
 use Rattle.fleet_cache.proofs.cache.Cache.answer.Goals as goal
@@ -14,28 +12,24 @@ pub returns-clause-kinds : goal.returns-clause-kinds
 returns-clause-kinds g c =
     let i = c.self.inside in
     let q = c.question.inside in
-    let items = items_of i.fronts.entries in
-    let own : IsCached items 0 items = kept_whole items c.self.invariant.0 in
-    kinds_told c.follow.result items c.later_of-at.result q.rtype q.name
-    (c.follow.ensures.told q.name c.octets.ensures.octets items 0 (omega arith) own)
+    kinds_told c.follow.result i.held c.later_of-at.result q.rtype q.name
+    (c.follow.ensures.told q.name c.octets.ensures.octets)
 
--- the fronts answer as the set does, at the floor and later
+-- what is held answers as the set does, at the floor and later
 pub returns-clause-told : goal.returns-clause-told
 returns-clause-told g c s cached =
     let i = c.self.inside in
     let q = c.question.inside in
-    let items = items_of i.fronts.entries in
     let at = c.later_of-at.result in
-    let held : IsCached s i.floor (without_hidden has_ended i.floor items) =
+    let own : IsCached s i.floor (live_of i.held i.floor) =
     subst (λ v. IsCached s v.floor v.items) (sym c.self.view_is) cached in
     let same : i.floor ≡ c.args.self.now.floor = ap (λ (v : CacheData). v.floor) c.self.view_is in
     let moment : at ≡ max c.args.self.now.floor c.args.moment = c.later_of-at.ensures
     ∙ ap (λ v. max v c.args.moment) same in
     let le : i.floor ≤ at = omega (arith, c.later_of-at.ensures) in
-    let alike : answer_of items at q.name q.rtype ≡ answer_of s at q.name q.rtype =
-    sets_answer_alike items s (without_hidden has_ended i.floor items) i.floor at q.name q.rtype le
-    (kept_cached items i.floor c.self.invariant.0) held in
+    let alike : answer_of i.held at q.name q.rtype ≡ answer_of s at q.name q.rtype =
+    sets_answer_alike i.held s (live_of i.held i.floor) i.floor at q.name q.rtype le
+    (held_cached i.held i.floor c.follow.ensures.own) own in
     rw (← c.question.view_is)
     (subst (λ v. answer_data c.follow.result ≡ answer_of s v q.name q.rtype) moment
-    (c.follow.ensures.told q.name c.octets.ensures.octets items 0 (omega arith)
-    (kept_whole items c.self.invariant.0) ∙ alike))
+    (c.follow.ensures.told q.name c.octets.ensures.octets ∙ alike))

@@ -1,0 +1,150 @@
+//! What a cache holds in memory.
+
+ghost use Rattle.std.specs.Prelude.{◌≡◌, ℕ, List, [], ◌↔◌, false, not, length, IsTrue, IfOk, OnErr, MatchOption};
+ghost use Rattle.fleet_name.specs.Name.{wire, IsWire};
+ghost use Rattle.fleet_observe.specs.declared.observation.kind.Kind.TheVariants.{NameError, Flush};
+ghost use Rattle.fleet_observe.specs.Observation.{IsObservation};
+ghost use Rattle.fleet_cache.specs.Live.{is_live};
+ghost use Rattle.fleet_cache.specs.Cached.{IsCovered};
+ghost use Rattle.fleet_cache.specs.Held.{IsTaken};
+ghost use Rattle.fleet_cache.specs.Keyed.{HasNoKey, IsOfKey};
+ghost use Rattle.fleet_cache.specs.Noted.{HasNone};
+ghost use Rattle.fleet_cache.specs.Swept.{IsTrimmed};
+ghost use Rattle.fleet_cache.specs.Slots.{concat};
+
+use crate::cut::Cut;
+use crate::item::Item;
+use crate::noted::Noted;
+use crate::store::{Fronts, Key, covers, drop_hidden, store};
+use fleet_front::Front;
+use fleet_observe::{Kind, Observation};
+use std::alloc::{AllocError, Allocator};
+use std::collections::BTreeMap;
+use std::collections::btree_map::Values;
+use std::marker::Model;
+use std::ops::Bound;
+
+/// The observations that a cache holds in memory: those of a key (the octets of the name, the kind,
+/// the type) in one front, the preferred first, and the fronts in a map by their keys. None
+/// dominates another. `denied` says at which names a name error may stand, `flushed` at which a
+/// flush.
+#[derive(Drop)]
+pub(crate) struct Held<A: Allocator> {
+    fronts: Fronts<A>,
+    denied: Noted,
+    flushed: Noted,
+}
+
+impl<A: Allocator> Model for Held<A> {
+    ghost use Rattle.std.specs.Prelude.{List};
+    ghost use Rattle.fleet_observe.specs.Observation.{ObservationData};
+    ghost use Rattle.fleet_observe.specs.declared.observation.kind.Kind.TheVariants.{NameError, Flush};
+    ghost use Rattle.fleet_cache.specs.Held.{IsHeld};
+    ghost use Rattle.fleet_cache.specs.Slots.{items_of, IsLaid};
+    ghost use Rattle.fleet_cache.specs.Noted.{AreNoted};
+
+    ghost Value = { List ObservationData };
+
+    ghost view = { λ h. items_of h.fronts.entries };
+
+    ghost invariant = { λ h. IsHeld (items_of h.fronts.entries)
+        × IsLaid (λ k. k.items) h.fronts.entries
+        × AreNoted NameError h.denied (items_of h.fronts.entries)
+        × AreNoted Flush h.flushed (items_of h.fronts.entries) };
+}
+
+impl<A: Allocator> Held<A> {
+    /// Nothing. This takes no memory.
+    pub(crate) fn new(alloc: A) -> Held<A>
+    where
+        A: Copy,
+        ensures { result ≡ [] }
+    {
+        Held {
+            fronts: BTreeMap::new(alloc),
+            denied: Noted::new(),
+            flushed: Noted::new(),
+        }
+    }
+
+    /// Takes an observation in beside what is held.
+    pub(crate) fn take(&mut self, alloc: A, observation: Observation<A>) -> Result<bool, AllocError>
+    where
+        A: Copy,
+        ensures taken { IfOk result (IsTaken self.old self.new observation) }
+        ensures memory { OnErr result (¬ IsCovered self.old observation) }
+        ensures err { OnErr result (self.new ≡ self.old) }
+    {
+        self.denied.note(Kind::NameError, &observation);
+        self.flushed.note(Kind::Flush, &observation);
+        store(&mut self.fronts, alloc, observation)
+    }
+
+    /// Drops what a cut hides of the front of a key, and the front where nothing is left of it.
+    pub(crate) fn trim(&mut self, key: &Key<A>, cut: &Cut)
+        ensures { IsTrimmed key.now.items cut.now self.old self.new }
+    {
+        drop_hidden(&mut self.fronts, key, cut);
+    }
+
+    /// Drops all.
+    pub(crate) fn clear(&mut self)
+        ensures { self.new ≡ [] }
+    {
+        self.fronts.clear();
+        self.denied = Noted::new();
+        self.flushed = Noted::new();
+    }
+
+    /// Whether an observation is there, or is dominated.
+    pub(crate) fn covers(&self, observation: &Observation<A>) -> bool
+        ensures { IsTrue result ↔ IsCovered self.now observation.now }
+    {
+        covers(&self.fronts, observation)
+    }
+
+    /// The front of a key, by its words.
+    pub(crate) fn front(&self, words: &[u64]) -> Option<&Front<Item<A>, A>>
+        ensures { MatchOption result (HasNoKey self.now words.now)
+            (λ f. IsOfKey self.now words.now f.now) }
+    {
+        self.fronts.get(words)
+    }
+
+    /// The fronts, one after another.
+    pub(crate) fn fronts(&self) -> Values<'_, Key<A>, Front<Item<A>, A>>
+        ensures { concat result ≡ self.now }
+    {
+        self.fronts.values()
+    }
+
+    /// The words of the next key behind these.
+    pub(crate) fn key_behind(&self, key: &Key<A>) -> Option<&Key<A>> {
+        let mut behind = self.fronts.range((Bound::Excluded(key), Bound::Unbounded));
+        let Some((next, _)) = behind.next() else {
+            return None;
+        };
+        Some(next)
+    }
+
+    /// How many fronts there are.
+    pub(crate) fn len(&self) -> usize {
+        self.fronts.len()
+    }
+
+    /// Whether a name error may be held of a name of as many octets.
+    pub(crate) fn may_deny(&self, name: &[u8]) -> bool
+        requires { IsWire name.now }
+        ensures { result ≡ false → HasNone NameError (length name.now) self.now }
+    {
+        self.denied.may_stand(name)
+    }
+
+    /// Whether a flush may be held of a name of as many octets.
+    pub(crate) fn may_flush(&self, name: &[u8]) -> bool
+        requires { IsWire name.now }
+        ensures { result ≡ false → HasNone Flush (length name.now) self.now }
+    {
+        self.flushed.may_stand(name)
+    }
+}
