@@ -1,5 +1,5 @@
 -- How what is held follows the set.
-use Rattle.std.proofs.Common.{ℕ, ◌≡◌, ◌≤◌, Bool, true, false, not, ◌&&◌, nat_lt, List, [], ◌∷◌, ◌++◌, ◌↔◌, inl, inr, length, sym, ap, refl, ◌∙◌, subst, arith}
+use Rattle.std.proofs.Common.{ℕ, ◌≡◌, ◌≤◌, get_or, Result, Ok, Err, IfOk, OnErr, Bool, true, false, not, ◌&&◌, nat_lt, List, [], ◌∷◌, ◌++◌, ◌↔◌, inl, inr, length, sym, ap, refl, ◌∙◌, subst, arith}
 use mathlib.Core.Bool.{false≢true}
 use Rattle.std.specs.List.{filter}
 use Rattle.std.proofs.lemmas.Bool.{cases_Bool, and_parts, not-true}
@@ -7,6 +7,7 @@ use Rattle.std.proofs.lemmas.Bool.Decides.{nat_tests}
 use Rattle.fleet_name.proofs.Lemmas.{Has-filter, Has-in_filter, has_right, has_either}
 use Rattle.fleet_front.proofs.Lemmas.{climb, front_itself, IsDescending-filter}
 use Rattle.fleet_observe.specs.Members.{Has}
+use Rattle.fleet_observe.specs.declared.observation.kind.Kind.{Kind}
 use Rattle.fleet_observe.specs.Observation.{ObservationData, IsObservation, AreObservations, expires}
 use Rattle.fleet_cache.specs.Front.{IsDescending, IsFront, IsUndominated, without_hidden}
 use Rattle.fleet_cache.specs.Void.{Voids, IsVoid, is_void}
@@ -14,6 +15,8 @@ use Rattle.fleet_cache.specs.Live.{has_ended, is_live, live_of}
 use Rattle.fleet_cache.specs.Dominates.{dominates}
 use Rattle.fleet_cache.specs.Cached.{place, IsCached, IsCovered, IsPast, IsNeedless, IsSameSet}
 use Rattle.fleet_cache.specs.Held.{IsHeld, IsTaken}
+use Rattle.fleet_cache.specs.Slots.{items_of, IsLaid, IsPut}
+use Rattle.fleet_cache.specs.Noted.{AreNoted, HasNone}
 use Rattle.fleet_cache.specs.Swept.{IsThinned, IsSwept}
 use Rattle.fleet_cache.specs.Orders.{over_from}
 use Rattle.fleet_cache.proofs.Places.{place_laws}
@@ -278,3 +281,37 @@ thinned_held items rest held order of_items = record {
     whole = λ x h free. h;
   };
 }
+
+-- the map took an observation in, or was left as it was
+module _ {K E : Type 0} (octets : K → List ℕ) (es new : List (K × List ObservationData))
+    (x : ObservationData) (held : IsHeld (items_of es)) where
+  pub put_taken : (r : Result Bool E) → IfOk r (IsPut octets es new x)
+      → IfOk r (IsTaken (items_of es) (items_of new) x)
+  put_taken (Err e) put = tt
+  put_taken (Ok kept) put = record {
+    front = put.taken (items_of es) held.front;
+    size = put.size;
+    needless = put.needless;
+  }
+
+  pub stored_held : IsLaid octets es → IsObservation x → (r : Result Bool E)
+      → IfOk r (IsPut octets es new x) → OnErr r (new ≡ es)
+      → IsHeld (items_of new) × (IsLaid octets new
+      × ((o : ObservationData) → Has (items_of new) o → Has (x ∷ items_of es) o))
+  stored_held laid one (Err e) put same = (
+    subst (λ v. IsHeld (items_of v)) (sym same) held,
+    subst (IsLaid octets) (sym same) laid,
+    λ o h. inr (subst (λ v. Has (items_of v) o) same h),
+  )
+  stored_held laid one (Ok kept) put same =
+      let front = put.taken (items_of es) held.front in (
+        taken_held (items_of es) (items_of new) x held one front,
+        put.laid,
+        front.of_set,
+      )
+
+-- where a length is not noted, no name of it is there
+pub noted_none : (kind : Kind) (lengths : List Bool) (items : List ObservationData) (size : ℕ)
+    → AreNoted kind lengths items → get_or lengths size false ≡ false → HasNone kind size items
+noted_none kind lengths items size noted none o h is of_size =
+    false≢true (sym none ∙ (ap (λ v. get_or lengths v false) (sym of_size) ∙ noted o h is))

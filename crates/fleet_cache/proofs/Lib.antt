@@ -15,7 +15,7 @@ mod Sweeps
 mod Best
 mod Past
 mod Looked
-mod Climbed
+mod Climbing
 mod Answers
 mod Underway
 mod Follow

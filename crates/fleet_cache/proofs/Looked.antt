@@ -1,23 +1,26 @@
 -- What is found by a key is the most preferred of its items.
-use Rattle.std.proofs.Common.{ℕ, ◌≡◌, ◌||◌, Bool, true, false, refl, not, List, [], ◌∷◌, inl, inr, Option, Some, None, MatchOption, ◌↔◌, sym, ap, ◌∙◌, subst}
+use Rattle.std.proofs.Common.{ℕ, ◌≡◌, ◌||◌, Bool, true, false, refl, not, List, [], ◌∷◌, length, inl, inr, Option, Some, None, slice_get, MatchOption, ◌↔◌, sym, ap, ◌∙◌, subst}
 use mathlib.Core.Bool.{false≢true}
 use Rattle.std.specs.Map.{lookup}
 use Rattle.std.specs.Ordering.{is_eq}
 use Rattle.std.proofs.lemmas.Cmp.{tied_itself, nat_list_cmp_total}
 use denote.Ref.{Bor}
+use Rattle.fleet_name.specs.Name.{wire}
 use Rattle.fleet_front.specs.Front.{IsGreatest}
 use Rattle.fleet_observe.specs.Members.{Has}
 use Rattle.fleet_observe.specs.declared.observation.kind.Kind.{Kind}
-use Rattle.fleet_observe.specs.Observation.{ObservationData, key_at, key_of}
+use Rattle.fleet_observe.specs.Observation.{ObservationData, AreObservations, key_at, key_of}
 use Rattle.fleet_observe.specs.Preference.{preference, preference_total, octets_cmp}
 use Rattle.fleet_cache.specs.Front.{without_hidden}
-use Rattle.fleet_cache.specs.Cut.{CutData, is_hidden}
+use Rattle.fleet_cache.specs.Live.{is_live}
+use Rattle.fleet_cache.specs.Cut.{CutData, is_hidden, IsCutAt}
 use Rattle.fleet_cache.specs.Dominates.{dominates}
 use Rattle.fleet_cache.specs.Cached.{is_covered, IsCovered}
 use Rattle.fleet_cache.specs.Packed.{octet_words, words_of, IsPackable}
 use Rattle.fleet_cache.specs.Slots.{items_of, IsSlot, IsLaid}
 use Rattle.fleet_cache.specs.Best.{IsBest, referent, IsOn}
 use Rattle.fleet_cache.specs.Keyed.{HasNoKey, IsOfKey}
+use Rattle.fleet_cache.specs.Noted.{HasNone}
 use Rattle.fleet_cache.specs.Orders.{over_from}
 use Rattle.fleet_cache.proofs.Packed.{packed_exact}
 use Rattle.fleet_cache.proofs.Slots.{Around, in_slot, slot_of_key, covered_in_front, in_front, in_items}
@@ -158,3 +161,33 @@ module _ (lives : ObservationData → Bool) (words : List ℕ) (n : List (List �
               best.greatest y (Has-in_filter (λ o. not (is_hidden cut o)) f y there
               (ap not (told y there ∙ ap not j.live))),
         )
+
+-- where no name of so many octets is noted, none stands
+pub none_noted : (lives : ObservationData → Bool) (n : List (List ℕ)) (kind : Kind) (size : ℕ)
+    (items : List ObservationData) → HasNone kind size items → length (wire n) ≡ size
+    → IsBest (IsOn lives n kind 0) items None
+none_noted lives n kind size items none is y h on =
+    none y h on.of_kind (ap (λ v. length (wire v)) on.named ∙ is)
+
+-- what is of the key of another observation is of its name
+pub key_named : (items : List ObservationData) (words : List ℕ) (front : List ObservationData)
+    → IsOfKey items words front → (x : ObservationData) → Has front x → (o : ObservationData)
+    → Has items o → words_of o ≡ words → o.name ≡ x.name
+key_named items words front is x first o there key =
+    let same = packed_exact (key_of o) (key_of x) (is.packable o (is.whole o there key))
+    (is.packable x first) (key ∙ sym (is.keyed x first)) in
+    (key_exact o.name x.name o.kind x.kind o.rtype x.rtype same).0
+
+-- the first of a list is one of it
+pub first_has : (xs : List ObservationData) (x : ObservationData) → Some x ≡ slice_get xs 0
+    → Has xs x
+first_has [] x e = absurd (cc)
+first_has (y ∷ xs) x e = let same : y ≡ x = cc in inl same
+
+-- a cut at the name of one of a key tells of all of the key
+pub key_told : (items : List ObservationData) (words : List ℕ) (front : List ObservationData)
+    → IsOfKey items words front → AreObservations items → (x : ObservationData) → Has front x
+    → (t : ℕ) (cut : CutData) → IsCutAt items t x.name cut → (o : ObservationData) → Has items o
+    → words_of o ≡ words → is_hidden cut o ≡ not (is_live items t o)
+key_told items words front is lawful x first t cut told o there key =
+    told o (lawful o there) (key_named items words front is x first o there key)

@@ -12,8 +12,8 @@ use Rattle.fleet_observe.specs.declared.observation.kind.Kind.TheVariants.{Flush
 use Rattle.fleet_observe.specs.Observation.{ObservationData, IsObservation, AreObservations, expires}
 use Rattle.fleet_observe.specs.Preference.{preference}
 use Rattle.fleet_cache.specs.Void.{IsVoid, is_flush, is_void}
-use Rattle.fleet_cache.specs.Live.{has_ended, is_live}
-use Rattle.fleet_cache.specs.Cut.{stamp_of, is_flushed, is_hidden, IsCutAt}
+use Rattle.fleet_cache.specs.Live.{has_ended, lasts, is_live}
+use Rattle.fleet_cache.specs.Cut.{CutData, stamp_of, is_flushed, is_hidden, ShowsLiving, IsCutAt}
 use Rattle.fleet_cache.specs.Best.{IsBest, IsAbove}
 use Rattle.fleet_cache.proofs.Best.{AtLeast}
 use Rattle.fleet_cache.proofs.Beats.{live_to}
@@ -43,10 +43,7 @@ later_flush x y lx ly kx ky (inl more) =
 module _ (t : ℕ) (items : List ObservationData) (n : List (List ℕ))
     (lawful : AreObservations items) (o : ObservationData) (one : IsObservation o)
     (named : o.name ≡ n) where
-  Lasts : ObservationData → Bool
-  Lasts f = not (has_ended t f)
-
-  flushed_from : (best : Option ObservationData) → IsBest (IsAbove Lasts Flush n) items best
+  flushed_from : (best : Option ObservationData) → IsBest (IsAbove (lasts t) Flush n) items best
       → is_flushed (stamp_of best) o ≡ true → IsVoid items o
   flushed_from None best e = absurd (false≢true e)
   flushed_from (Some x) best e =
@@ -63,7 +60,7 @@ module _ (t : ℕ) (items : List ObservationData) (n : List (List ℕ))
       )
 
   flushed_to : has_ended t o ≡ false → (best : Option ObservationData)
-      → IsBest (IsAbove Lasts Flush n) items best → IsVoid items o
+      → IsBest (IsAbove (lasts t) Flush n) items best → IsVoid items o
       → is_flushed (stamp_of best) o ≡ true
   flushed_to lasts best is v = by_cases best is (record {
     live = ap not seen;
@@ -76,8 +73,8 @@ module _ (t : ℕ) (items : List ObservationData) (n : List (List ℕ))
       seen = let longer = void_outlived v.0 o (lawful v.0 v.1) one v.2
           in grind (arith, nat_tests, longer, lasts)
 
-      by_cases : (b : Option ObservationData) → IsBest (IsAbove Lasts Flush n) items b
-          → IsAbove Lasts Flush n v.0 → is_flushed (stamp_of b) o ≡ true
+      by_cases : (b : Option ObservationData) → IsBest (IsAbove (lasts t) Flush n) items b
+          → IsAbove (lasts t) Flush n v.0 → is_flushed (stamp_of b) o ≡ true
       by_cases None none above = absurd (none v.0 v.1 above)
       by_cases (Some x) top above =
           let least = top.2 v.0 v.1 above in
@@ -87,7 +84,7 @@ module _ (t : ℕ) (items : List ObservationData) (n : List (List ℕ))
           and_from (not (is_flush o.kind)) (nat_le o.stamp x.stamp) (other_to o.kind v.2.other)
           (grind (arith, nat_tests, after, later))
 
-  cut_tells : (best : Option ObservationData) → IsBest (IsAbove Lasts Flush n) items best
+  cut_tells : (best : Option ObservationData) → IsBest (IsAbove (lasts t) Flush n) items best
       → is_hidden (record { moment = t; flushed = stamp_of best }) o ≡ not (is_live items t o)
   cut_tells best is = elim (cases_Bool (has_ended t o)) [
     | inl end ↦ or_right (is_flushed (stamp_of best) o) (has_ended t o) end
@@ -107,6 +104,26 @@ module _ (t : ℕ) (items : List ObservationData) (n : List (List ℕ))
 -- the latest flush above a name tells what is live there
 pub cut_of_flush : (t : ℕ) (items : List ObservationData) (n : List (List ℕ))
     (best : Option ObservationData) → AreObservations items
-    → IsBest (IsAbove (λ o. not (has_ended t o)) Flush n) items best
+    → IsBest (IsAbove (lasts t) Flush n) items best
     → IsCutAt items t n (record { moment = t; flushed = stamp_of best })
 cut_of_flush t items n best lawful is o one named = cut_tells t items n lawful o one named best is
+
+-- what is not shown
+twice : (b : Bool) → b ≡ not (not b)
+twice true = refl
+twice false = refl
+
+-- a cut at a moment shows what has not ended
+pub moment_shows : (t : ℕ) (items : List ObservationData) (n : List (List ℕ)) (cut : CutData)
+    → cut ≡ record { moment = t; flushed = None } → ShowsLiving (lasts t) items n cut
+moment_shows t items n cut is o there named = ap (λ (k : CutData). is_hidden k o) is
+    ∙ twice (has_ended t o)
+
+-- and the cut of the latest flush what is live
+pub flush_shows : (t : ℕ) (items : List ObservationData) (n : List (List ℕ))
+    (best : Option ObservationData) (cut : CutData) → AreObservations items
+    → cut ≡ record { moment = t; flushed = stamp_of best }
+    → IsBest (IsAbove (lasts t) Flush n) items best → ShowsLiving (is_live items t) items n cut
+flush_shows t items n best cut lawful is top o there named =
+    ap (λ (k : CutData). is_hidden k o) is
+    ∙ cut_tells t items n lawful o (lawful o there) named best top

@@ -1,5 +1,6 @@
 -- What hides observations of a name.
 use Rattle.std.specs.Prelude.{◌≡◌, ℕ, Bool, false, not, ◌&&◌, ◌||◌, nat_le, List, Option, Some, None}
+use Rattle.fleet_observe.specs.Members.{Has}
 use Rattle.fleet_observe.specs.Observation.{ObservationData, IsObservation}
 use Rattle.fleet_cache.specs.Void.{is_flush}
 use Rattle.fleet_cache.specs.Live.{has_ended, is_live}
@@ -23,6 +24,12 @@ is_flushed (Some stamp) o = not (is_flush o.kind) && nat_le o.stamp stamp
 -- o is withdrawn, or has ended
 abbrev pub is_hidden : CutData → ObservationData → Bool
 is_hidden cut o = is_flushed cut.flushed o || has_ended cut.moment o
+
+-- of the items of the name n, the cut shows just those that live
+abbrev pub ShowsLiving : (ObservationData → Bool) → List ObservationData → List (List ℕ) → CutData
+    → Type 0
+ShowsLiving lives items n cut = (o : ObservationData) → Has items o → o.name ≡ n
+    → is_hidden cut o ≡ not (lives o)
 
 -- at the name n the cut hides what is not live in s at the moment t
 abbrev pub IsCutAt : List ObservationData → ℕ → List (List ℕ) → CutData → Type 0

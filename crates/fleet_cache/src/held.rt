@@ -1,12 +1,10 @@
 //! What a cache holds in memory.
 
-ghost use Rattle.std.specs.Prelude.{◌≡◌, ℕ, List, [], ◌↔◌, false, not, length, IsTrue, IfOk, OnErr, MatchOption};
-ghost use Rattle.fleet_name.specs.Name.{wire, IsWire};
+ghost use Rattle.std.specs.Prelude.{◌≡◌, [], ◌↔◌, false, length, IsTrue, IfOk, OnErr, MatchOption};
+ghost use Rattle.fleet_name.specs.Name.{IsWire};
 ghost use Rattle.fleet_observe.specs.declared.observation.kind.Kind.TheVariants.{NameError, Flush};
-ghost use Rattle.fleet_observe.specs.Observation.{IsObservation};
-ghost use Rattle.fleet_cache.specs.Live.{is_live};
 ghost use Rattle.fleet_cache.specs.Cached.{IsCovered};
-ghost use Rattle.fleet_cache.specs.Held.{IsTaken};
+ghost use Rattle.fleet_cache.specs.Held.{IsHeld, IsTaken};
 ghost use Rattle.fleet_cache.specs.Keyed.{HasNoKey, IsOfKey};
 ghost use Rattle.fleet_cache.specs.Noted.{HasNone};
 ghost use Rattle.fleet_cache.specs.Swept.{IsTrimmed};
@@ -71,6 +69,7 @@ impl<A: Allocator> Held<A> {
     pub(crate) fn take(&mut self, alloc: A, observation: Observation<A>) -> Result<bool, AllocError>
     where
         A: Copy,
+        ensures own { IsHeld self.old }
         ensures taken { IfOk result (IsTaken self.old self.new observation) }
         ensures memory { OnErr result (¬ IsCovered self.old observation) }
         ensures err { OnErr result (self.new ≡ self.old) }
@@ -98,22 +97,25 @@ impl<A: Allocator> Held<A> {
 
     /// Whether an observation is there, or is dominated.
     pub(crate) fn covers(&self, observation: &Observation<A>) -> bool
-        ensures { IsTrue result ↔ IsCovered self.now observation.now }
+        ensures covered { IsTrue result ↔ IsCovered self.now observation.now }
+        ensures own { IsHeld self.now }
     {
         covers(&self.fronts, observation)
     }
 
     /// The front of a key, by its words.
     pub(crate) fn front(&self, words: &[u64]) -> Option<&Front<Item<A>, A>>
-        ensures { MatchOption result (HasNoKey self.now words.now)
+        ensures found { MatchOption result (HasNoKey self.now words.now)
             (λ f. IsOfKey self.now words.now f.now) }
+        ensures own { IsHeld self.now }
     {
         self.fronts.get(words)
     }
 
     /// The fronts, one after another.
     pub(crate) fn fronts(&self) -> Values<'_, Key<A>, Front<Item<A>, A>>
-        ensures { concat result ≡ self.now }
+        ensures items { concat result ≡ self.now }
+        ensures own { IsHeld self.now }
     {
         self.fronts.values()
     }
@@ -128,7 +130,9 @@ impl<A: Allocator> Held<A> {
     }
 
     /// How many fronts there are.
-    pub(crate) fn len(&self) -> usize {
+    pub(crate) fn len(&self) -> usize
+        ensures own { IsHeld self.now }
+    {
         self.fronts.len()
     }
 
@@ -143,7 +147,8 @@ impl<A: Allocator> Held<A> {
     /// Whether a flush may be held of a name of as many octets.
     pub(crate) fn may_flush(&self, name: &[u8]) -> bool
         requires { IsWire name.now }
-        ensures { result ≡ false → HasNone Flush (length name.now) self.now }
+        ensures none { result ≡ false → HasNone Flush (length name.now) self.now }
+        ensures own { IsHeld self.now }
     {
         self.flushed.may_stand(name)
     }

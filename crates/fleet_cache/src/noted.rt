@@ -2,7 +2,7 @@
 
 ghost use Rattle.std.specs.Prelude.{◌≡◌, ◌≤◌, false, List, [], ◌∷◌, get_or, length};
 ghost use Rattle.fleet_name.specs.declared.bounds.TheConstants.{LONGEST_NAME};
-ghost use Rattle.fleet_observe.specs.Observation.{ObservationData};
+ghost use Rattle.fleet_observe.specs.Observation.{ObservationData, IsObservation};
 ghost use Rattle.fleet_observe.specs.declared.observation.kind.Kind.{Kind};
 ghost use Rattle.fleet_cache.specs.Noted.{AreNoted};
 
@@ -42,8 +42,9 @@ impl Noted {
 
     /// Notes an observation, if it is of the kind.
     pub(crate) fn note<A: Allocator>(&mut self, kind: Kind, observation: &Observation<A>)
-        ensures { (items : List ObservationData) → AreNoted kind self.old items
+        ensures noted { (items : List ObservationData) → AreNoted kind self.old items
             → AreNoted kind self.new (observation.now ∷ items) }
+        ensures lawful { IsObservation observation.now }
     {
         if observation.kind() == kind {
             self.lengths[observation.name().octets().len()] = true;

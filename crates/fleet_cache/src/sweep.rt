@@ -2,6 +2,7 @@
 
 ghost use Rattle.std.specs.Prelude.{OnErr};
 ghost use Rattle.fleet_cache.specs.Cached.{IsCovered};
+ghost use Rattle.fleet_cache.specs.Held.{IsHeld};
 ghost use Rattle.fleet_cache.specs.Swept.{IsSwept};
 
 use crate::held::Held;
@@ -39,6 +40,7 @@ impl<A: Allocator> Cursor<A> {
         observation: &Observation<A>,
     ) -> Result<(), AllocError>
         ensures memory { OnErr result (¬ IsCovered held.now observation.now) }
+        ensures own { OnErr result (IsHeld held.now) }
     {
         if self.key.capacity() >= MOST_WORDS || held.covers(observation) {
             return Ok(());
@@ -68,6 +70,7 @@ impl<A: Allocator> Cursor<A> {
 /// on with them, and back to the start behind the last one. Fronts of which nothing is left go too.
 pub(crate) fn sweep<A: Allocator>(held: &mut Held<A>, cursor: &mut Cursor<A>, moment: Moment)
     ensures swept { IsSwept moment held.old held.new }
+    ensures own { IsHeld held.old }
 {
     let mut left = (held.len() / SHARE).max(LEAST);
     while left > 0 && cursor.advance(held) {

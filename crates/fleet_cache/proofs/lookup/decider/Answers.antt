@@ -1,19 +1,23 @@
 use Rattle.std.proofs.Common.{◌⊎◌}
 use Rattle.fleet_wire.specs.declared.rtype.TheConstants.{CNAME}
 use Rattle.fleet_observe.specs.declared.observation.kind.Kind.TheVariants.{NameError, NoData, Positive}
-use Rattle.fleet_cache.specs.Slots.{items_of}
-use Rattle.fleet_cache.specs.Best.{IsOn, IsAbove}
+use Rattle.fleet_cache.specs.Live.{is_live}
+use Rattle.fleet_cache.specs.Best.{IsOn, IsAbove, referent}
 use Rattle.fleet_cache.proofs.Best.{best_or}
+use Rattle.fleet_cache.proofs.Past.{flush_shows}
 use Rattle.fleet_cache.proofs.lookup.decider.Goals as goal
 
-pub returns : goal.returns
-returns g c n e =
-    let items = items_of c.args.fronts.now.entries in
-    let t = c.args.moment in
+pub returns-clause-best : goal.returns-clause-best
+returns-clause-best g c n e =
+    let items = c.args.held.now in
+    let lives = is_live items c.args.moment in
     let q = c.args.rtype in
+    let shows = flush_shows c.args.moment items n (referent c.look_above-above.result.flush)
+    c.cut_by-cut.result c.look_above-above.ensures.own.lawful c.cut_by-cut.ensures
+    (c.look_above-above.ensures.flush n e) in
     rw (c.better_of.ensures, c.better_of-negative.ensures)
-    (best_or (λ o. IsOn t n Positive q o ⊎ IsOn t n Positive CNAME o) (λ o. IsOn t n NoData q o
-    ⊎ IsAbove t NameError n o) items _ _
-    (c.records_or_alias-positive.ensures n e)
-    (best_or (IsOn t n NoData q) (IsAbove t NameError n) items _ _ (c.look-none.ensures n e)
-    (c.stands_above.ensures n e)))
+    (best_or (λ o. IsOn lives n Positive q o ⊎ IsOn lives n Positive CNAME o)
+    (λ o. IsOn lives n NoData q o ⊎ IsAbove lives NameError n o) items _ _
+    (c.records_or_alias-positive.ensures n lives e shows)
+    (best_or (IsOn lives n NoData q) (IsAbove lives NameError n) items _ _
+    (c.look-none.ensures.best n lives e shows) (c.look_above-above.ensures.denial n e)))

@@ -1,11 +1,8 @@
-use Rattle.std.proofs.Common.{◌≡◌, Bool, true, false, not, ◌↔◌, IsTrue, inl, refl, sym, subst, ◌∙◌}
+use Rattle.std.proofs.Common.{◌≡◌, Bool, true, false, not, ◌↔◌, IsTrue, refl, sym, subst, ◌∙◌}
 use mathlib.Core.Bool.{false≢true}
-use Rattle.fleet_cache.specs.Front.{without_hidden}
-use Rattle.fleet_cache.specs.Live.{has_ended}
+use Rattle.fleet_cache.specs.Live.{live_of}
 use Rattle.fleet_cache.specs.Cached.{CacheData, IsPast, IsNeedless}
-use Rattle.fleet_cache.specs.Slots.{items_of}
-use Rattle.fleet_cache.proofs.Caches.{needless_shown}
-use Rattle.fleet_cache.proofs.Admitted.{lasts}
+use Rattle.fleet_cache.proofs.Holdings.{needless_tells}
 use Rattle.fleet_cache.proofs.cache.Cache.needs.Goals as goal
 
 -- a test turned round
@@ -17,13 +14,12 @@ pub returns-then-not-is_past-clause-needless : goal.returns-then-not-is_past-cla
 returns-then-not-is_past-clause-needless g c =
     let i = c.self.inside in
     let o = c.args.observation.now in
-    let items = items_of i.fronts.entries in
-    let current : ¬ IsPast i.floor (without_hidden has_ended i.floor items) o =
+    let current : ¬ IsPast i.floor (live_of i.held i.floor) o =
     λ p. false≢true (sym c.if-not-is_past.true ∙ c.is_past.ensures.past.1
     (subst (λ (v : CacheData). IsPast v.floor v.items o) c.self.view_is p)) in
-    let live = lasts i.floor items o c.self.invariant.0 c.is_past.ensures.lawful current in
-    let there = needless_shown items i.floor o live current in
-    let test = turned c.covers.result c.covers.ensures in (
+    let there = needless_tells i.held i.floor o c.covers.ensures.own.lawful
+    c.is_past.ensures.lawful current in
+    let test = turned c.covers.result c.covers.ensures.covered in (
       (λ e. subst (λ v. IsNeedless v.floor v.items o) c.self.view_is (there.0 (test.0 e))),
       λ n. test.1 (there.1 (subst (λ v. IsNeedless v.floor v.items o) (sym c.self.view_is) n)),
     )

@@ -1,0 +1,16 @@
+use Rattle.std.proofs.Common.{length, ap, sym}
+use Rattle.fleet_observe.specs.declared.observation.kind.Kind.TheVariants.{Flush}
+use Rattle.fleet_cache.specs.Live.{lasts}
+use Rattle.fleet_cache.proofs.Looked.{none_noted}
+use Rattle.fleet_cache.proofs.Past.{moment_shows}
+use Rattle.fleet_cache.proofs.lookup.flush_at.Goals as goal
+
+pub returns-then-not-may_flush-clause-best : goal.returns-then-not-may_flush-clause-best
+returns-then-not-may_flush-clause-best g c n e =
+    none_noted (lasts c.args.moment) n Flush (length c.args.name.now) c.args.held.now
+    (c.may_flush.ensures.none c.if-not-may_flush.true) (sym (ap length e))
+
+pub returns-clause-best : goal.returns-clause-best
+returns-clause-best g c n e =
+    c.look.ensures.best n (lasts c.args.moment) e
+    (moment_shows c.args.moment c.args.held.now n c.at.result c.at.ensures)

@@ -1,0 +1,99 @@
+use Rattle.std.proofs.Common.{ℕ, ◌≡◌, ◌≢◌, Bool, true, false, List, [], ◌∷◌, Some, length, sym, ap, refl, ◌∙◌, subst, arith}
+use Rattle.std.specs.Bool.{◌==◌}
+use Rattle.std.specs.Ordering.{is_eq}
+use Rattle.std.proofs.lemmas.Bool.Decides.{nat_tests}
+use Rattle.std.specs.Map.{lookup, set_value, remove_entry}
+use Rattle.std.proofs.lemmas.List.{nil_from_length}
+use Rattle.fleet_observe.specs.Members.{Has}
+use Rattle.fleet_observe.specs.Observation.{ObservationData}
+use Rattle.fleet_observe.specs.Preference.{octets_cmp}
+use Rattle.fleet_cache.specs.Front.{without_hidden}
+use Rattle.fleet_cache.specs.Cut.{CutData, is_hidden}
+use Rattle.fleet_cache.specs.Packed.{words_of}
+use Rattle.fleet_cache.specs.Slots.{is_nil, IsLaid}
+use Rattle.fleet_cache.proofs.Slots.{slot_of_key}
+use Rattle.fleet_cache.proofs.Sweeps.{IsTrim, written, taken_out, trim_laid, trim_thinned}
+use Rattle.fleet_cache.proofs.store.drop_hidden.Goals as goal
+
+some_left : (xs : List ObservationData) → length xs ≢ 0 → is_nil xs ≡ false
+some_left [] e = absurd (e refl)
+some_left (x ∷ xs) e = refl
+
+told : (n : ℕ) (b : Bool) → b ≡ (n == 0) → b ≡ true → n ≡ 0
+told n b is e = grind (arith, nat_tests, is, e)
+
+-- the front was written back
+module _ {K : Type 0} (octets : K → List ℕ) (q : List ℕ) (cut : CutData)
+    (es new : List (K × List ObservationData)) (f g : List ObservationData)
+    (laid : IsLaid octets es) (found : Some f ≡ lookup (λ k. is_eq (octets_cmp q (octets k))) es)
+    (shown : g ≡ without_hidden is_hidden cut f)
+    (is : new ≡ set_value (λ k. is_eq (octets_cmp q (octets k))) es g) where
+  keyed : (o : ObservationData) → Has f o → words_of o ≡ q
+  keyed o h = (slot_of_key octets es q f laid (sym found)).slot.one_key o h
+
+  kept : length g ≢ 0 → IsTrim octets q cut es new
+  kept some = subst (IsTrim octets q cut es)
+      (sym (is ∙ ap (set_value (λ k. is_eq (octets_cmp q (octets k))) es) shown))
+      (written octets q cut (λ k. is_eq (octets_cmp q (octets k))) es f (sym found) keyed
+      (some_left (without_hidden is_hidden cut f) (λ e. some (ap length shown ∙ e))))
+
+  dropped : (left : List (K × List ObservationData))
+      → left ≡ remove_entry (λ k. is_eq (octets_cmp q (octets k))) new → length g ≡ 0
+      → IsTrim octets q cut es left
+  dropped left gone none = subst (IsTrim octets q cut es)
+      (sym (gone ∙ ap (remove_entry (λ k. is_eq (octets_cmp q (octets k))))
+      (is ∙ ap (set_value (λ k. is_eq (octets_cmp q (octets k))) es) shown)))
+      (taken_out octets q cut (λ k. is_eq (octets_cmp q (octets k))) es f (sym found) keyed
+      (nil_from_length (without_hidden is_hidden cut f) (sym (ap length shown) ∙ none)))
+
+pub returns-then-is_empty-clause-laid : goal.returns-then-is_empty-clause-laid
+returns-then-is_empty-clause-laid g c =
+    let none : length c.drop_hidden.new.self ≡ 0 = sym (ap length c.items.ensures.items)
+    ∙ told (length c.items.result.now) c.is_empty.result c.is_empty.ensures c.if-is_empty.true in
+    trim_laid (λ k. k.items) c.args.key.now.items c.args.cut.now c.args.fronts.now.entries
+    c.remove.new.self.entries
+    (dropped (λ k. k.items) c.args.key.now.items c.args.cut.now c.args.fronts.now.entries
+    (c.get_mut.follows.lender c.drop_hidden.new.self).entries c.in-Some.front.now
+    c.drop_hidden.new.self c.requires c.in-Some.ensures.value c.drop_hidden.ensures.items
+    (c.get_mut.follows.holds c.drop_hidden.new.self).0 c.remove.new.self.entries
+    c.remove.ensures.entries none)
+    c.requires
+
+pub returns-then-is_empty-clause-trimmed : goal.returns-then-is_empty-clause-trimmed
+returns-then-is_empty-clause-trimmed g c lives tells =
+    let none : length c.drop_hidden.new.self ≡ 0 = sym (ap length c.items.ensures.items)
+    ∙ told (length c.items.result.now) c.is_empty.result c.is_empty.ensures c.if-is_empty.true in
+    trim_thinned (λ k. k.items) c.args.key.now.items c.args.cut.now c.args.fronts.now.entries
+    c.remove.new.self.entries
+    (dropped (λ k. k.items) c.args.key.now.items c.args.cut.now c.args.fronts.now.entries
+    (c.get_mut.follows.lender c.drop_hidden.new.self).entries c.in-Some.front.now
+    c.drop_hidden.new.self c.requires c.in-Some.ensures.value c.drop_hidden.ensures.items
+    (c.get_mut.follows.holds c.drop_hidden.new.self).0 c.remove.new.self.entries
+    c.remove.ensures.entries none)
+    lives tells
+
+pub returns-else-is_empty-clause-laid : goal.returns-else-is_empty-clause-laid
+returns-else-is_empty-clause-laid g c =
+    let some : length c.drop_hidden.new.self ≢ 0 =
+    λ e. (let same : length c.items.result.now ≡ 0 = ap length c.items.ensures.items ∙ e
+    in grind (arith, nat_tests, c.is_empty.ensures, c.if-is_empty.false, same)) in
+    trim_laid (λ k. k.items) c.args.key.now.items c.args.cut.now c.args.fronts.now.entries
+    (c.get_mut.follows.lender c.drop_hidden.new.self).entries
+    (kept (λ k. k.items) c.args.key.now.items c.args.cut.now c.args.fronts.now.entries
+    (c.get_mut.follows.lender c.drop_hidden.new.self).entries c.in-Some.front.now
+    c.drop_hidden.new.self c.requires c.in-Some.ensures.value c.drop_hidden.ensures.items
+    (c.get_mut.follows.holds c.drop_hidden.new.self).0 some)
+    c.requires
+
+pub returns-else-is_empty-clause-trimmed : goal.returns-else-is_empty-clause-trimmed
+returns-else-is_empty-clause-trimmed g c lives tells =
+    let some : length c.drop_hidden.new.self ≢ 0 =
+    λ e. (let same : length c.items.result.now ≡ 0 = ap length c.items.ensures.items ∙ e
+    in grind (arith, nat_tests, c.is_empty.ensures, c.if-is_empty.false, same)) in
+    trim_thinned (λ k. k.items) c.args.key.now.items c.args.cut.now c.args.fronts.now.entries
+    (c.get_mut.follows.lender c.drop_hidden.new.self).entries
+    (kept (λ k. k.items) c.args.key.now.items c.args.cut.now c.args.fronts.now.entries
+    (c.get_mut.follows.lender c.drop_hidden.new.self).entries c.in-Some.front.now
+    c.drop_hidden.new.self c.requires c.in-Some.ensures.value c.drop_hidden.ensures.items
+    (c.get_mut.follows.holds c.drop_hidden.new.self).0 some)
+    lives tells
