@@ -12,7 +12,7 @@ use Rattle.fleet_cache.specs.Void.{IsVoid, voids, is_void}
 use Rattle.fleet_cache.specs.Dominates.{dominates}
 use Rattle.fleet_cache.specs.Cached.{place, CacheData, IsCached, IsCovered, IsPast, IsNeedless, IsSameSet}
 use Rattle.fleet_cache.proofs.Places.{place_laws}
-use Rattle.fleet_cache.proofs.Voids.{void_from, void_to, voids_from, voids_to, unvoided_to, unvoided_by, void_outlived, flush_stays, other_spares}
+use Rattle.fleet_cache.proofs.Voids.{void_from, void_to, voids_from, voids_to, unvoided_to, unvoided_by, void_outlived, flush_stays}
 use Rattle.fleet_cache.proofs.Beats.{beats, beats_cases, dominates_beats, outlasts_beats, beats_chain, beaten_hidden, beats_laws, beats_itself, beats_shown, shown_parts, shown_of, LivesIn, lives_in, cached_front, cached_from}
 use Rattle.std.proofs.lemmas.Bool.{cases_Bool, not-true}
 use Rattle.fleet_front.specs.Front.{IsCovered as IsCoveredBy}

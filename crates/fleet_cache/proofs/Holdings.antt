@@ -300,14 +300,12 @@ module _ {K E : Type 0} (octets : K → List ℕ) (es new : List (K × List Obse
       × ((o : ObservationData) → Has (items_of new) o → Has (x ∷ items_of es) o))
   stored_held laid one (Err e) put same = (
     subst (λ v. IsHeld (items_of v)) (sym same) held,
-    subst (IsLaid octets) (sym same) laid,
-    λ o h. inr (subst (λ v. Has (items_of v) o) same h),
+    (subst (IsLaid octets) (sym same) laid, λ o h. inr (subst (λ v. Has (items_of v) o) same h)),
   )
   stored_held laid one (Ok kept) put same =
       let front = put.taken (items_of es) held.front in (
         taken_held (items_of es) (items_of new) x held one front,
-        put.laid,
-        front.of_set,
+        (put.laid, front.of_set),
       )
 
 -- where a length is not noted, no name of it is there

@@ -62,7 +62,7 @@ module _ (t : ℕ) (items : List ObservationData) (n : List (List ℕ))
   flushed_to : has_ended t o ≡ false → (best : Option ObservationData)
       → IsBest (IsAbove (lasts t) Flush n) items best → IsVoid items o
       → is_flushed (stamp_of best) o ≡ true
-  flushed_to lasts best is v = by_cases best is (record {
+  flushed_to still best is v = by_cases best is (record {
     live = ap not seen;
     under = subst (λ w. IsUnder w v.0.name) named v.2.under;
     of_kind = v.2.flush;
@@ -71,7 +71,7 @@ module _ (t : ℕ) (items : List ObservationData) (n : List (List ℕ))
     where
       seen : has_ended t v.0 ≡ false
       seen = let longer = void_outlived v.0 o (lawful v.0 v.1) one v.2
-          in grind (arith, nat_tests, longer, lasts)
+          in grind (arith, nat_tests, longer, still)
 
       by_cases : (b : Option ObservationData) → IsBest (IsAbove (lasts t) Flush n) items b
           → IsAbove (lasts t) Flush n v.0 → is_flushed (stamp_of b) o ≡ true
@@ -89,14 +89,14 @@ module _ (t : ℕ) (items : List ObservationData) (n : List (List ℕ))
   cut_tells best is = elim (cases_Bool (has_ended t o)) [
     | inl end ↦ or_right (is_flushed (stamp_of best) o) (has_ended t o) end
         ∙ sym (ap not (gone_ended items t o end))
-    | inr lasts ↦ elim (cases_Bool (is_flushed (stamp_of best) o)) [
+    | inr still ↦ elim (cases_Bool (is_flushed (stamp_of best) o)) [
       | inl yea ↦ or_left (is_flushed (stamp_of best) o) (has_ended t o) yea
           ∙ sym (ap not (gone_void items t o (void_to items o (flushed_from best is yea))))
-      | inr nay ↦ rw (nay, lasts) (sym (ap not (live_to items t o lasts
+      | inr nay ↦ rw (nay, still) (sym (ap not (live_to items t o still
           (elim (cases_Bool (is_void items o)) [
             | inr spared ↦ spared
             | inl void ↦ absurd (false≢true (sym nay
-                ∙ flushed_to lasts best is (void_from items o void)))
+                ∙ flushed_to still best is (void_from items o void)))
           ]))))
     ]
   ]

@@ -40,7 +40,7 @@ shown_live : (lives hid : ObservationData → Bool) (s : List ObservationData)
 shown_live lives hid [] told = refl
 shown_live lives hid (x ∷ s) told = elim (cases_Bool (lives x)) [
   | inl e ↦ let f : hid x ≡ false = told x (inl refl) ∙ ap not e in
-      rw (f, e) (rw e (ap (λ v. x ∷ v) (shown_live lives hid s (λ y h. told y (inr h)))))
+      rw (f, e) (ap (λ v. x ∷ v) (shown_live lives hid s (λ y h. told y (inr h))))
   | inr e ↦ let f : hid x ≡ true = told x (inl refl) ∙ ap not e in
       rw (f, e) (shown_live lives hid s (λ y h. told y (inr h)))
 ]

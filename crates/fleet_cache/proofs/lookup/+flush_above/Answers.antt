@@ -1,3 +1,4 @@
+use Rattle.std.proofs.Common.{arith}
 use Rattle.fleet_observe.specs.declared.observation.kind.Kind.TheVariants.{Flush}
 use Rattle.fleet_cache.specs.Live.{lasts}
 use Rattle.fleet_cache.specs.Best.{referent}
@@ -5,21 +6,19 @@ use Rattle.fleet_cache.proofs.Climbing.{parent_wired, parent_shorter, at_root, o
 use Rattle.fleet_cache.proofs.lookup.+flush_above.Goals as goal
 
 pub returns-in_default-clause-best : goal.returns-in_default-clause-best
-returns-in_default-clause-best g c n e =
+returns-in_default-clause-best g k c n e =
     at_root (lasts c.args.moment) Flush c.args.held.now n (referent c.flush_at-here.result)
     (c.in_default.ensures n e) (c.flush_at-here.ensures.best n e)
 
 pub flush_above-requires : goal.flush_above-requires
-flush_above-requires g c = let w = c.requires in
-    parent_wired w.name c.in-Some.above.now (c.in-Some.ensures w.name w.whole)
-
-pub flush_above-smaller : goal.flush_above-smaller
-flush_above-smaller g c = let w = c.requires in
-    parent_shorter c.args.name.now w.name c.in-Some.above.now w.whole
-    (c.in-Some.ensures w.name w.whole)
+flush_above-requires g k c κs within =
+    let w = c.requires in
+    let up = c.in-Some.ensures w.name w.whole in
+    let less = parent_shorter c.args.name.now w.name c.in-Some.above.now w.whole up in
+    (omega (arith, less, c.decreases), (within, parent_wired w.name c.in-Some.above.now up))
 
 pub returns-clause-best : goal.returns-clause-best
-returns-clause-best g c n e =
+returns-clause-best g k c n e =
     let p = c.in-Some.ensures n e in
     one_up (lasts c.args.moment) Flush c.args.held.now n c.in-Some.above.now p
     (referent c.flush_at-here.result) (referent c.flush_above.result) (referent c.better_of.result)

@@ -1,5 +1,4 @@
-use Rattle.std.proofs.Common.{◌≡◌, List, ℕ}
-use Rattle.fleet_name.specs.Name.{wire}
+use Rattle.std.proofs.Common.{arith}
 use Rattle.fleet_observe.specs.declared.observation.kind.Kind.TheVariants.{NameError, Flush}
 use Rattle.fleet_cache.specs.Live.{lasts, is_live}
 use Rattle.fleet_cache.specs.Best.{IsBest, IsAbove, referent}
@@ -8,12 +7,12 @@ use Rattle.fleet_cache.proofs.Climbing.{parent_wired, parent_shorter, at_root, o
 use Rattle.fleet_cache.proofs.lookup.+look_above.Goals as goal
 
 pub returns-in_default-clause-flush : goal.returns-in_default-clause-flush
-returns-in_default-clause-flush g c n e =
+returns-in_default-clause-flush g k c n e =
     at_root (lasts c.args.moment) Flush c.args.held.now n (referent c.flush_at-here.result)
     (c.in_default.ensures n e) (c.flush_at-here.ensures.best n e)
 
 pub returns-in_default-clause-denial : goal.returns-in_default-clause-denial
-returns-in_default-clause-denial g c n e =
+returns-in_default-clause-denial g k c n e =
     let items = c.args.held.now in
     let t = c.args.moment in
     let here = referent c.flush_at-here.result in
@@ -24,17 +23,15 @@ returns-in_default-clause-denial g c n e =
     (flush_shows t items n here c.cut_by.result c.flush_at-here.ensures.own.lawful c.cut_by.ensures
     top))
 
-pub look_above-requires : goal.look_above-requires
-look_above-requires g c = let w = c.requires in
-    parent_wired w.name c.in-Some.next.now (c.in-Some.ensures w.name w.whole)
-
-pub look_above-smaller : goal.look_above-smaller
-look_above-smaller g c = let w = c.requires in
-    parent_shorter c.args.name.now w.name c.in-Some.next.now w.whole
-    (c.in-Some.ensures w.name w.whole)
+pub look_above-above-requires : goal.look_above-above-requires
+look_above-above-requires g k c κs within =
+    let w = c.requires in
+    let up = c.in-Some.ensures w.name w.whole in
+    let less = parent_shorter c.args.name.now w.name c.in-Some.next.now w.whole up in
+    (omega (arith, less, c.decreases), (within, parent_wired w.name c.in-Some.next.now up))
 
 pub returns-clause-flush : goal.returns-clause-flush
-returns-clause-flush g c n e =
+returns-clause-flush g k c n e =
     let p = c.in-Some.ensures n e in
     one_up (lasts c.args.moment) Flush c.args.held.now n c.in-Some.next.now p
     (referent c.flush_at-here.result) (referent c.look_above-above.result.flush)
@@ -42,7 +39,7 @@ returns-clause-flush g c n e =
     (c.flush_at-here.ensures.best n e) (c.look_above-above.ensures.flush p.rest p.whole)
 
 pub returns-clause-denial : goal.returns-clause-denial
-returns-clause-denial g c n e =
+returns-clause-denial g k c n e =
     let items = c.args.held.now in
     let t = c.args.moment in
     let p = c.in-Some.ensures n e in
@@ -56,6 +53,6 @@ returns-clause-denial g c n e =
     (referent c.denial_at-nearest.result) (referent c.look_above-above.result.denial)
     (referent c.better_of-denial.result) c.better_of-denial.ensures
     (c.denial_at-nearest.ensures n (is_live items t) e
-    (flush_shows t items n flush c.cut_by.result c.flush_at-here.ensures.own.lawful
-    c.cut_by.ensures top))
+    (flush_shows t items n flush c.cut_by-2.result c.flush_at-here.ensures.own.lawful
+    c.cut_by-2.ensures top))
     (c.look_above-above.ensures.denial p.rest p.whole)

@@ -80,7 +80,7 @@ returns-in-Some-clause-memory g c =
     let o = c.args.observation in
     let same : c.as_slice.result.now ≡ words_of o = c.as_slice.ensures.value
     ∙ c.words_of_observation-words.ensures.words in
-    let there = covered_there (λ k. k.items) 0 c.as_slice.result.now es f c.requires
+    let there = covered_there (λ k. k.items) c.as_slice.result.now es f c.requires
     (sym c.in-Some.ensures.value) o same in
     on_err_weaker c.take.result (λ free k. free (there.1 k))
     (subst (λ v. OnErr c.take.result (¬ IsCoveredBy dominates f v)) c.new.ensures

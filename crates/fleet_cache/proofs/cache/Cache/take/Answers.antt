@@ -37,8 +37,8 @@ returns-clause-kept g c =
     subst (λ (v : CacheData). (c.in_ok-kept.kept ≡ false) ↔ IsNeedless v.floor v.items o)
     c.self.view_is ((λ e. there.0 (taken.needless.0 e)), λ n. taken.needless.1 (there.1 n))
 
-pub invariant_of-self : goal.invariant_of-self
-invariant_of-self g c = omega (arith, c.in_ok-kept.ensures.taken.size, c.self.invariant)
+pub invariant_of-self-2 : goal.invariant_of-self-2
+invariant_of-self-2 g c = omega (arith, c.in_ok-kept.ensures.taken.size, c.self.invariant)
 
 -- what is told of a value holds where there is one
 on_ok_from : {E P Q : Type 0} (r : Result Bool E) → IfOk r (λ kept. (kept ≡ false) × P) → (P → Q)
