@@ -189,10 +189,14 @@ pub needless_tells : (items : List ObservationData) (f : ℕ) (x : ObservationDa
     → AreObservations items → IsObservation x → ¬ IsPast f (live_of items f) x
     → IsCovered items x ↔ IsNeedless f (live_of items f) x
 needless_tells items f x lawful one current = (
-  (λ c. inr (c.0, Has-in_filter (is_live items f) items c.0 c.1 (elim c.2 [
-    | inl same ↦ ap (is_live items f) same ∙ live
-    | inr over ↦ live_longer items f c.0 x over live
-  ]), c.2)),
+  (λ c. inr (
+    c.0,
+    Has-in_filter (is_live items f) items c.0 c.1 (elim c.2 [
+      | inl same ↦ ap (is_live items f) same ∙ live
+      | inr over ↦ live_longer items f c.0 x over live
+    ]),
+    c.2,
+  )),
   λ n. elim n [
     | inl past ↦ absurd (current past)
     | inr c ↦ (c.0, (Has-filter (is_live items f) items c.0 c.1).0, c.2)
@@ -253,9 +257,12 @@ thinned_swept m items rest lawful thin = record {
         → IsVoid rest x
     void_still x h lasts v =
         let longer = void_outlived v.0 x (lawful v.0 v.1) (lawful x (thin.of_items x h)) v.2 in
-        let seen : has_ended m v.0 ≡ false = grind (arith, nat_tests, longer, lasts) in
-        (v.0, stays v.0 v.1 (live_to items m v.0 seen (unvoided_to items v.0
-        (λ g k. flush_stays g v.0 v.2.flush))), v.2)
+        let seen : has_ended m v.0 ≡ false = grind (arith, nat_tests, longer, lasts) in (
+          v.0,
+          stays v.0 v.1 (live_to items m v.0 seen (unvoided_to items v.0
+              (λ g k. flush_stays g v.0 v.2.flush))),
+          v.2,
+        )
 
     alike : (x : ObservationData) → Has rest x → is_live rest m x ≡ is_live items m x
     alike x h = elim (cases_Bool (has_ended m x)) [
