@@ -1,11 +1,6 @@
 -- What the lookups find is what the definition takes.
-use Rattle.std.proofs.Common.{ℕ, zero, suc, ◌≡◌, ◌≤◌, Bool, true, false, ◌&&◌, ◌||◌, not, nat_eq, List, [], ◌∷◌, ◌++◌, inl, inr, Option, Some, None, sym, ap, refl, ◌∙◌, arith}
-use Rattle.std.specs.Ordering.{is_eq}
-use Rattle.std.proofs.lemmas.Cmp.{tied_itself, nat_list_cmp_total}
-use Rattle.std.proofs.lemmas.Map.Lookups.{exact_bytes}
+use Rattle.std.proofs.Common.{ℕ, zero, suc, ◌≡◌, ◌≤◌, Bool, true, false, ◌&&◌, ◌||◌, nat_eq, List, [], ◌∷◌, ◌++◌, inl, inr, Option, Some, None, sym, ap, refl, ◌∙◌, arith}
 use Rattle.std.proofs.lemmas.Bool.{and_parts, and_from, or_cases, or_left, or_right, eqb-true, eq-eqb}
-use Rattle.std.proofs.lemmas.Bool.Decides.{nat_tests}
-use Rattle.fleet_name.specs.Name.{wire, IsUnder}
 use Rattle.fleet_wire.specs.declared.rtype.TheConstants.{CNAME}
 use Rattle.fleet_observe.specs.declared.observation.kind.Kind.{Kind}
 use Rattle.fleet_observe.specs.declared.observation.kind.Kind.TheVariants.{NameError, NoData as WithoutData, Positive, Flush}
@@ -13,7 +8,7 @@ use Rattle.fleet_observe.specs.Members.{Has}
 use Rattle.fleet_observe.specs.Observation.{ObservationData, IsObservation, AreObservations, key_of}
 use Rattle.fleet_cache.specs.Void.{is_void}
 use Rattle.fleet_cache.specs.Live.{has_ended, is_live}
-use Rattle.fleet_cache.specs.Relevant.{is_name, is_under, is_relevant, speaks_of}
+use Rattle.fleet_cache.specs.Relevant.{is_name, is_relevant, speaks_of}
 use Rattle.fleet_cache.specs.Cached.{IsCached}
 use Rattle.fleet_cache.specs.Best.{IsBest, Speaks}
 use Rattle.fleet_cache.specs.Answer.{ShownData, AnswerData, Missed, Found, NoData, NxDomain, add_link, by_kind, is_link, target, decider, answer_by, answer_within, add_links, part_at}
@@ -22,9 +17,6 @@ use Rattle.fleet_cache.proofs.Beats.{live_parts, live_to}
 use mathlib.Core.Bool.{false≢true}
 use Rattle.fleet_cache.proofs.Lawful.{name_error_type}
 use Rattle.fleet_cache.proofs.Under.{name_from, name_to, under_from, under_to}
-use Rattle.fleet_observe.specs.Preference.{octets_cmp}
-use Rattle.fleet_name.proofs.Lemmas.{wire_exact, Has-filter}
-use Rattle.std.specs.Cmp.{Equal-is}
 use Rattle.fleet_observe.proofs.Lemmas.{key_exact}
 
 abbrev pub Matters : (ObservationData → Bool) → List (List ℕ) → ℕ → ObservationData → Type 0

@@ -1,19 +1,18 @@
 -- How the items of a cache follow the set.
-use Rattle.std.proofs.Common.{ℕ, ◌≡◌, ◌<◌, ◌≤◌, true, false, not, List, [], ◌∷◌, ◌++◌, ◌⊎◌, ◌↔◌, inl, inr, length, take, slice_get, Some, Result, Ok, Err, OnOk, OnErr, sym, ap, refl, ◌∙◌, subst, arith, length-append}
+use Rattle.std.proofs.Common.{ℕ, ◌≡◌, ◌<◌, ◌≤◌, true, false, not, List, [], ◌∷◌, ◌++◌, ◌⊎◌, inl, inr, length, take, slice_get, Some, Result, Ok, Err, OnOk, OnErr, sym, ap, refl, ◌∙◌, subst, arith, length-append}
 use mathlib.Core.Bool.{false≢true}
 use Rattle.std.proofs.Math.Seq.{take-append_seam}
 use Rattle.std.specs.Result.{is_ok, is_err}
 use Rattle.std.proofs.lemmas.Bool.Decides.{nat_tests}
 use Rattle.fleet_observe.specs.Members.{Has}
 use Rattle.fleet_observe.specs.Observation.{ObservationData, IsObservation, AreObservations}
-use Rattle.fleet_cache.specs.Front.{IsDescending, IsUndominated, IsFront, without_hidden}
+use Rattle.fleet_cache.specs.Front.{IsUndominated, IsFront, without_hidden}
 use Rattle.fleet_cache.specs.Live.{has_ended}
-use Rattle.fleet_cache.specs.Void.{IsVoid, voids, is_void}
-use Rattle.fleet_cache.specs.Dominates.{dominates}
-use Rattle.fleet_cache.specs.Cached.{place, CacheData, IsCached, IsCovered, IsPast, IsNeedless, IsSameSet}
+use Rattle.fleet_cache.specs.Void.{IsVoid, is_void}
+use Rattle.fleet_cache.specs.Cached.{place, CacheData, IsCached, IsCovered, IsNeedless, IsSameSet}
 use Rattle.fleet_cache.proofs.Places.{place_laws}
-use Rattle.fleet_cache.proofs.Voids.{void_from, void_to, voids_from, voids_to, unvoided_to, unvoided_by, void_outlived, flush_stays}
-use Rattle.fleet_cache.proofs.Beats.{beats, beats_cases, dominates_beats, outlasts_beats, beats_chain, beaten_hidden, beats_laws, beats_itself, beats_shown, shown_parts, shown_of, LivesIn, lives_in, cached_front, cached_from}
+use Rattle.fleet_cache.proofs.Voids.{unvoided_to, unvoided_by, void_outlived}
+use Rattle.fleet_cache.proofs.Beats.{beats, dominates_beats, outlasts_beats, beats_chain, beaten_hidden, beats_laws, beats_itself, beats_shown, shown_parts, shown_of, lives_in, cached_front, cached_from}
 use Rattle.std.proofs.lemmas.Bool.{cases_Bool, not-true}
 use Rattle.fleet_front.specs.Front.{IsCovered as IsCoveredBy}
 use Rattle.fleet_front.proofs.Lemmas.{climb, descending_same}
@@ -129,11 +128,6 @@ pub item_of_set : (s items : List ObservationData) (f : ℕ) → IsCached s f it
     → (x : ObservationData) → Has items x → Has s x × (has_ended f x ≡ false)
 item_of_set s items f cached x h = let l = lives_in s f x (cached.front.of_set x h)
     in (l.member, l.lasts)
-
--- no item has ended
-pub all_live : (s items : List ObservationData) (f : ℕ) → IsCached s f items
-    → without_hidden has_ended f items ≡ items
-all_live s items f cached = all_shown f items (λ x h. (item_of_set s items f cached x h).1)
 
 -- none of the items withdraws another
 pub item_unvoided : (s items : List ObservationData) (f : ℕ) → IsCached s f items

@@ -2,7 +2,7 @@
 use Rattle.std.proofs.Common.{ℕ, ◌≡◌, ◌≤◌, get_or, Result, Ok, Err, IfOk, OnErr, Bool, true, false, not, ◌&&◌, nat_lt, List, [], ◌∷◌, ◌++◌, ◌↔◌, inl, inr, length, sym, ap, refl, ◌∙◌, subst, arith}
 use mathlib.Core.Bool.{false≢true}
 use Rattle.std.specs.List.{filter}
-use Rattle.std.proofs.lemmas.Bool.{cases_Bool, and_parts, not-true}
+use Rattle.std.proofs.lemmas.Bool.{cases_Bool, not-true}
 use Rattle.std.proofs.lemmas.Bool.Decides.{nat_tests}
 use Rattle.fleet_name.proofs.Lemmas.{Has-filter, Has-in_filter, has_right, has_either}
 use Rattle.fleet_front.proofs.Lemmas.{climb, front_itself, IsDescending-filter}
@@ -20,7 +20,7 @@ use Rattle.fleet_cache.specs.Noted.{AreNoted, HasNone}
 use Rattle.fleet_cache.specs.Swept.{IsThinned, IsSwept}
 use Rattle.fleet_cache.specs.Orders.{over_from}
 use Rattle.fleet_cache.proofs.Places.{place_laws}
-use Rattle.fleet_cache.proofs.Voids.{void_from, void_to, unvoided_by, unvoided_to, voids_below, voids_over, voids_to, flush_stays, void_outlived}
+use Rattle.fleet_cache.proofs.Voids.{void_from, void_to, unvoided_by, unvoided_to, voids_below, voids_over, flush_stays, void_outlived}
 use Rattle.fleet_cache.proofs.Beats.{live_parts, live_to, lives_in, live_in}
 use Rattle.fleet_cache.proofs.Existence.{cache_of}
 use Rattle.fleet_cache.proofs.Caches.{cached_itself, cached_same, cached_listed, cached_both, cached_purged, more_lawful, last_first, first_last}

@@ -135,9 +135,6 @@ module _ (lives : ObservationData → Bool) (words : List ℕ) (n : List (List �
     pub front_named : (o : ObservationData) → Has f o → o.name ≡ n
     front_named o h = (key_exact o.name n o.kind kind o.rtype rtype (same_key o h)).0
 
-    pub front_kind : (o : ObservationData) → Has f o → o.kind ≡ kind
-    front_kind o h = (key_exact o.name n o.kind kind o.rtype rtype (same_key o h)).1
-
     pub some_on : ((o : ObservationData) → Has f o → is_hidden cut o ≡ not (lives o))
         → (r : Option (Bor ObservationData))
         → MatchOption r (without_hidden is_hidden cut f ≡ [])

@@ -1,5 +1,5 @@
 -- What is live at a name, as the latest flush above it tells.
-use Rattle.std.proofs.Common.{ℕ, ◌≡◌, ◌≤◌, Bool, true, false, not, ◌&&◌, ◌||◌, nat_le, List, ◌⊎◌, ◌↔◌, IsTrue, inl, inr, Option, Some, None, refl, sym, ap, ◌∙◌, subst, arith}
+use Rattle.std.proofs.Common.{ℕ, ◌≡◌, ◌≤◌, Bool, true, false, not, nat_le, List, inl, inr, Option, Some, None, refl, sym, ap, ◌∙◌, subst, arith}
 use mathlib.Core.Bool.{false≢true}
 use Rattle.std.specs.declared.cmp.Ordering.{Ordering}
 use Rattle.std.specs.declared.cmp.Ordering.TheVariants.{Less, Equal, Greater}
@@ -9,8 +9,7 @@ use Rattle.std.proofs.lemmas.Bool.{cases_Bool, and_parts, and_from, or_left, or_
 use Rattle.std.proofs.lemmas.Bool.Decides.{nat_tests}
 use Rattle.fleet_name.specs.Name.{IsUnder}
 use Rattle.fleet_observe.specs.declared.observation.kind.Kind.TheVariants.{Flush}
-use Rattle.fleet_observe.specs.Observation.{ObservationData, IsObservation, AreObservations, expires}
-use Rattle.fleet_observe.specs.Preference.{preference}
+use Rattle.fleet_observe.specs.Observation.{ObservationData, IsObservation, AreObservations}
 use Rattle.fleet_cache.specs.Void.{IsVoid, is_flush, is_void}
 use Rattle.fleet_cache.specs.Live.{has_ended, lasts, is_live}
 use Rattle.fleet_cache.specs.Cut.{CutData, stamp_of, is_flushed, is_hidden, ShowsLiving, IsCutAt}

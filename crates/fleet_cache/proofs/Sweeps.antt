@@ -22,17 +22,6 @@ pub thinned_none : (lives : ObservationData → Bool) (items : List ObservationD
     → IsThinned lives items items
 thinned_none lives items = record { live_still = refl; of_items = λ x h. h; size = omega arith }
 
-pub swept_none : (m : ℕ) (items : List ObservationData) → IsSwept m items items
-swept_none m items = record { live_still = refl; of_items = λ x h. h; size = omega arith }
-
-pub swept_more : (m : ℕ) (items mid rest : List ObservationData) → IsSwept m items mid
-    → IsSwept m mid rest → IsSwept m items rest
-swept_more m items mid rest a b = record {
-  live_still = b.live_still ∙ a.live_still;
-  of_items = λ x h. a.of_items x (b.of_items x h);
-  size = omega (arith, a.size, b.size);
-}
-
 -- what is hidden does not live
 shown_live : (lives hid : ObservationData → Bool) (s : List ObservationData)
     → ((x : ObservationData) → Has s x → hid x ≡ not (lives x))

@@ -1,5 +1,5 @@
 -- What flushes withdraw: the tests, and what is withdrawn with what dominates it.
-use Rattle.std.proofs.Common.{ℕ, ◌≡◌, ◌≤◌, Bool, true, false, not, ◌&&◌, ◌||◌, nat_le, List, [], ◌∷◌, inl, inr, sym, ap, refl, ◌∙◌, subst, arith}
+use Rattle.std.proofs.Common.{◌≡◌, ◌≤◌, true, false, not, ◌&&◌, nat_le, List, [], ◌∷◌, inl, inr, sym, ap, refl, ◌∙◌, subst, arith}
 use mathlib.Core.Bool.{false≢true}
 use Rattle.std.proofs.lemmas.Bool.{cases_Bool, and_parts, and_from, or_cases, or_left, or_right}
 use Rattle.std.proofs.lemmas.Bool.Decides.{nat_tests}
@@ -13,7 +13,7 @@ use Rattle.fleet_cache.specs.Relevant.{is_under}
 use Rattle.fleet_cache.specs.Void.{Voids, IsVoid, is_flush, voids, is_void}
 use Rattle.fleet_cache.specs.Dominates.{dominates}
 use Rattle.fleet_cache.specs.Orders.{over_from}
-use Rattle.fleet_cache.proofs.SameKeys.{HasKeyOf, key_parts}
+use Rattle.fleet_cache.proofs.SameKeys.{key_parts}
 use Rattle.fleet_cache.proofs.Under.{under_from, under_to}
 
 pub flush_from : (k : Kind) → is_flush k ≡ true → k ≡ Flush

@@ -1,6 +1,6 @@
 -- What a cache holds in memory: what it shows, and also what is not live any more and was not yet
 -- dropped.
-use Rattle.std.specs.Prelude.{◌≡◌, ℕ, ◌+◌, ◌≤◌, Bool, false, ◌↔◌, List, ◌∷◌, length}
+use Rattle.std.specs.Prelude.{◌≡◌, ◌+◌, ◌≤◌, Bool, false, ◌↔◌, List, ◌∷◌, length}
 use Rattle.fleet_observe.specs.Observation.{ObservationData, AreObservations}
 use Rattle.fleet_cache.specs.Front.{IsFront}
 use Rattle.fleet_cache.specs.Dominates.{dominates}

@@ -1,9 +1,8 @@
-use Rattle.std.proofs.Common.{◌≡◌, ℕ, List, ◌<◌, ◌≤◌, length, sym, ap, ◌∙◌, arith}
+use Rattle.std.proofs.Common.{◌<◌, ◌≤◌, length, sym, ap, ◌∙◌, arith}
 use Rattle.std.proofs.lemmas.Bool.Decides.{nat_tests}
-use Rattle.fleet_name.specs.Name.{wire}
 use Rattle.fleet_observe.specs.declared.bounds.TheConstants.{MOST_LINKS}
 use Rattle.fleet_cache.specs.Best.{referent}
-use Rattle.fleet_cache.specs.Answer.{by_kind, decider, add_links}
+use Rattle.fleet_cache.specs.Answer.{by_kind, add_links}
 use Rattle.fleet_cache.specs.Shown.{shown_parts}
 use Rattle.fleet_cache.proofs.Answers.{decider_of_held}
 use Rattle.fleet_cache.proofs.Follow.{starts, ends_none, ends_last, ends_full, goes_further}

@@ -1,4 +1,4 @@
-use Rattle.std.proofs.Common.{◌≡◌, Some, slice_get, sym, ap, ◌∙◌, subst}
+use Rattle.std.proofs.Common.{slice_get, ap, ◌∙◌, subst}
 use Rattle.fleet_name.specs.Name.{wire}
 use Rattle.fleet_observe.specs.Members.{Has}
 use Rattle.fleet_observe.specs.Observation.{ObservationData}

@@ -1,4 +1,4 @@
-use Rattle.std.proofs.Common.{◌≡◌, ◌∷◌, Bool, true, false, ◌↔◌, Result, Ok, Err, IfOk, OnOk, IsTrue, inl, sym, subst, ◌∙◌, arith}
+use Rattle.std.proofs.Common.{◌≡◌, Bool, false, ◌↔◌, Result, Ok, Err, IfOk, OnOk, IsTrue, inl, sym, subst, ◌∙◌, arith}
 use mathlib.Core.Bool.{false≢true}
 use Rattle.fleet_cache.specs.Live.{live_of}
 use Rattle.fleet_cache.specs.Cached.{CacheData, IsCached, IsPast, IsNeedless}
