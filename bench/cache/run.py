@@ -55,14 +55,14 @@ def least(program, mode, items, rounds, times):
 
 
 def pause(program, mode, items, times):
-    """The least of the milliseconds that the program says a purge or a flush took."""
+    """The least of the milliseconds that the program says a purge took, a flush, or the longest purge behind one."""
     words = [str(program), mode, str(items), "1"]
     said = [subprocess.run(words, capture_output=True, text=True, check=True).stdout for _ in range(times)]
     return f"{min(int(text) for text in said) / 1000:.2f}"
 
 
 def figures(program, items, times, flushes):
-    """Microseconds a take and an answer, octets an item, milliseconds of the two purges and of a flush."""
+    """Microseconds a take and an answer, octets an item, milliseconds of the two purges, a flush, and a purge behind it."""
     rounds = max(1, 1_000_000 // items)
     made, _ = least(program, "make", items, 1, times)
     taken, memory = least(program, "take", items, 1, times)
@@ -75,10 +75,10 @@ def figures(program, items, times, flushes):
         f"{(answered - asked) / (items * rounds) * 1e6:.2f}",
     ]
     if items < 100_000:
-        return row + ["-", "-", "-", "-"]
+        return row + ["-", "-", "-", "-", "-"]
     row.append(f"{(memory - base) / (items - half):.0f}")
     row += [pause(program, mode, items, times) for mode in ("purge", "all")]
-    return row + [pause(program, "flush", items, times) if flushes else "-"]
+    return row + [pause(program, mode, items, times) if flushes else "-" for mode in ("flush", "behind")]
 
 
 def main():
@@ -89,8 +89,8 @@ def main():
     resource.setrlimit(resource.RLIMIT_CORE, (0, 0))
     with tempfile.TemporaryDirectory() as name:
         ours, theirs = build(pathlib.Path(name))
-        print("| items | | us a take | us an answer | octets an item | ms a purge, few | ms a purge, all | ms a flush |")
-        print("|---|---|---|---|---|---|---|---|")
+        print("| items | | us a take | us an answer | octets an item | ms a purge, few | ms a purge, all | ms a flush | ms a purge behind it |")
+        print("|---|---|---|---|---|---|---|---|---|")
         for items in (int(word) for word in words.items.split(",")):
             for title, program in (("cache", ours), ("std::map", theirs)):
                 row = figures(program, items, words.times, program == ours)
