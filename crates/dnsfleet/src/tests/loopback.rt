@@ -27,6 +27,12 @@ const RECORD: &[u8] = b"\xc0\x0c\x00\x01\x00\x01\x00\x00\x01\x2c\x00\x04\xc0\x00
 const ANSWER: &[u8] =
     b"\x00\x07\x81\x80\x00\x01\x00\x01\x00\x00\x00\x00\x07example\x03com\x00\x00\x01\x00\x01\x07example\x03com\x00\x00\x01\x00\x01\x00\x00\x01\x2c\x00\x04\xc0\x00\x02\x01";
 
+/// The same up to the last octet of the TTL, and behind that octet.
+const BEFORE_SECONDS: &[u8] =
+    b"\x00\x07\x81\x80\x00\x01\x00\x01\x00\x00\x00\x00\x07example\x03com\x00\x00\x01\x00\x01\x07example\x03com\x00\x00\x01\x00\x01\x00\x00\x01";
+
+const BEHIND_SECONDS: &[u8] = b"\x00\x04\xc0\x00\x02\x01";
+
 /// A socket of a test, which waits for a second at most, and where it is.
 fn open(rt: &HostRuntime) -> Result<(UdpSocket, Addr), Fail> {
     let socket = UdpSocket::bind(rt, SocketAddrV4::new(Ipv4Addr::LOCALHOST, 0))?;
@@ -137,14 +143,13 @@ fn serves_what_a_peer_learnt(rt: HostRuntime) -> Result<(), Fail> {
 
 /// Whether an answer has the record, with a TTL of 295 to 300 seconds, since a test may take some.
 fn shows_record(answer: &[u8]) -> bool {
-    if answer.get(..49) != ANSWER.get(..49) {
+    let Some(rest) = answer.strip_prefix(BEFORE_SECONDS) else {
         return false;
-    }
-    if answer.get(50..) != ANSWER.get(50..) {
+    };
+    let Some((seconds, behind)) = rest.split_first() else {
         return false;
-    }
-    let seconds = answer.get(49).copied().unwrap_or(0);
-    seconds >= 39 && seconds <= 44
+    };
+    (39..=44).contains(seconds) && behind == BEHIND_SECONDS
 }
 
 /// Two sends of a port fail and are counted; a receive that finds nothing is not.

@@ -90,6 +90,20 @@ fn begin_refused<A: Allocator + Copy>(
     Ok(())
 }
 
+/// Checks that two fleets hold the same, and keep the same frames.
+fn check_same<A: Allocator + Copy>(
+    rt: &impl Abort,
+    fleet: &mut Fleet<A>,
+    other: &mut Fleet<A>,
+    shows: &str,
+) -> Result<(), Fail> {
+    let world = fleet.world()?;
+    let other = other.world()?;
+    assert!(rt; has_same_sites(world, other), "{shows}");
+    assert!(rt; keeps_same_frames(world, other), "{shows}");
+    Ok(())
+}
+
 /// Checks a fleet after a line that found no memory, and does the line again.
 fn check_short<A: Allocator + Copy>(
     rt: &impl Abort,
@@ -101,14 +115,7 @@ fn check_short<A: Allocator + Copy>(
 ) -> Result<(), Fail> {
     let shows = line.text;
     run_part(before.world()?, alloc, line.text, taken)?;
-    assert!(rt;
-        has_same_sites(fleet.world()?, before.world()?),
-        "{shows} after {taken}"
-    );
-    assert!(rt;
-        keeps_same_frames(fleet.world()?, before.world()?),
-        "{shows} after {taken}"
-    );
+    check_same(rt, fleet, before, shows)?;
     match run_line(fleet.world()?, alloc, line.text)? {
         Ended::Done(text) => assert_eq!(rt; text.as_str(), line.prints, "{shows}"),
         _ => return Err("no memory twice".into()),

@@ -4,9 +4,9 @@ use crate::command::{Command, read_command};
 use crate::fleet::Fleet;
 use crate::tests::examples::example_of;
 use crate::tests::refused::lines::{
-    Line, fleet_after, has_same_sites, keeps_same_frames, lines_of, print_event, run_part,
+    Line, fleet_after, has_same_sites, lines_of, print_event, run_part,
 };
-use crate::tests::refused::{MANY, REFUSED, begin_refused, check_lost};
+use crate::tests::refused::{MANY, REFUSED, begin_refused, check_lost, check_same};
 use crate::tests::refusing::Refusing;
 use fleet_world::{Event, Halted, Stepped, World, WorldFault};
 use std::alloc::{Allocator, Global};
@@ -52,6 +52,18 @@ fn check_run<A: Allocator + Copy>(
     Ok(())
 }
 
+/// Whether a line that found no memory had begun: it took something, or a clock has risen.
+fn has_begun<A: Allocator + Copy>(
+    fleet: &mut Fleet<A>,
+    before: &mut Fleet<A>,
+    taken: usize,
+) -> Result<bool, Fail> {
+    if taken > 0 {
+        return Ok(true);
+    }
+    Ok(!has_same_sites(fleet.world()?, before.world()?))
+}
+
 /// Checks a fleet whose run was halted at a line that found no memory, which may not have begun.
 fn check_halted<A: Allocator + Copy>(
     rt: &impl Abort,
@@ -61,20 +73,10 @@ fn check_halted<A: Allocator + Copy>(
     line: &Line<'_>,
     taken: usize,
 ) -> Result<(), Fail> {
-    let shows = line.text;
-    let has_begun = taken > 0 || !has_same_sites(fleet.world()?, before.world()?);
-    if has_begun {
+    if has_begun(fleet, before, taken)? {
         run_part(before.world()?, alloc, line.text, taken)?;
     }
-    assert!(rt;
-        has_same_sites(fleet.world()?, before.world()?),
-        "{shows} after {taken}"
-    );
-    assert!(rt;
-        keeps_same_frames(fleet.world()?, before.world()?),
-        "{shows} after {taken}"
-    );
-    Ok(())
+    check_same(rt, fleet, before, line.text)
 }
 
 /// Checks a fleet whose run was halted, and runs the events that are left, but where frames were
