@@ -149,8 +149,9 @@ take example.com 1 3 100 300 c0000201 => true";
 #[test]
 fn what_is_withdrawn_leaves_the_memory(rt: HostRuntime) -> Result<(), Fail> {
     let rows = "
-# The first flush makes room for the key of a sweep.
+# The first flush makes room for the key of a sweep, the second one in the front of their key.
 flush com 90 => true
+flush com 91 => true
 mark => something
 take c1.com 1 3 100 300 c0000201 => true
 take c2.com 1 3 100 300 c0000201 => true
@@ -161,6 +162,37 @@ flush com 100 => true
 items => 1 3/86400
 answer c1.com 1 110 => Miss
 answer c3.com 1 110 => Miss
-purge 200 => 1 3/86400";
+purge 200 => 1 3/86400
+used => Equal";
+    check_calls(&rt, rt.alloc(), rows)
+}
+
+#[test]
+fn a_flush_of_the_root_withdraws_each_kind(rt: HostRuntime) -> Result<(), Fail> {
+    let rows = "
+deny b.example.com 0 3 100 300 example.com => true
+deny example.com 28 3 100 300 com => true
+take a.example.com 5 3 100 300 076578616d706c6503636f6d00 => true
+take example.com 1 3 200 300 c0000201 => true
+answer x.b.example.com 1 210 => NxDomain 0 190
+answer example.com 28 210 => NoData 0 190
+answer a.example.com 1 210 => Found 1 290 1
+flush . 100 => true
+flush . 100 => false
+answer x.b.example.com 1 210 => Miss
+answer example.com 28 210 => Miss
+answer a.example.com 1 210 => Miss
+answer example.com 1 210 => Found 0 290 1
+items => 2 3/86400 3/300
+# What is void is not taken, whenever it comes; what was learnt later is.
+deny b.example.com 0 3 100 300 example.com => false
+deny b.example.com 0 3 101 300 example.com => true
+answer x.b.example.com 1 210 => NxDomain 0 191
+flush . 90 => false
+# A flush further down withdraws what stands there, and not what stands above it.
+flush x.b.example.com 300 => true
+answer x.b.example.com 1 310 => NxDomain 0 91
+flush b.example.com 300 => true
+answer x.b.example.com 1 310 => Miss";
     check_calls(&rt, rt.alloc(), rows)
 }
