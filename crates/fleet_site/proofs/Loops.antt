@@ -43,12 +43,6 @@ pub record Ticking (old new : PortState) (t : ℕ) (more : Bool) (site after : S
   pub few : length acts + room more (due_by after t) ≤ MOST_ENTRIES
   pub took : Took old new site after r q acts
 
--- the moments that a clock has left are those from n on
-abbrev pub Ahead : Option (ℕ → ℕ) → ℕ → Option (ℕ → ℕ) → Type 0
-Ahead None n now = Unit {0}
-Ahead (Some moments) n now =
-    (rest : ℕ → ℕ) × (now ≡ Some rest) × ((k : ℕ) → rest k ≡ moments (n + k))
-
 -- some turns of a run
 pub record Serves (old new : PortState) (moments : Option (ℕ → ℕ)) (s : Stream) (n every : ℕ)
     (site after : SiteData) (swept : Option ℕ) (report : Report) : Type 0 where

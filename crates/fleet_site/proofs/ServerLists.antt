@@ -13,9 +13,9 @@ use Rattle.fleet_site.specs.declared.report.Report.{Report}
 pub failures_of-append : (cs ds : List PortCall) (n : ℕ)
     → failures_of (cs ++ ds) n ≡ failures_of ds (failures_of cs n)
 failures_of-append [] ds n = refl
-failures_of-append (Received from octets ∷ cs) ds n = failures_of-append cs ds n
-failures_of-append (NoDatagram ∷ cs) ds n = failures_of-append cs ds n
-failures_of-append (Fault ∷ cs) ds n = failures_of-append cs ds (one_more n)
+failures_of-append (Received asked from octets ∷ cs) ds n = failures_of-append cs ds n
+failures_of-append (NoDatagram asked ∷ cs) ds n = failures_of-append cs ds n
+failures_of-append (Fault asked ∷ cs) ds n = failures_of-append cs ds (one_more n)
 failures_of-append (PacketSent s ∷ cs) ds n = failures_of-append cs ds n
 failures_of-append (PacketLost s ∷ cs) ds n = failures_of-append cs ds (one_more n)
 

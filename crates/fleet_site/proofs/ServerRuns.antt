@@ -8,29 +8,29 @@ use Rattle.fleet_site.specs.SiteData.{SiteData}
 use Rattle.fleet_site.specs.StandsFor.{StandsFor}
 use Rattle.fleet_site.specs.PortRecord.{PortCall, Received, NoDatagram, Fault, PacketSent, PacketLost, PortState, failures_of, one_more}
 use Rattle.fleet_site.specs.Sending.{count_call, count_calls, count_refusal_in, count_step}
-use Rattle.fleet_site.specs.Turn.{Act, calls_of, count_acts, Acts, Between, Turn, left_after, word_of, IsMomentOfTurn, Turns, empty_report, start_of}
+use Rattle.fleet_site.specs.Turn.{Act, calls_of, count_acts, Acts, Between, Turn, left_after, word_of, IsPast, IsMomentOfTurn, Turns, empty_report, start_of}
 use Rattle.fleet_site.specs.Served.{Served, FollowsSteps, Turned}
 use Rattle.fleet_site.specs.declared.outcome.SiteFault.{SiteFault}
 use Rattle.fleet_site.specs.declared.report.Report.{Report}
 use Rattle.fleet_site.proofs.ServerLists.{made_none, made_both, failures_of-append}
 use Rattle.fleet_site.proofs.ServerTurns.{acts_both}
-use Rattle.fleet_site.proofs.Loops.{Ahead, Serves, CountsFailures}
+use Rattle.fleet_site.proofs.Loops.{Serves, CountsFailures}
 
-moment_at : (f : ℕ → ℕ) (n t : ℕ) (now next : Option (ℕ → ℕ)) → Ahead (Some f) n now
+moment_at : (f : ℕ → ℕ) (n t : ℕ) (now next : Option (ℕ → ℕ)) → IsPast (Some f) n now
     → IfSome now (λ h. (t ≡ h 0) × (next ≡ Some (λ k. h (k + 1)))) → t ≡ f n
 moment_at f n t now next a c =
     let d = subst (λ (o : Option (ℕ → ℕ)). IfSome o
     (λ h. (t ≡ h 0) × (next ≡ Some (λ k. h (k + 1))))) a.1 c in
     d.0 ∙ a.2 0 ∙ ap f (add-zero n)
 
-pub ahead_none : (moments : Option (ℕ → ℕ)) → Ahead moments 0 moments
-ahead_none None = tt
-ahead_none (Some f) = (f, refl, λ k. ap f (let e : k ≡ 0 + k = omega arith in e))
+pub past_none : (moments : Option (ℕ → ℕ)) → IsPast moments 0 moments
+past_none None = tt
+past_none (Some f) = (f, refl, λ k. ap f (let e : k ≡ 0 + k = omega arith in e))
 
-pub ahead_more : (ms now next : Option (ℕ → ℕ)) (n t : ℕ) → Ahead ms n now
-    → IfSome now (λ h. (t ≡ h 0) × (next ≡ Some (λ k. h (k + 1)))) → Ahead ms (n + 1) next
-ahead_more None now next n t a c = tt
-ahead_more (Some f) now next n t a c =
+pub past_more : (ms now next : Option (ℕ → ℕ)) (n t : ℕ) → IsPast ms n now
+    → IfSome now (λ h. (t ≡ h 0) × (next ≡ Some (λ k. h (k + 1)))) → IsPast ms (n + 1) next
+past_more None now next n t a c = tt
+past_more (Some f) now next n t a c =
     let d = subst (λ (o : Option (ℕ → ℕ)). IfSome o
     (λ h. (t ≡ h 0) × (next ≡ Some (λ k. h (k + 1))))) a.1 c in (
       (λ k. a.0 (k + 1)),
@@ -39,7 +39,7 @@ ahead_more (Some f) now next n t a c =
           (let e : n + (k + 1) ≡ (n + 1) + k = omega arith in e),
     )
 
-pub is_moment : (ms now next : Option (ℕ → ℕ)) (n t : ℕ) → Ahead ms n now
+pub is_moment : (ms now next : Option (ℕ → ℕ)) (n t : ℕ) → IsPast ms n now
     → IfSome now (λ h. (t ≡ h 0) × (next ≡ Some (λ k. h (k + 1)))) → IsMomentOfTurn ms n t
 is_moment None now next n t a c = tt
 is_moment (Some f) now next n t a c = moment_at f n t now next a c
@@ -74,6 +74,7 @@ later_turn : (t w every : ℕ) (s u : SiteData) (before calls : List PortCall) (
     (record { site = u; calls = before ++ calls; swept = last; report = q })
 later_turn t w every s u before calls since last r q k = record {
   arrival = k.arrival;
+  asks = k.asks;
   given = k.given;
   ticks = k.ticks;
   sweep = k.sweep;
@@ -180,12 +181,12 @@ counts_fault a r = record {
 counts_calls : (cs : List PortCall) (a : ℕ) (r : Report)
     → CountsFailures a (failures_of cs a) r (count_calls cs r)
 counts_calls [] a r = counts_same a r r refl refl
-counts_calls (Received from octets ∷ cs) a r =
-    counts_more _ _ _ _ _ _ (counts_same a r (count_call (Received from octets) r) refl refl)
-    (counts_calls cs a (count_call (Received from octets) r))
-counts_calls (NoDatagram ∷ cs) a r = counts_calls cs a r
-counts_calls (Fault ∷ cs) a r =
-    counts_more _ _ _ _ _ _ (counts_fault a r) (counts_calls cs (one_more a) (count_call Fault r))
+counts_calls (Received asked from octets ∷ cs) a r =
+    counts_more _ _ _ _ _ _ (counts_same a r (count_call (Received asked from octets) r) refl refl)
+    (counts_calls cs a (count_call (Received asked from octets) r))
+counts_calls (NoDatagram asked ∷ cs) a r = counts_calls cs a r
+counts_calls (Fault asked ∷ cs) a r =
+    counts_more _ _ _ _ _ _ (counts_fault a r) (counts_calls cs (one_more a) (count_call (Fault asked) r))
 counts_calls (PacketSent s ∷ cs) a r =
     counts_more _ _ _ _ _ _ (counts_same a r (count_call (PacketSent s) r) refl refl)
     (counts_calls cs a (count_call (PacketSent s) r))

@@ -16,7 +16,7 @@ use Rattle.fleet_site.specs.Sweep.{IsSweep}
 use Rattle.fleet_site.specs.Tick.{LeavesFewer}
 use Rattle.fleet_site.specs.PortRecord.{PortCall, Received, NoDatagram, Fault, NotesAll, PortState, Made, one_more}
 use Rattle.fleet_site.specs.Sending.{AreSent, packets_of, count_call, count_calls, count_step, goes_on, sweep_outcome, CarriesOut}
-use Rattle.fleet_site.specs.Turn.{Deal, calling, sweeping, Act, calls_of, count_acts, AllSent, Acts, Acted, no_tick, next_tick, IsSweepDue}
+use Rattle.fleet_site.specs.Turn.{Deal, calling, sweeping, Act, calls_of, count_acts, AllSent, Acts, Acted, ROOM, no_tick, next_tick, IsSweepDue}
 use Rattle.fleet_site.specs.Served.{Turned, Took, Heard, TickedAll, SweptOnce}
 use Rattle.fleet_site.specs.declared.outcome.Outcome.{Outcome}
 use Rattle.fleet_site.specs.declared.outcome.SiteFault.{SiteFault}
@@ -94,42 +94,49 @@ took_one old new s t x a r q h c = record {
   report = c.report;
 }
 
-pub heard_one : (old mid new : PortState) (t w : ℕ) (s u : SiteData) (r q p : Report) (from : Addr)
+pub heard_one : (old mid new : PortState) (asked t w : ℕ) (s u : SiteData) (r q p : Report)
+    (from : Addr)
     (octets : List ℕ) (a : Result OutcomeData SiteFault)
-    → NotesAll old.told (Received from octets ∷ []) mid.told → mid.failed ≡ old.failed
-    → q ≡ count_call (Received from octets) r
+    → asked ≡ ROOM
+    → NotesAll old.told (Received asked from octets ∷ []) mid.told → mid.failed ≡ old.failed
+    → q ≡ count_call (Received asked from octets) r
     → Stepped (calling (datagram t from octets w)) a s u → CarriesOut mid new u.config.peers a q p
     → Heard old new t w s u r p
-heard_one old mid new t w s u r q p from octets a n i e k c = record {
-  arrival = Received from octets;
+heard_one old mid new asked t w s u r q p from octets a m n i e k c = record {
+  arrival = Received asked from octets;
+  asks = m;
   acts = act_of (calling (datagram t from octets w)) a c.calls ∷ [];
   given = (act_of (calling (datagram t from octets w)) a c.calls, refl, refl);
   acted = acted_one s u (calling (datagram t from octets w)) a c.calls k c.sent;
-  made = rw (append-nil c.calls) (made_both old mid new (Received from octets ∷ []) c.calls
+  made = rw (append-nil c.calls) (made_both old mid new (Received asked from octets ∷ []) c.calls
       (record { told = n; failed = i }) c.made);
   report = c.report ∙ ap (λ (y : Report). count_calls c.calls (count_step a y)) e;
 }
 
-pub heard_none : (old new : PortState) (t w : ℕ) (s : SiteData) (r q : Report)
-    → NotesAll old.told (NoDatagram ∷ []) new.told → new.failed ≡ old.failed → q ≡ r
+pub heard_none : (old new : PortState) (asked t w : ℕ) (s : SiteData) (r q : Report)
+    → asked ≡ ROOM
+    → NotesAll old.told (NoDatagram asked ∷ []) new.told → new.failed ≡ old.failed → q ≡ r
     → Heard old new t w s s r q
-heard_none old new t w s r q n i e =
+heard_none old new asked t w s r q m n i e =
     record {
-      arrival = NoDatagram;
+      arrival = NoDatagram asked;
       acts = [];
+      asks = m;
       given = refl;
       acted = acted_none s;
       made = record { told = n; failed = i };
       report = e;
     }
 
-pub heard_fault : (old new : PortState) (t w : ℕ) (s : SiteData) (r q : Report)
-    → NotesAll old.told (Fault ∷ []) new.told → new.failed ≡ one_more old.failed
-    → q ≡ count_call Fault r → Heard old new t w s s r q
-heard_fault old new t w s r q n i e =
+pub heard_fault : (old new : PortState) (asked t w : ℕ) (s : SiteData) (r q : Report)
+    → asked ≡ ROOM
+    → NotesAll old.told (Fault asked ∷ []) new.told → new.failed ≡ one_more old.failed
+    → q ≡ count_call (Fault asked) r → Heard old new t w s s r q
+heard_fault old new asked t w s r q m n i e =
     record {
-      arrival = Fault;
+      arrival = Fault asked;
       acts = [];
+      asks = m;
       given = refl;
       acted = acted_none s;
       made = record { told = n; failed = i };
@@ -244,6 +251,7 @@ turns_parts old one two new t w every last since s u v r q p z a b c =
       made = subst (λ (x : List PortCall). Made old new (a.arrival ∷ x)) (sym e) made;
       turn = record {
         arrival = a.arrival;
+        asks = a.asks;
         given = a.acts;
         ticks = b.acts;
         sweep = c.acts;

@@ -5,11 +5,12 @@ use Rattle.fleet_site.specs.declared.bounds.TheConstants.{MOST_COUNTED}
 use Rattle.fleet_site.specs.PacketData.{PacketData}
 use Rattle.fleet_site.specs.declared.port.PortFault.{PortFault}
 
--- a datagram was received, or none, or the receive failed; a packet was sent, or it was lost
+-- a datagram was received, or none, or the receive failed, each with how many octets were asked for;
+-- a packet was sent, or it was lost
 pub data PortCall : Type 0 where
-  Received : (from : Addr) → (octets : List ℕ) → PortCall
-  NoDatagram : PortCall
-  Fault : PortCall
+  Received : (asked : ℕ) → (from : Addr) → (octets : List ℕ) → PortCall
+  NoDatagram : (asked : ℕ) → PortCall
+  Fault : (asked : ℕ) → PortCall
   PacketSent : PacketData → PortCall
   PacketLost : PacketData → PortCall
 
@@ -19,11 +20,19 @@ NotesAll old calls None = Unit {0}
 NotesAll old calls (Some now) =
     (before : List PortCall) × (old ≡ Some before) × (now ≡ before ++ calls)
 
--- what a receive into a buffer was, which holds these octets afterwards
-abbrev pub receive_of : Result (Option (Addr × ℕ)) PortFault → List ℕ → PortCall
-receive_of (Ok None) buffer = NoDatagram
-receive_of (Ok (Some p)) buffer = Received p.0 (take p.1 buffer)
-receive_of (Err e) buffer = Fault
+-- what a receive into a buffer of so many octets was, which holds these octets afterwards
+abbrev pub receive_of : ℕ → Result (Option (Addr × ℕ)) PortFault → List ℕ → PortCall
+receive_of asked (Ok None) buffer = NoDatagram asked
+receive_of asked (Ok (Some p)) buffer = Received asked p.0 (take p.1 buffer)
+receive_of asked (Err e) buffer = Fault asked
+
+-- a receive that asked for so many octets
+abbrev pub AsksFor : ℕ → PortCall → Type 0
+AsksFor n (Received asked from octets) = asked ≡ n
+AsksFor n (NoDatagram asked) = asked ≡ n
+AsksFor n (Fault asked) = asked ≡ n
+AsksFor n (PacketSent s) = ⊥
+AsksFor n (PacketLost s) = ⊥
 
 -- what a send was
 abbrev pub send_of : Result (Unit {0}) PortFault → PacketData → PortCall
@@ -42,9 +51,9 @@ failures_after (Err e) n = one_more n
 -- what a port counts after these calls, from n on
 abbrev pub failures_of : List PortCall → ℕ → ℕ
 failures_of [] n = n
-failures_of (Received from octets ∷ calls) n = failures_of calls n
-failures_of (NoDatagram ∷ calls) n = failures_of calls n
-failures_of (Fault ∷ calls) n = failures_of calls (one_more n)
+failures_of (Received asked from octets ∷ calls) n = failures_of calls n
+failures_of (NoDatagram asked ∷ calls) n = failures_of calls n
+failures_of (Fault asked ∷ calls) n = failures_of calls (one_more n)
 failures_of (PacketSent s ∷ calls) n = failures_of calls n
 failures_of (PacketLost s ∷ calls) n = failures_of calls (one_more n)
 

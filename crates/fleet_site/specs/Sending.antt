@@ -43,9 +43,9 @@ AreSent (s ∷ ss) (call ∷ calls) = IsSend s call × AreSent ss calls
 
 -- a report counts a call of the port
 abbrev pub count_call : PortCall → Report → Report
-count_call (Received from octets) r = record r { received = one_more r.received }
-count_call NoDatagram r = r
-count_call Fault r = record r { faults = one_more r.faults }
+count_call (Received asked from octets) r = record r { received = one_more r.received }
+count_call (NoDatagram asked) r = r
+count_call (Fault asked) r = record r { faults = one_more r.faults }
 count_call (PacketSent s) r = record r { sent = one_more r.sent }
 count_call (PacketLost s) r = record r { lost = one_more r.lost }
 

@@ -5,9 +5,9 @@ use Rattle.fleet_pending.specs.declared.bounds.TheConstants.{MOST_ENTRIES}
 use Rattle.fleet_site.specs.SiteData.{SiteData}
 use Rattle.fleet_site.specs.SiteModel.{SiteModel}
 use Rattle.fleet_site.specs.StandsFor.{StandsFor}
-use Rattle.fleet_site.specs.PortRecord.{PortCall, PortState, Made}
+use Rattle.fleet_site.specs.PortRecord.{PortCall, PortState, Made, AsksFor}
 use Rattle.fleet_site.specs.Sending.{count_call}
-use Rattle.fleet_site.specs.Turn.{Act, Acts, Acted, calls_of, count_acts, Given, Ticks, SweepsWhenDue, Between, Turn, Turns, start_of}
+use Rattle.fleet_site.specs.Turn.{Act, Acts, Acted, calls_of, count_acts, ROOM, Given, Ticks, SweepsWhenDue, Between, Turn, Turns, start_of}
 use Rattle.fleet_site.specs.declared.report.Report.{Report}
 
 -- the run of a server: these turns were made, and where the port tells its record, their calls are
@@ -46,6 +46,7 @@ pub record Heard (old new : PortState) (t word : ℕ) (site after : SiteData) (r
     : Type 0 where
   pub arrival : PortCall
   pub acts : List Act
+  pub asks : AsksFor ROOM arrival
   pub given : Given t word arrival acts
   pub acted : Acted site after acts
   pub made : Made old new (arrival ∷ calls_of acts)

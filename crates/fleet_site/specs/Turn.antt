@@ -2,6 +2,7 @@
 use Rattle.std.specs.Prelude.{◌≡◌, ℕ, suc, zero, ◌+◌, ◌%◌, ◌<◌, ◌≤◌, Bool, true, false, List, [], ◌∷◌, ◌++◌, Option, Some, None, Result, Ok, Err, length}
 use Rattle.std.specs.Option.{unwrap_or}
 use Rattle.rand_core.specs.Stream.{Stream, next_u32}
+use Rattle.fleet_gossip.specs.declared.bounds.TheConstants.{LONGEST_FRAME}
 use Rattle.fleet_pending.specs.declared.bounds.TheConstants.{MOST_ENTRIES}
 use Rattle.fleet_pending.specs.declared.waiter.Addr.{Addr}
 use Rattle.fleet_site.specs.Choice.{when◌then◌otherwise◌}
@@ -11,7 +12,7 @@ use Rattle.fleet_site.specs.SiteData.{SiteData}
 use Rattle.fleet_site.specs.StandsFor.{StandsFor}
 use Rattle.fleet_site.specs.Sweep.{IsSweep}
 use Rattle.fleet_site.specs.Step.{Call, datagram, tick, Says}
-use Rattle.fleet_site.specs.PortRecord.{PortCall, Received, NoDatagram, Fault, PacketSent, PacketLost, one_more}
+use Rattle.fleet_site.specs.PortRecord.{PortCall, Received, NoDatagram, Fault, PacketSent, PacketLost, AsksFor, one_more}
 use Rattle.fleet_site.specs.Sending.{AreSent, packets_of, count_call, count_calls, count_step, goes_on}
 use Rattle.fleet_site.specs.declared.outcome.SiteFault.{SiteFault}
 use Rattle.fleet_site.specs.declared.outcome.SiteFault.TheVariants.{OutOfMemory}
@@ -67,10 +68,10 @@ pub record Acted (old new : SiteData) (acts : List Act) : Type 0 where
 
 -- what was received is given to the site, and nothing where nothing was
 abbrev pub Given : ℕ → ℕ → PortCall → List Act → Type 0
-Given t word (Received from octets) acts =
+Given t word (Received asked from octets) acts =
     (a : Act) × (acts ≡ a ∷ []) × (a.deal ≡ calling (datagram t from octets word))
-Given t word NoDatagram acts = acts ≡ []
-Given t word Fault acts = acts ≡ []
+Given t word (NoDatagram asked) acts = acts ≡ []
+Given t word (Fault asked) acts = acts ≡ []
 Given t word (PacketSent s) acts = ⊥
 Given t word (PacketLost s) acts = ⊥
 
@@ -100,6 +101,11 @@ pub record Between : Type 0 where
   pub swept : Option ℕ
   pub report : Report
 
+-- what a turn asks for: one octet more than the longest frame has, so that no frame is cut to one that
+-- could be read
+abbrev pub ROOM : ℕ
+ROOM = LONGEST_FRAME + 1
+
 -- one turn at a moment with a word: a receive, and the sends of the datagram, of the ticks, and of
 -- the sweep
 pub record Turn (t word every : ℕ) (a b : Between) : Type 0 where
@@ -107,6 +113,7 @@ pub record Turn (t word every : ℕ) (a b : Between) : Type 0 where
   pub given : List Act
   pub ticks : List Act
   pub sweep : List Act
+  pub asks : AsksFor ROOM arrival
   pub is_given : Given t word arrival given
   pub are_ticks : Ticks t ticks false
   pub few : length ticks ≤ MOST_ENTRIES
@@ -132,6 +139,12 @@ word_of s n = (next_u32 (left_after n s)).0 % 65536
 abbrev pub IsMomentOfTurn : Option (ℕ → ℕ) → ℕ → ℕ → Type 0
 IsMomentOfTurn None n t = Unit {0}
 IsMomentOfTurn (Some moments) n t = t ≡ moments n
+
+-- what a clock is going to tell after so many moments, where it tells that before
+abbrev pub IsPast : Option (ℕ → ℕ) → ℕ → Option (ℕ → ℕ) → Type 0
+IsPast None n now = Unit {0}
+IsPast (Some moments) n now =
+    (rest : ℕ → ℕ) × (now ≡ Some rest) × ((k : ℕ) → rest k ≡ moments (n + k))
 
 -- so many turns in a row, each with its moment and its word
 abbrev pub Turns : Option (ℕ → ℕ) → Stream → ℕ → ℕ → Between → Between → Type 0

@@ -1,22 +1,24 @@
 //! A port over memory.
 
-ghost use Rattle.std.specs.Prelude.{◌≡◌, ◌≤◌, ◌∷◌, [], false, true, None, IfSome, length, MatchOption, map};
-ghost use Rattle.fleet_site.specs.MemoryPort.{call_of};
+ghost use Rattle.std.specs.Prelude.{◌≡◌, ◌↔◌, ◌≤◌, ◌∷◌, [], IsTrue, true, false, None, Some, Ok, IfOk, IfSome, length, MatchOption, map};
+ghost use Rattle.fleet_site.specs.PortRecord.{PacketSent, PacketLost, NotesAll, receive_of, send_of, failures_after, one_more};
+ghost use Rattle.fleet_site.specs.MemoryPort.{call_of, record_of, Arrives, Gives, IsCall, NotesAlone, one_call_fewer};
 
 use crate::port::{Port, PortFault};
 use fleet_name::Octets;
 use fleet_pending::Addr;
 use std::alloc::{Allocator, Global};
+use std::collections::VecDeque;
 
-/// A call of a port, and how it ended.
+/// A call of a port, and how it ended. A receive tells how many octets were asked for.
 #[derive(Drop)]
 pub enum Note<A: Allocator = Global> {
-    /// A datagram was received: where it came from, and its octets, cut to the buffer.
-    Received(Addr, Octets<A>),
+    /// A datagram was received into so many octets: where it came from, and its octets, cut to them.
+    Received(usize, Addr, Octets<A>),
     /// No datagram came.
-    NoDatagram,
+    NoDatagram(usize),
     /// A receive failed.
-    Fault,
+    Fault(usize),
     /// A packet was sent.
     Sent(Addr, Octets<A>),
     /// A packet was lost.
@@ -28,19 +30,14 @@ pub enum Note<A: Allocator = Global> {
 #[derive(Drop)]
 pub struct MemoryPort<A: Allocator = Global> {
     alloc: A,
-    arrivals: Vec<Option<(Addr, Octets<A>)>, A>,
-    next: usize,
-    made: u64,
-    fail_at: Option<u64>,
+    arrivals: VecDeque<Option<(Addr, Octets<A>)>, A>,
+    fails_in: Option<u64>,
     tells: bool,
     notes: Vec<Note<A>, A>,
     failed: u64,
 }
 
 impl<A: Allocator + Copy> MemoryPort<A> {
-    ghost use Rattle.fleet_site.specs.PortRecord.{NotesAll, one_more};
-    ghost use Rattle.fleet_site.specs.MemoryPort.{record_of};
-
     /// A port that gives these arrivals in order, `None` for no datagram, and then none. It fails
     /// at its call with the number `fail_at`, counted from 1, without using up an arrival.
     pub fn new(
@@ -48,17 +45,15 @@ impl<A: Allocator + Copy> MemoryPort<A> {
         arrivals: Vec<Option<(Addr, Octets<A>)>, A>,
         fail_at: Option<u64>,
     ) -> MemoryPort<A>
-        ensures arrivals { result.arrivals ≡ arrivals }
-        ensures fail_at { result.fail_at ≡ fail_at }
-        ensures begins { (result.next ≡ 0) × (result.made ≡ 0) × (result.failed ≡ 0) }
+        ensures arrivals { result.arrivals.items ≡ arrivals.items }
+        ensures fail_at { result.fails_in ≡ fail_at }
+        ensures failed { result.failed ≡ 0 }
         ensures told { record_of result ≡ Some [] }
     {
         MemoryPort {
             alloc,
-            arrivals,
-            next: 0,
-            made: 0,
-            fail_at,
+            arrivals: VecDeque::from(arrivals),
+            fails_in: fail_at,
             tells: true,
             notes: Vec::new(alloc),
             failed: 0,
@@ -77,57 +72,90 @@ impl<A: Allocator + Copy> MemoryPort<A> {
         }
     }
 
-    /// Whether this call is the one that fails.
+    /// Whether this call is the one that is to fail.
     fn begin(&mut self) -> bool
-        ensures told { record_of self.new ≡ record_of self.old }
-        ensures failed { self.new.failed ≡ self.old.failed }
+        ensures fails { IsTrue result ↔ (self.old.fails_in ≡ Some 1) }
+        ensures begun { self.new ≡ record self.old {
+          fails_in = one_call_fewer self.old.fails_in;
+        } }
     {
-        self.made = self.made.saturating_add(1);
-        self.fail_at == Some(self.made)
+        let fails = self.fails_in == Some(1);
+        self.fails_in = match self.fails_in {
+            Some(left) if left > 1 => Some(left - 1),
+            _ => None,
+        };
+        fails
     }
 
     /// Keeps a note, or tells no more.
     fn note(&mut self, note: Note<A>) -> bool
         ensures told { NotesAll (record_of self.old) (call_of note ∷ []) (record_of self.new) }
-        ensures silent { result ≡ false → record_of self.new ≡ None }
-        ensures failed { self.new.failed ≡ self.old.failed }
+        ensures rest { NotesAlone self.old self.new result }
     {
         if !self.tells {
             return true;
         }
-        match self.notes.push(note) {
-            Ok(()) => true,
-            Err(_) => {
-                self.tells = false;
-                false
-            }
+        self.tells = self.notes.push(note).is_ok();
+        self.tells
+    }
+
+    /// Keeps a note of what a receive gave.
+    fn note_arrival(&mut self, got: Option<(Addr, usize)>, buffer: &[u8]) -> bool
+        requires { IfSome got (λ p. p.1 ≤ length buffer.now) }
+        ensures told { NotesAll (record_of self.old)
+            (receive_of (length buffer.now) (Ok got) buffer.now ∷ []) (record_of self.new) }
+        ensures rest { NotesAlone self.old self.new result }
+    {
+        let asked = buffer.len();
+        let note = match got {
+            None => Note::NoDatagram(asked),
+            Some((from, len)) => match Octets::copy_of(self.alloc, &buffer[..len]) {
+                Ok(octets) => Note::Received(asked, from, octets),
+                Err(_) => return self.fall_silent(),
+            },
+        };
+        self.note(note)
+    }
+
+    /// Keeps a note of a packet that was sent, or was lost.
+    fn note_send(&mut self, is_lost: bool, to: Addr, bytes: &[u8]) -> bool
+        ensures sent { is_lost ≡ false → NotesAll (record_of self.old)
+            (PacketSent (record { to = to; octets = bytes.now }) ∷ []) (record_of self.new) }
+        ensures lost { is_lost ≡ true → NotesAll (record_of self.old)
+            (PacketLost (record { to = to; octets = bytes.now }) ∷ []) (record_of self.new) }
+        ensures rest { NotesAlone self.old self.new result }
+    {
+        match Octets::copy_of(self.alloc, bytes) {
+            Ok(octets) if is_lost => self.note(Note::Lost(to, octets)),
+            Ok(octets) => self.note(Note::Sent(to, octets)),
+            Err(_) => self.fall_silent(),
         }
     }
 
-    /// Counts a call that failed.
-    fn count(&mut self)
-        ensures told { record_of self.new ≡ record_of self.old }
-        ensures failed { self.new.failed ≡ one_more self.old.failed }
-    {
-        self.failed = self.failed.saturating_add(1);
-    }
-
-    /// Counts a call that failed, and tells no more.
-    fn fall_silent(&mut self)
+    /// Tells no more; whether it told nothing before.
+    fn fall_silent(&mut self) -> bool
         ensures told { record_of self.new ≡ None }
-        ensures failed { self.new.failed ≡ one_more self.old.failed }
+        ensures rest { NotesAlone self.old self.new result }
     {
+        let told = self.tells;
         self.tells = false;
-        self.failed = self.failed.saturating_add(1);
+        !told
     }
 
-    /// Copies the next arrival to the buffer.
-    fn arrive(&mut self, buffer: &mut [u8]) -> Option<(Addr, usize)>
-        ensures told { record_of self.new ≡ record_of self.old }
-        ensures failed { self.new.failed ≡ self.old.failed }
-        ensures within { IfSome result (λ p. p.1 ≤ length buffer.old) }
+    /// Counts a call that failed.
+    fn fail(&mut self) -> PortFault
+        ensures { self.new ≡ record self.old { failed = one_more self.old.failed } }
     {
-        match self.arrivals.get(self.next) {
+        self.failed = self.failed.saturating_add(1);
+        PortFault
+    }
+
+    /// Copies the arrival whose turn it is to the buffer.
+    fn arrive(&self, buffer: &mut [u8]) -> Option<(Addr, usize)>
+        ensures within { IfSome result (λ p. p.1 ≤ length buffer.old) }
+        ensures arrives { Arrives (length buffer.old) self.now.arrivals.items result buffer.new }
+    {
+        match self.arrivals.front() {
             Some(Some((from, octets))) => {
                 let octets = octets.as_slice();
                 let len = octets.len().min(buffer.len());
@@ -140,53 +168,42 @@ impl<A: Allocator + Copy> MemoryPort<A> {
 }
 
 impl<A: Allocator + Copy> Port for MemoryPort<A> {
-    ghost use Rattle.fleet_site.specs.MemoryPort.{record_of};
-
     ghost tells = { λ p. record { told = record_of p; failed = p.failed } };
 
-    fn recv(&mut self, buffer: &mut [u8]) -> Result<Option<(Addr, usize)>, PortFault> {
+    fn recv(&mut self, buffer: &mut [u8]) -> Result<Option<(Addr, usize)>, PortFault>
+        ensures within { IfOk result (λ got. IfSome got (λ p. p.1 ≤ length buffer.old)) }
+        ensures told { NotesAll (record_of self.old)
+            (receive_of (length buffer.old) result buffer.new ∷ []) (record_of self.new) }
+        ensures failed { self.new.failed ≡ failures_after result self.old.failed }
+        ensures call { IsCall self.old self.new result }
+        ensures gives { Gives (length buffer.old) self.old.arrivals.items result buffer.new
+            self.new.arrivals.items }
+    {
         if self.begin() {
-            self.note(Note::Fault);
-            self.count();
-            return Err(PortFault);
+            self.note(Note::Fault(buffer.len()));
+            return Err(self.fail());
         }
         let got = self.arrive(buffer);
-        let note = match got {
-            None => Note::NoDatagram,
-            Some((from, len)) => match Octets::copy_of(self.alloc, &buffer[..len]) {
-                Ok(octets) => Note::Received(from, octets),
-                Err(_) => {
-                    self.fall_silent();
-                    return Err(PortFault);
-                }
-            },
-        };
-        if self.note(note) {
-            self.next = self.next.saturating_add(1);
-            Ok(got)
-        } else {
-            self.count();
-            Err(PortFault)
+        if !self.note_arrival(got, buffer) {
+            return Err(self.fail());
         }
+        self.arrivals.pop_front();
+        Ok(got)
     }
 
-    fn send(&mut self, to: Addr, bytes: &[u8]) -> Result<(), PortFault> {
+    fn send(&mut self, to: Addr, bytes: &[u8]) -> Result<(), PortFault>
+        ensures told { NotesAll (record_of self.old)
+            (send_of result (record { to = to; octets = bytes.now }) ∷ []) (record_of self.new) }
+        ensures failed { self.new.failed ≡ failures_after result self.old.failed }
+        ensures call { IsCall self.old self.new result }
+        ensures arrivals { self.new.arrivals.items ≡ self.old.arrivals.items }
+    {
         let fails = self.begin();
-        let Ok(octets) = Octets::copy_of(self.alloc, bytes) else {
-            self.fall_silent();
-            return Err(PortFault);
-        };
-        if fails {
-            self.note(Note::Lost(to, octets));
-            self.count();
-            return Err(PortFault);
+        let noted = self.note_send(fails, to, bytes);
+        if fails || !noted {
+            return Err(self.fail());
         }
-        if self.note(Note::Sent(to, octets)) {
-            Ok(())
-        } else {
-            self.count();
-            Err(PortFault)
-        }
+        Ok(())
     }
 
     fn failures(&self) -> u64 {

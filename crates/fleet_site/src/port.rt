@@ -19,11 +19,12 @@ pub trait Port {
     ghost tells: { Self → PortState };
 
     /// Receives at most one datagram, cut to the buffer: where it comes from and its length in
-    /// octets. `None` where none came, `Err` where the call failed.
+    /// octets. `None` where none came, `Err` where the call failed. The record tells how long the
+    /// buffer is.
     fn recv(&mut self, buffer: &mut [u8]) -> Result<Option<(Addr, usize)>, PortFault>
         ensures within { IfOk result (λ got. IfSome got (λ p. p.1 ≤ length buffer.old)) }
-        ensures told { NotesAll (tells self.old).told (receive_of result buffer.new ∷ [])
-            (tells self.new).told }
+        ensures told { NotesAll (tells self.old).told
+            (receive_of (length buffer.old) result buffer.new ∷ []) (tells self.new).told }
         ensures failed { (tells self.new).failed ≡ failures_after result (tells self.old).failed };
 
     /// Sends a datagram. `Err` where the call failed, and the datagram is lost.

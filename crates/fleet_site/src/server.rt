@@ -5,7 +5,7 @@ ghost use Rattle.fleet_site.specs.declared.bounds.TheConstants.{MOST_COUNTED};
 ghost use Rattle.fleet_site.specs.Packet.{packet_data};
 ghost use Rattle.fleet_site.specs.OutcomeData.{result_data};
 ghost use Rattle.fleet_site.specs.Sending.{Sends, CarriesOut, to_each, to_peers, sweep_outcome, count_refusal_in, goes_on};
-ghost use Rattle.fleet_site.specs.Turn.{IsSweepDue};
+ghost use Rattle.fleet_site.specs.Turn.{IsSweepDue, IsPast, left_after};
 ghost use Rattle.fleet_site.specs.Served.{Served, FollowsSteps, Turned, Heard, TickedAll, SweptOnce};
 
 use crate::outcome::{Outcome, Packet, Refusal, SiteFault};
@@ -122,7 +122,7 @@ fn carry_out_sweep<P: Port, A: Allocator>(
 fn receive<P: Port, A: Allocator + Copy>(
     port: &mut P,
     site: &mut Site<A>,
-    buffer: &mut [u8],
+    buffer: &mut [u8; BUFFER],
     now: Moment,
     word: u16,
     report: &mut Report,
@@ -192,7 +192,7 @@ fn sweep_if_due<P: Port, A: Allocator + Copy>(
 fn turn<P: Port, A: Allocator + Copy>(
     port: &mut P,
     site: &mut Site<A>,
-    buffer: &mut [u8],
+    buffer: &mut [u8; BUFFER],
     now: Moment,
     word: u16,
     every: u32,
@@ -210,8 +210,8 @@ fn turn<P: Port, A: Allocator + Copy>(
 
 /// Serves a site over a port for so many turns, and tells what it counted.
 ///
-/// A turn reads the clock once and draws one word; receives at most one datagram and gives it to
-/// the site with the low 16 bits of that word; sends its packets, then its frames, each to the
+/// A turn reads the clock once and draws one word; receives at most one datagram, into 16385
+/// octets, and gives it to the site with the low 16 bits of that word; sends its packets, then its frames, each to the
 /// peers in their order; ticks, sending after each tick, until no other entry is due or a tick
 /// finds no memory; and sweeps where `sweep_every` (seconds) is not 0 and the moment is at least
 /// that many seconds after that of the last sweep, or of the first turn. A send that fails counts
@@ -227,11 +227,13 @@ pub fn serve<P: Port, C: Clock, R: Rng, A: Allocator + Copy>(
     ensures run { Served (P.tells port.old) (P.tells port.new) (C.moments clock.old)
         (R.stream rng.old) turns sweep_every site.old site.new result }
     ensures follows { FollowsSteps site.old site.new }
+    ensures moments { IsPast (C.moments clock.old) turns (C.moments clock.new) }
+    ensures words { R.stream rng.new ≡ left_after turns (R.stream rng.old) }
     ensures failures { result.lost < MOST_COUNTED → result.faults < MOST_COUNTED
         → (P.tells port.new).failed < MOST_COUNTED
         → (P.tells port.new).failed ≡ (P.tells port.old).failed + (result.lost + result.faults) }
 {
-    let mut report = Report::new();
+    let mut counted = Report::new();
     let mut buffer = [0u8; BUFFER];
     let mut swept = None;
     for _ in 0..turns {
@@ -245,8 +247,8 @@ pub fn serve<P: Port, C: Clock, R: Rng, A: Allocator + Copy>(
             word,
             sweep_every,
             swept,
-            &mut report,
+            &mut counted,
         ));
     }
-    report
+    counted
 }

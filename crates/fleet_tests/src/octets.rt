@@ -9,7 +9,7 @@ use std::test::Fail;
 ///
 /// The frames are of 192.0.2.1 at rank 1 from 100 to 400, of 192.0.2.2 at rank 1 from 200 to 210,
 /// and of both, the preferred first; of what the reply tells at 101; and of 192.0.2.9 at rank 1
-/// from 100 to 400. `flush` is of com. at 120, `after` of 192.0.2.2 at rank 1 from 150 to 250, and
+/// from 100 to 400. `longest-frame` has 16384 octets, `two-octets-more` as many more. `flush` is of com. at 120, `after` of 192.0.2.2 at rank 1 from 150 to 250, and
 /// `withdrawn` of both; `after-relay` tells it at 200. `first-older` has the version before.
 ///
 /// The query has the id 1234, the reply has 192.0.2.1 for 300 seconds, and who asked is told so at
@@ -77,6 +77,12 @@ both: 4447 02 0002 03 01 00000000000000c8 0000000a example.com 0001 0001 0004 c0
 learnt: 4447 02 0001 03 01 0000000000000065 0000012c example.com 0001 0001 0004 c0000201
 held: 4447 02 0001 03 01 0000000000000064 0000012c example.org 0001 0001 0004 c0000209
 first-older: 4447 01 0001 03 01 0000000000000064 0000012c example.com 0001 0001 0004 c0000201
+longest-frame: 4447 02 0002 \
+    03 01 0000000000000064 0000012c example.com 0010 0001 1ffc 61*8188 \
+    03 01 0000000000000064 0000012c example.org 0010 0001 1fbd 61*8125
+two-octets-more: 4447 02 0002 \
+    03 01 0000000000000064 0000012c example.com 0010 0001 1ffc 61*8188 \
+    03 01 0000000000000064 0000012c example.org 0010 0001 1fbf 61*8127
 flush: 4447 02 0001 04 03 0000000000000078 00015180 03636f6d00 0000
 after: 4447 02 0001 03 01 0000000000000096 00000064 example.com 0001 0001 0004 c0000202
 withdrawn: 4447 02 0002 04 03 0000000000000078 00015180 03636f6d00 0000 \

@@ -9,7 +9,7 @@ use fleet_pending::Addr;
 use fleet_site::{ListClock, MemoryPort, Note, Port, Report, Site, serve};
 use rand_core::utils::NextWord;
 use rand_core::{Rng, utils};
-use std::alloc::{AllocError, Global};
+use std::alloc::Global;
 use std::marker::Model;
 use std::process::Abort;
 use std::test::Fail;
@@ -51,14 +51,17 @@ fn clock(alloc: Global, seconds: &str) -> Result<ListClock, Fail> {
     Ok(ListClock::new(moments))
 }
 
-/// A port at which one question arrives, and which fails at one call.
-fn question_port(
+/// A port at which the octets of these names arrive from another port, and which fails at one call.
+fn port_with(
     alloc: Global,
-    question: Octets,
+    from: u16,
+    names: &str,
     fail_at: Option<u64>,
-) -> Result<MemoryPort, AllocError> {
-    let mut arrivals = Vec::with_capacity(alloc, 1)?;
-    arrivals.push_reserved(Some((addr(6001), question)));
+) -> Result<MemoryPort, Fail> {
+    let mut arrivals = Vec::new(alloc);
+    for name in names.split(' ') {
+        arrivals.push(Some((addr(from), octets(alloc, name)?)))?;
+    }
     Ok(MemoryPort::new(alloc, arrivals, fail_at))
 }
 
@@ -96,9 +99,9 @@ fn tell_moved(told: &mut String, end: &str, addr: Addr, octets: &Octets) -> Resu
 /// Adds a call of a port, and how it ended.
 fn tell_note(told: &mut String, note: &Note) -> Result<(), Fail> {
     match note {
-        Note::Received(from, octets) => tell_moved(told, " received", *from, octets),
-        Note::NoDatagram => Ok(told.push_str(" nothing")?),
-        Note::Fault => Ok(told.push_str(" fault")?),
+        Note::Received(_, from, octets) => tell_moved(told, " received", *from, octets),
+        Note::NoDatagram(_) => Ok(told.push_str(" nothing")?),
+        Note::Fault(_) => Ok(told.push_str(" fault")?),
         Note::Sent(to, octets) => tell_moved(told, " sent", *to, octets),
         Note::Lost(to, octets) => tell_moved(told, " lost", *to, octets),
     }
@@ -121,7 +124,7 @@ fn check_notes(
 
 /// A question goes to each upstream in so many turns, and fails.
 fn check_turns(rt: &impl Abort, alloc: Global, turns: u32, counts: &str) -> Result<(), Fail> {
-    let mut port = question_port(alloc, octets(alloc, "question")?, None)?;
+    let mut port = port_with(alloc, 6001, "question", None)?;
     check_report(rt, alloc, run(alloc, &mut port, turns)?, counts)?;
     assert_eq!(rt; port.failures(), 0);
     check_notes(
@@ -138,30 +141,32 @@ fn a_question_goes_to_each_upstream_and_fails(rt: HostRuntime) -> Result<(), Fai
     check_turns(&rt, rt.alloc(), 300, "300 1 3 0 0 0 0")
 }
 
-/// The call that fails, of three turns in which a question goes to each upstream, and the counts of
-/// their report.
+/// The call that fails, of three turns in which a question goes to each upstream, the counts of
+/// their report, and the record of the port.
 const FAILURES: &str = "\
-1 => 3 1 2 0 1 0 0
-2 => 3 1 2 1 0 0 0
-3 => 3 1 3 0 1 0 0
-4 => 3 1 2 1 0 0 0
-5 => 3 1 3 0 1 0 0
-6 => 3 1 2 1 0 0 0
-7 => 3 1 3 0 0 0 0
+1 => 3 1 2 0 1 0 0 : fault received 6001 question sent 5301 query nothing sent 5302 query
+2 => 3 1 2 1 0 0 0 : received 6001 question lost 5301 query nothing sent 5302 query nothing sent 6001 failure
+3 => 3 1 3 0 1 0 0 : received 6001 question sent 5301 query fault sent 5302 query nothing sent 6001 failure
+4 => 3 1 2 1 0 0 0 : received 6001 question sent 5301 query nothing lost 5302 query nothing sent 6001 failure
+5 => 3 1 3 0 1 0 0 : received 6001 question sent 5301 query nothing sent 5302 query fault sent 6001 failure
+6 => 3 1 2 1 0 0 0 : received 6001 question sent 5301 query nothing sent 5302 query nothing lost 6001 failure
+7 => 3 1 3 0 0 0 0 : received 6001 question sent 5301 query nothing sent 5302 query nothing sent 6001 failure
 ";
 
-/// Compares the report of three turns where a call fails.
+/// Compares the report of three turns where a call fails, and the record.
 fn check_failure(rt: &impl Abort, alloc: Global, row: &str) -> Result<(), Fail> {
-    let (fail_at, counts) = row.split_once(" => ").ok_or("no counts")?;
+    let (fail_at, row) = row.split_once(" => ").ok_or("no counts")?;
+    let (counts, notes) = row.split_once(" : ").ok_or("no record")?;
     let fail_at = u64::from(number(fail_at)?);
-    let mut port = question_port(alloc, octets(alloc, "question")?, Some(fail_at))?;
+    let mut port = port_with(alloc, 6001, "question", Some(fail_at))?;
     let report = run(alloc, &mut port, 3)?;
     assert_eq!(rt;
         port.failures(),
         report.lost.saturating_add(report.faults),
         "{row}"
     );
-    check_report(rt, alloc, report, counts)
+    check_report(rt, alloc, report, counts)?;
+    check_notes(rt, alloc, &port, notes)
 }
 
 #[test]
@@ -169,6 +174,17 @@ fn a_call_that_fails_is_lost_or_a_fault(rt: HostRuntime) -> Result<(), Fail> {
     for row in FAILURES.lines() {
         check_failure(&rt, rt.alloc(), row)?;
     }
+    Ok(())
+}
+
+#[test]
+fn the_longest_frame_is_taken_and_a_longer_one_refused(rt: HostRuntime) -> Result<(), Fail> {
+    let mut port = port_with(rt.alloc(), 5401, "longest-frame two-octets-more", None)?;
+    let mut site = new_site(rt.alloc(), &[addr(5401)])?;
+    let mut clock = clock(rt.alloc(), "100")?;
+    let report = serve(&mut port, &mut clock, &mut OneWord(0), &mut site, 2, 0);
+    check_report(&rt, rt.alloc(), report, "2 2 0 0 0 1 0")?;
+    assert_eq!(rt; site.cache().len(), 2);
     Ok(())
 }
 

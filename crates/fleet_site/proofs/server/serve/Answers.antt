@@ -1,12 +1,12 @@
 use Rattle.std.proofs.Common.{refl, ◌≡◌, arith}
-use Rattle.fleet_site.proofs.ServerRuns.{serves_none, serves_more, serves_run, serves_failures, serves_follows, ahead_none, ahead_more, is_moment, left_more}
+use Rattle.fleet_site.proofs.ServerRuns.{serves_none, serves_more, serves_run, serves_failures, serves_follows, past_none, past_more, is_moment, left_more}
 use Rattle.fleet_site.proofs.server.serve.Goals as goal
 
 pub loop-init : goal.loop-init
 loop-init g c = record {
-  run = rw c.new-report.ensures
+  run = rw c.new-counted.ensures
       (serves_none _ _ _ c.args.sweep_every c.args.site.now);
-  clock = ahead_none _;
+  clock = past_none _;
   stream = refl;
 }
 
@@ -16,11 +16,11 @@ loop-preserved g c =
     c.next_u32.ensures in
     record {
       run = serves_more _ _ _ _ _ c.loop.counter c.args.sweep_every c.now-now.result _ c.turn.result
-          c.args.site.now c.loop.site c.turn.new.site c.loop.swept c.loop.report c.turn.new.report
+          c.args.site.now c.loop.site c.turn.new.site c.loop.swept c.loop.counted c.turn.new.report
           c.loop.invariant.run
           (is_moment _ _ _ c.loop.counter c.now-now.result c.loop.invariant.clock c.now-now.ensures)
           l.1 c.turn.ensures;
-      clock = ahead_more _ _ _ c.loop.counter c.now-now.result c.loop.invariant.clock
+      clock = past_more _ _ _ c.loop.counter c.now-now.result c.loop.invariant.clock
           c.now-now.ensures;
       stream = l.0;
     }
@@ -34,3 +34,11 @@ returns-clause-failures g c = serves_failures _ _ _ _ _ _ _ _ _ _ c.loop.invaria
 
 pub returns-clause-follows : goal.returns-clause-follows
 returns-clause-follows g c = serves_follows _ _ _ _ _ _ _ _ _ _ c.loop.invariant.run
+
+pub returns-clause-words : goal.returns-clause-words
+returns-clause-words g c =
+    let n : c.loop.counter ≡ c.args.turns = omega arith in rw n at c.loop.invariant.stream
+
+pub returns-clause-moments : goal.returns-clause-moments
+returns-clause-moments g c =
+    let n : c.loop.counter ≡ c.args.turns = omega arith in rw n at c.loop.invariant.clock
