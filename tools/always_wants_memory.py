@@ -11,13 +11,11 @@ A call takes from a few seconds to a minute, all of them a quarter of an hour or
 """
 
 import re
-import shutil
-import subprocess
 import sys
-import tempfile
-from pathlib import Path
 
-from memory_calls import ROOT, rows
+sys.dont_write_bytecode = True
+from memory_calls import rows
+from unproved_tests import copy_of_sources, fails
 
 # What a call answers that finds no memory, by the fault of its signature.
 FAULTS = {
@@ -67,13 +65,6 @@ def edited(folder, call):
     return False
 
 
-def fails(root, crate, test):
-    """Whether the test fails, and what the run said."""
-    ran = subprocess.run(["rt", "try", "--test", "--seconds", "900"], cwd=root / "crates" / crate, capture_output=True, text=True)
-    lines = [line for line in ran.stdout.splitlines() if re.match(rf"test (\w+::)*{test} ", line)]
-    return [line.split("... ")[-1] for line in lines], ran.stdout + ran.stderr
-
-
 def main():
     wanted = sys.argv[1:]
     passed = 0
@@ -82,22 +73,12 @@ def main():
         for call in calls:
             if wanted and call not in wanted:
                 continue
-            with tempfile.TemporaryDirectory() as room:
-                root = Path(room)
-                shutil.copy(ROOT / "crates.txt", root)
-                shutil.copy(ROOT / "HANDLES", root)
-                shutil.copytree(ROOT / "crates", root / "crates", ignore=shutil.ignore_patterns("out"))
+            with copy_of_sources() as root:
                 if not edited(root / "crates" / crate, call):
                     print(f"{crate}: {call}: not found")
                     passed += 1
-                    continue
-                told, text = fails(root, place or crate, name)
-            if told == ["FAILED"]:
-                print(f"{crate}: {call}: {name} fails, as it has to", flush=True)
-            else:
-                passed += 1
-                last = text.strip().splitlines()[-1:] or [""]
-                print(f"{crate}: {call}: {name} does not fail: {told} {last[0][:200]}", flush=True)
+                elif not fails(root, place or crate, name, f"{crate}: {call}"):
+                    passed += 1
     sys.exit(1 if passed else 0)
 
 

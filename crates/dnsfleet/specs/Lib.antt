@@ -8,3 +8,4 @@ pub mod Socket
 pub mod Key
 pub mod Serving
 pub mod Moments
+pub mod Usage

@@ -16,3 +16,8 @@ address_in (V6 a) = None
 -- none came in time, or a signal interrupted the receive: neither is a fault
 abbrev pub IsQuiet : ErrorKind → Type 0
 IsQuiet kind = (kind ≡ WouldBlock) ⊎ ((kind ≡ TimedOut) ⊎ (kind ≡ Interrupted))
+
+-- where a socket is that was to be bound to an address: there, or where its port was 0 at some port
+-- of the same host
+abbrev pub IsAt : Addr → Addr → Type 0
+IsAt asked own = (asked.host ≡ own.host) × ((asked.port ≡ 0) ⊎ (asked.port ≡ own.port))

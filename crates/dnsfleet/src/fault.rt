@@ -6,6 +6,8 @@ ghost use Rattle.dnsfleet.specs.declared.fault.What.TheVariants.{OutOfMemory};
 
 use fleet_world::WorldFault;
 use std::alloc::{AllocError, AllocFailed, Allocator};
+use std::fmt::Display;
+use std::process::ExitCode;
 use thiserror::Error;
 
 /// What is wrong with a line, in the order in which it is told.
@@ -92,4 +94,12 @@ pub struct ScriptFault {
     pub line: u64,
     /// What is wrong with it.
     pub what: What,
+}
+
+/// Tells on standard error what ends a run, and gives its status, 1. What is told may be lost.
+pub fn fail<E: Eprint, D: Display + Drop>(rt: &E, fault: D) -> ExitCode
+    ensures { result ≡ ExitCode.FAILURE }
+{
+    let _ = eprintln!(rt; "dnsfleet: {fault}");
+    ExitCode::FAILURE
 }

@@ -53,4 +53,5 @@ Example, a site that asks the server at port 5301; with nothing to do it ends af
     --key 000102030405060708090a0b0c0d0e0f101112131415161718191a1b1c1d1e1f
 
 Whoever has the key can guess the identifiers of queries: draw one for each site, and keep it secret. A bad key ends
-with status 2, a bad configuration or an address that can't be bound with status 1, with a line on standard error.";
+with status 2; a bad configuration, an address that can't be bound, or output that fails with status 1, with a line on
+standard error.";

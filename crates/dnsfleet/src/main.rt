@@ -17,20 +17,31 @@ mod tests;
 mod udp_port;
 mod words;
 
-ghost use Rattle.std.specs.Prelude.{◌≡◌, IsOk, IsErr, IfOk};
+ghost use Rattle.std.specs.Prelude.{◌≡◌, ◌≢◌, ◌⊎◌, IsOk, IsErr, IfOk, IsOkAnd, IsErrAnd};
+ghost use Rattle.std.specs.IoError.{error_kind};
+ghost use Rattle.std.specs.Process.{exit_status};
+ghost use Rattle.clap.specs.Values.{kind_of};
+ghost use Rattle.dnsfleet.specs.Usage.{IsPage};
+ghost use Rattle.dnsfleet.specs.declared.TheConstants.{BAD_WORDS};
 
+use clap::error::ErrorKind as Mistake;
 use clap::{Command, Error};
+use fault::fail;
 pub use fault::{ScriptFault, What};
 pub use script::run_script;
 use serve::{Words, run_server};
 pub use settings::{Settings, SettingsFault, read_settings};
 use std::alloc::{AllocError, Global};
+use std::io::ErrorKind;
 use std::net::Net;
 use std::process::ExitCode;
 use std::rt::{Clock, Files};
 use std::{env, io};
 pub use system_clock::SystemClock;
 pub use udp_port::UdpPort;
+
+/// The status with which words end that the program does not take.
+const BAD_WORDS: u8 = 2;
 
 /// The words that the program takes.
 fn program<'a>(alloc: Global) -> Result<Command<'a>, AllocError> {
@@ -50,28 +61,41 @@ fn program<'a>(alloc: Global) -> Result<Command<'a>, AllocError> {
     Ok(program)
 }
 
-/// The text of a usage fault or of a help page, and the status that goes with it.
-fn explain<R: Print + Eprint>(rt: &R, error: &Error) -> io::Result<ExitCode> {
+/// Tells a usage fault on standard error, with status 2, where it may be lost; or shows a help page
+/// on standard output, with status 0.
+fn explain<R: Print + Eprint>(rt: &R, error: &Error) -> io::Result<ExitCode>
+    ensures fault { ¬ IsPage (kind_of error.now) → (kind_of error.now ≢ Mistake.OutOfMemory)
+        → IsOkAnd result (λ code. exit_status code ≡ BAD_WORDS) }
+    ensures page { IsPage (kind_of error.now) → IfOk result (λ code. code ≡ ExitCode.SUCCESS) }
+    ensures memory { kind_of error.now ≡ Mistake.OutOfMemory
+        → IsErrAnd result (λ e. error_kind e ≡ ErrorKind.OutOfMemory) }
+{
+    if error.kind() == Mistake::OutOfMemory {
+        return Err(io::Error::from(AllocError));
+    }
+    if error.use_stderr() {
+        let _ = error.print(rt);
+        return Ok(ExitCode::from(BAD_WORDS));
+    }
     error.print(rt)?;
-    Ok(ExitCode::from(error.exit_code() as u8))
+    Ok(ExitCode::SUCCESS)
 }
 
 /// The status that a script ends with, 1 where a line is at fault, which is told on standard error.
-fn end_script<R: Eprint>(rt: &R, ended: Result<(), ScriptFault>) -> io::Result<ExitCode>
-    ensures done { IsOk ended → IfOk result (λ code. code ≡ ExitCode.SUCCESS) }
-    ensures fault { IsErr ended → IfOk result (λ code. code ≡ ExitCode.FAILURE) }
+fn end_script<R: Eprint>(rt: &R, ended: Result<(), ScriptFault>) -> ExitCode
+    ensures done { IsOk ended → result ≡ ExitCode.SUCCESS }
+    ensures fault { IsErr ended → result ≡ ExitCode.FAILURE }
 {
     match ended {
-        Ok(()) => Ok(ExitCode::SUCCESS),
-        Err(fault) => {
-            eprintln!(rt; "dnsfleet: {fault}")?;
-            Ok(ExitCode::FAILURE)
-        }
+        Ok(()) => ExitCode::SUCCESS,
+        Err(fault) => fail(rt, fault),
     }
 }
 
 /// Runs the lines of standard input.
-fn run_input<R: Input + AllocGlobal, O: Print + Eprint>(rt: &R, out: &O) -> io::Result<ExitCode> {
+fn run_input<R: Input + AllocGlobal, O: Print + Eprint>(rt: &R, out: &O) -> ExitCode
+    ensures { (result ≡ ExitCode.SUCCESS) ⊎ (result ≡ ExitCode.FAILURE) }
+{
     let mut reader = rt.reader();
     let mut writer = io::writer(out);
     end_script(out, run_script(rt.alloc(), &mut reader, &mut writer))
@@ -86,13 +110,40 @@ fn run<R: Input + Files + Clock + Net + AllocGlobal, O: Print + Eprint>(
     match program(rt.alloc())?.try_get_matches_from(words) {
         Ok(matches) => match matches.subcommand() {
             Some(("serve", matches)) => run_server(rt, out, Words::of(matches)),
-            _ => run_input(rt, out),
+            _ => Ok(run_input(rt, out)),
         },
         Err(error) => explain(out, &error),
     }
 }
 
-fn main(rt: HostRuntime) -> io::Result<ExitCode> {
-    let words: Vec<String> = env::args(&rt)?.collect(rt.alloc())?;
-    run(&rt, &rt, words.as_slice())
+/// Does what the words of the process ask for, if they are UTF-8.
+fn run_process(rt: &HostRuntime) -> io::Result<ExitCode> {
+    match env::args(rt) {
+        Ok(words) => {
+            let words: Vec<String> = words.collect(rt.alloc())?;
+            run(rt, rt, words.as_slice())
+        }
+        Err(error) if error.kind() == ErrorKind::InvalidData => {
+            let _ = eprintln!(rt; "error: a word is not UTF-8");
+            Ok(ExitCode::from(BAD_WORDS))
+        }
+        Err(error) => Err(error),
+    }
+}
+
+/// The status that a run ends with. Where output failed or memory was wanted, this is told on
+/// standard error, and the status is 1.
+fn end_run<R: Eprint>(rt: &R, ran: io::Result<ExitCode>) -> ExitCode
+    ensures done { IfOk ran (λ code. result ≡ code) }
+    ensures fault { IsErr ran → result ≡ ExitCode.FAILURE }
+{
+    match ran {
+        Ok(code) => code,
+        Err(error) if error.kind() == ErrorKind::OutOfMemory => fail(rt, What::OutOfMemory),
+        Err(_) => fail(rt, What::Write),
+    }
+}
+
+fn main(rt: HostRuntime) -> ExitCode {
+    end_run(&rt, run_process(&rt))
 }

@@ -1,11 +1,12 @@
 //! The command `serve`: a site on loopback.
 
-ghost use Rattle.std.specs.Prelude.{◌≡◌, ◌⊎◌, List, ℕ, IfOk, IsErr, IsOk, MatchOption};
+ghost use Rattle.std.specs.Prelude.{◌≡◌, ◌⊎◌, List, ℕ, Ok, IfOk, IsErr, IsOk, IsOkAnd, MatchOption};
 ghost use Rattle.std.specs.Process.{exit_status};
 ghost use Rattle.dnsfleet.specs.Key.{SpellsKey};
 ghost use Rattle.dnsfleet.specs.Serving.{ServesNew};
 ghost use Rattle.dnsfleet.specs.declared.serve.TheConstants.{BAD_KEY};
 
+use crate::fault::fail;
 use crate::settings::{LONGEST_CONFIGURATION, Settings, SettingsFault, read_settings};
 use crate::system_clock::SystemClock;
 use crate::udp_port::UdpPort;
@@ -126,7 +127,7 @@ pub fn settings_at<R: Files>(
 }
 
 /// Prints what a server counted.
-fn print_report<O: Print>(out: &O, report: &Report) -> io::Result<()> {
+pub fn print_report<O: Print>(out: &O, report: &Report) -> io::Result<()> {
     let Report {
         turns,
         received,
@@ -176,7 +177,7 @@ fn serve_port<R: time::Clock + AllocGlobal, O: Print>(
 }
 
 /// Serves with these settings, if there are any. A fault is told on standard error, and ends with
-/// status 1.
+/// status 1; where output fails, its error is the answer.
 pub fn serve_settings<R: time::Clock + Net + AllocGlobal, O: Print + Eprint>(
     rt: &R,
     out: &O,
@@ -186,18 +187,14 @@ pub fn serve_settings<R: time::Clock + Net + AllocGlobal, O: Print + Eprint>(
 ) -> io::Result<ExitCode>
     ensures served { IsOk settings
         → IfOk result (λ code. (code ≡ ExitCode.SUCCESS) ⊎ (code ≡ ExitCode.FAILURE)) }
-    ensures fault { IsErr settings → IfOk result (λ code. code ≡ ExitCode.FAILURE) }
+    ensures fault { IsErr settings → result ≡ Ok ExitCode.FAILURE }
 {
     let settings = match settings {
         Ok(settings) => settings,
-        Err(fault) => {
-            eprintln!(out; "dnsfleet: config: {fault}")?;
-            return Ok(ExitCode::FAILURE);
-        }
+        Err(fault) => return Ok(fail(out, format_args!("config: {fault}"))),
     };
     let Ok(mut port) = UdpPort::bind(rt, settings.listen) else {
-        eprintln!(out; "dnsfleet: socket")?;
-        return Ok(ExitCode::FAILURE);
+        return Ok(fail(out, "socket"));
     };
     serve_port(rt, out, &mut port, settings, key, turns)?;
     Ok(ExitCode::SUCCESS)
@@ -211,7 +208,7 @@ pub fn run_server<R: Files + time::Clock + Net + AllocGlobal, O: Print + Eprint>
     words: Words<'_>,
 ) -> io::Result<ExitCode>
     ensures bad_key { ((key : List ℕ) → SpellsKey words.entry.key.now key → ⊥)
-        → IfOk result (λ code. exit_status code ≡ BAD_KEY) }
+        → IsOkAnd result (λ code. exit_status code ≡ BAD_KEY) }
     ensures with_key { (key : List ℕ) → SpellsKey words.entry.key.now key
         → IfOk result (λ code. (code ≡ ExitCode.SUCCESS) ⊎ (code ≡ ExitCode.FAILURE)) }
 {
@@ -221,7 +218,7 @@ pub fn run_server<R: Files + time::Clock + Net + AllocGlobal, O: Print + Eprint>
             serve_settings(rt, out, settings, key, words.turns)
         }
         None => {
-            eprintln!(out; "dnsfleet: key: 64 hexadecimal digits wanted")?;
+            let _ = eprintln!(out; "dnsfleet: key: 64 hexadecimal digits wanted");
             Ok(ExitCode::from(BAD_KEY))
         }
     }

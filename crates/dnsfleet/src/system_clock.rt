@@ -34,7 +34,7 @@ impl<'a, C: time::Clock> SystemClock<'a, C> {
     /// The moment of what was read, which is kept.
     fn keep(&mut self, read: io::Result<Duration>) -> Moment
         ensures moment { result ≡ moment_after read self.old.last }
-        ensures kept { self.new.last ≡ result }
+        ensures kept { self.new ≡ record self.old { last = result } }
     {
         if let Ok(since) = read {
             self.last = moment_of(since);
@@ -46,7 +46,9 @@ impl<'a, C: time::Clock> SystemClock<'a, C> {
 impl<'a, C: time::Clock> Clock for SystemClock<'a, C> {
     ghost moments = { λ _. None };
 
-    fn now(&mut self) -> Moment {
+    fn now(&mut self) -> Moment
+        ensures { self.new ≡ record self.old { last = result } }
+    {
         let read = self.clock.since_1970();
         self.keep(read)
     }

@@ -404,7 +404,7 @@ fn check_end(
     errors: &str,
 ) -> Result<(), Fail> {
     let told = Told::new(alloc);
-    assert!(rt; end_script(&told, ended)? == ExitCode::from(status));
+    assert!(rt; end_script(&told, ended) == ExitCode::from(status));
     assert_eq!(rt; told.errors.try_borrow()?.as_str(), errors);
     Ok(())
 }

@@ -1,18 +1,24 @@
 //! A port over the system's UDP socket.
 
-ghost use Rattle.std.specs.Prelude.{◌≡◌, ◌↔◌, IsTrue, Some, None, IfOk};
+ghost use Rattle.std.specs.Prelude.{◌≡◌, ◌↔◌, ◌≤ℤ◌, IsTrue, Some, None, IfOk};
+ghost use Rattle.std.specs.Net.Udp.{udp_raw_fd};
 ghost use Rattle.fleet_site.specs.PortRecord.{one_more};
-ghost use Rattle.dnsfleet.specs.Socket.{IsQuiet, address_in};
+ghost use Rattle.dnsfleet.specs.Socket.{IsAt, IsQuiet, address_in};
+ghost use Rattle.dnsfleet.specs.declared.udp_port.TheConstants.{LOWEST_FREE};
 
 use fleet_pending::Addr;
 use fleet_site::{Port, PortFault};
 use std::io;
 use std::io::ErrorKind;
 use std::net::{Ipv4Addr, Net, SocketAddr, SocketAddrV4, UdpSocket};
+use std::os::fd::AsRawFd;
 use std::time::Duration;
 
 /// How many milliseconds a receive waits at most.
 const WAIT: u64 = 200;
+
+/// The lowest descriptor that is none of standard input, output and error.
+const LOWEST_FREE: i32 = 3;
 
 /// A UDP socket that is bound to one address. A receive waits 200 milliseconds at most.
 #[derive(Drop)]
@@ -23,21 +29,24 @@ pub struct UdpPort {
 }
 
 impl UdpPort {
-    /// Binds a socket to an address; where its port is 0, to a port that is free. `PortFault` where
-    /// the address can't be bound, or the time that a receive waits can't be set.
+    /// Binds a socket to an address; where its port is 0, to a port that is free. Its descriptor is
+    /// none of standard input, output and error. `PortFault` where the address can't be bound, the
+    /// socket is at another one, or the time that a receive waits can't be set.
     pub fn bind<N: Net>(net: &N, addr: Addr) -> Result<UdpPort, PortFault>
-        ensures { IfOk result (λ port. port.failed ≡ 0) }
+        ensures address { IfOk result (λ port. IsAt addr port.address) }
+        ensures descriptor { IfOk result (λ port. LOWEST_FREE ≤ℤ udp_raw_fd port.socket) }
+        ensures failed { IfOk result (λ port. port.failed ≡ 0) }
     {
         let Ok(socket) = open(net, addr) else {
             return Err(PortFault);
         };
         match address_of(&socket) {
-            Some(address) => Ok(UdpPort {
+            Some(address) if is_at(addr, address) => Ok(UdpPort {
                 socket,
                 address,
                 failed: 0,
             }),
-            None => Err(PortFault),
+            _ => Err(PortFault),
         }
     }
 
@@ -82,10 +91,34 @@ impl Port for UdpPort {
 }
 
 /// A socket that is bound to an address, and whose receives wait so long.
-fn open<N: Net>(net: &N, addr: Addr) -> io::Result<UdpSocket> {
-    let socket = UdpSocket::bind(net, system_addr(addr))?;
+fn open<N: Net>(net: &N, addr: Addr) -> io::Result<UdpSocket>
+    ensures { IfOk result (λ socket. LOWEST_FREE ≤ℤ udp_raw_fd socket) }
+{
+    let socket = beyond_standard(UdpSocket::bind(net, system_addr(addr))?)?;
     socket.set_read_timeout(Some(Duration::from_millis(WAIT)))?;
     Ok(socket)
+}
+
+/// The same socket, by a descriptor that is no standard one. A process that was started without
+/// some of them is given their numbers first.
+fn beyond_standard(socket: UdpSocket) -> io::Result<UdpSocket>
+    ensures { IfOk result (λ socket. LOWEST_FREE ≤ℤ udp_raw_fd socket) }
+{
+    if socket.as_raw_fd() >= LOWEST_FREE {
+        return Ok(socket);
+    }
+    let other = socket.try_clone()?;
+    if other.as_raw_fd() < LOWEST_FREE {
+        return Err(io::Error::from(ErrorKind::Other));
+    }
+    Ok(other)
+}
+
+/// Whether a socket that was to be bound to an address is there, by its own.
+fn is_at(asked: Addr, own: Addr) -> bool
+    ensures { IsTrue result ↔ IsAt asked own }
+{
+    asked.host == own.host && (asked.port == 0 || asked.port == own.port)
 }
 
 /// The address of a socket, if it is one of IPv4.

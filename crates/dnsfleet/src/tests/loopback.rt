@@ -17,7 +17,7 @@ use std::time::Duration;
 use std::{io, time};
 
 /// A question for the address of example.com.
-const QUESTION: &[u8] =
+pub const QUESTION: &[u8] =
     b"\x00\x07\x01\x00\x00\x01\x00\x00\x00\x00\x00\x00\x07example\x03com\x00\x00\x01\x00\x01";
 
 /// The record of a reply behind that question: 192.0.2.1, for 300 seconds.
@@ -198,6 +198,31 @@ fn counts_what_fails(rt: HostRuntime) -> Result<(), Fail> {
     port.send(from, b"abc")?;
     assert_eq!(rt; receive(rt.alloc(), &client)?.as_slice(), b"abc".as_slice());
     assert_eq!(rt; port.failures(), 2);
+    Ok(())
+}
+
+/// The length of the longest frame.
+const LONGEST: usize = 16384;
+
+#[test]
+fn carries_the_longest_frame(rt: HostRuntime) -> Result<(), Fail> {
+    let mut port = UdpPort::bind(&rt, loopback(0))?;
+    let (client, from) = open(&rt)?;
+    let mut bytes = Vec::new(rt.alloc());
+    for at in 0..LONGEST {
+        bytes.push((at % 251) as u8)?;
+    }
+    let mut buffer = vec![in rt.alloc(); 0u8; LONGEST + 1]?;
+    send(&client, port.address(), &bytes)?;
+    match port.recv(&mut buffer) {
+        Ok(Some(got)) => assert_eq!(rt; got, (from, LONGEST)),
+        _ => return Err("nothing came".into()),
+    }
+    assert_eq!(rt; buffer.get(..LONGEST), bytes.get(..LONGEST));
+    port.send(from, &bytes)?;
+    buffer.fill(0);
+    let (len, _) = client.recv_from(&mut buffer)?;
+    assert_eq!(rt; buffer.get(..len), bytes.get(..LONGEST));
     Ok(())
 }
 

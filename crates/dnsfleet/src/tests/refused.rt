@@ -104,19 +104,59 @@ fn check_same<A: Allocator + Copy>(
     Ok(())
 }
 
-/// Checks a fleet after a line that found no memory, and does the line again.
-fn check_short<A: Allocator + Copy>(
-    rt: &impl Abort,
-    alloc: A,
-    fleet: &mut Fleet<A>,
-    before: &mut Fleet<A>,
-    line: &Line<'_>,
+/// A fleet that did lines with ample memory, and the first observations of the line behind them: so
+/// many.
+#[derive(Drop)]
+struct Part<A: Allocator> {
     taken: usize,
+    fleet: Fleet<A>,
+}
+
+/// What a fleet is like where the last of these lines found no memory after so many observations.
+fn part_after<A: Allocator + Copy>(
+    alloc: A,
+    lines: &[Line<'_>],
+    taken: usize,
+) -> Result<Part<A>, Fail> {
+    let first = lines.first().ok_or("no line")?.text;
+    let (line, others) = lines.split_last().ok_or("no line")?;
+    let mut fleet = fleet_after(alloc, first, others)?;
+    run_part(fleet.world()?, alloc, line.text, taken)?;
+    Ok(Part { taken, fleet })
+}
+
+/// Checks a fleet after the last of these lines, which found no memory after so many observations.
+/// The fleet that it is compared with is kept for the next such line.
+fn check_part<A: Allocator + Copy>(
+    rt: &impl Abort,
+    ample: A,
+    fleet: &mut Fleet<A>,
+    lines: &[Line<'_>],
+    taken: usize,
+    known: &mut Option<Part<A>>,
+) -> Result<(), Fail> {
+    let is_known = known.as_ref().is_some_and(|part| part.taken == taken);
+    if !is_known {
+        *known = Some(part_after(ample, lines, taken)?);
+    }
+    let part = known.as_mut().ok_or("no part")?;
+    check_same(
+        rt,
+        fleet,
+        &mut part.fleet,
+        lines.last().ok_or("no line")?.text,
+    )
+}
+
+/// Does a line that is done, and compares what it prints.
+fn run_again<A: Allocator + Copy>(
+    rt: &impl Abort,
+    ample: A,
+    fleet: &mut Fleet<A>,
+    line: &Line<'_>,
 ) -> Result<(), Fail> {
     let shows = line.text;
-    run_part(before.world()?, alloc, line.text, taken)?;
-    check_same(rt, fleet, before, shows)?;
-    match run_line(fleet.world()?, alloc, line.text)? {
+    match run_line(fleet.world()?, ample, shows)? {
         Ended::Done(text) => assert_eq!(rt; text.as_str(), line.prints, "{shows}"),
         _ => return Err("no memory twice".into()),
     }
@@ -157,54 +197,82 @@ fn check_lost<A: Allocator + Copy>(
     Ok(())
 }
 
-/// Checks what became of a line, and says whether the next one follows: not where frames were not
-/// kept.
-fn check_line<A: Allocator + Copy>(
+/// Checks what became of the last of these lines on a fleet that did the others, and leaves the
+/// fleet as if no call had been refused.
+fn check_last<A: Allocator + Copy>(
     rt: &impl Abort,
     ample: A,
+    alloc: A,
     fleet: &mut Fleet<A>,
-    before: &mut Fleet<A>,
-    line: &Line<'_>,
+    lines: &[Line<'_>],
     ended: Ended<A>,
+    known: &mut Option<Part<A>>,
     met: &mut Met,
-) -> Result<bool, Fail> {
+) -> Result<(), Fail> {
+    let first = lines.first().ok_or("no line")?.text;
+    let (line, others) = lines.split_last().ok_or("no line")?;
     match ended {
         Ended::Done(text) => assert_eq!(rt; text.as_str(), line.prints),
         Ended::Short(taken) => {
             met.count(taken);
-            check_short(rt, ample, fleet, before, line, taken)?;
+            check_part(rt, ample, fleet, lines, taken, known)?;
+            run_again(rt, ample, fleet, line)?;
         }
         Ended::Lost(text) => {
             met.count_lost();
-            check_lost(rt, ample, fleet, before, line, text.as_str())?;
-            return Ok(false);
+            let mut before = fleet_after(ample, first, others)?;
+            check_lost(rt, ample, fleet, &mut before, line, text.as_str())?;
+            *fleet = fleet_after(alloc, first, lines)?;
         }
     }
-    Ok(true)
+    Ok(())
 }
 
-/// Does the last of these lines on a fleet that did the others, and whose memory may be refused;
-/// says whether the next one follows.
-fn run_last<A: Allocator + Copy>(
+/// Does a line on a fleet whose memory may be refused.
+fn run_refused<A: Allocator + Copy>(
     rt: &impl Abort,
     ample: A,
     refusing: &Refusing<Global>,
     fleet: &mut Fleet<A>,
-    lines: &[Line<'_>],
-    met: &mut Met,
-) -> Result<bool, Fail> {
-    let first = lines.first().ok_or("no line")?.text;
-    let (line, others) = lines.split_last().ok_or("no line")?;
-    let had_refused = refusing.has_refused();
+    line: &Line<'_>,
+) -> Result<Ended<A>, Fail> {
     let ended = run_line(fleet.world()?, ample, line.text)?;
     let is_done = matches!(&ended, Ended::Done(_));
-    assert_eq!(rt; is_done, refusing.has_refused() == had_refused);
-    let mut before = fleet_after(ample, first, others)?;
-    check_line(rt, ample, fleet, &mut before, line, ended, met)
+    assert_eq!(rt; is_done, !refusing.has_refused());
+    Ok(ended)
 }
 
-/// Does lines on a fleet whose memory may be refused.
+/// Does lines with the call of this number refused at each, where it makes as many, and says
+/// whether there was one.
 fn run_lines<A: Allocator + Copy>(
+    rt: &impl Abort,
+    ample: A,
+    alloc: A,
+    refusing: &Refusing<Global>,
+    lines: &[Line<'_>],
+    call: u64,
+    parts: &mut [Option<Part<A>>],
+    met: &mut Met,
+) -> Result<bool, Fail> {
+    let mut fleet = Fleet::new(alloc);
+    let first = lines.first().ok_or("no line")?.text;
+    refusing.refuse(call);
+    begin_refused(rt, &mut fleet, refusing, first)?;
+    let mut has_refused = refusing.has_refused();
+    for place in 0..lines.len() {
+        refusing.refuse(call);
+        let ended = run_refused(rt, ample, refusing, &mut fleet, &lines[place])?;
+        has_refused = has_refused || refusing.has_refused();
+        let done = &lines[..=place];
+        let known = parts.get_mut(place).ok_or("no such line")?;
+        check_last(rt, ample, alloc, &mut fleet, done, ended, known, met)?;
+    }
+    Ok(has_refused)
+}
+
+/// Does lines with the first call refused at each, then with the second at each, and so on, until
+/// none is refused.
+fn refuse_lines<A: Allocator + Copy>(
     rt: &impl Abort,
     ample: A,
     alloc: A,
@@ -212,36 +280,19 @@ fn run_lines<A: Allocator + Copy>(
     lines: &[Line<'_>],
     met: &mut Met,
 ) -> Result<(), Fail> {
-    let mut fleet = Fleet::new(alloc);
-    begin_refused(
-        rt,
-        &mut fleet,
-        refusing,
-        lines.first().ok_or("no line")?.text,
-    )?;
-    for place in 0..lines.len() {
-        if !run_last(rt, ample, refusing, &mut fleet, &lines[..=place], met)? {
+    let mut parts = Vec::new(ample);
+    for _ in lines {
+        parts.push(None)?;
+    }
+    for call in 1..MANY {
+        if !run_lines(rt, ample, alloc, refusing, lines, call, &mut parts, met)? {
             return Ok(());
         }
     }
-    Ok(())
+    Err("refused each time".into())
 }
 
-/// Does the lines of an example with a call refused, and says whether that call was made.
-fn run_refused(
-    rt: &impl Abort,
-    alloc: Global,
-    lines: &[Line<'_>],
-    call: u64,
-    met: &mut Met,
-) -> Result<bool, Fail> {
-    let ample = Refusing::after(alloc, 0);
-    let refusing = Refusing::after(alloc, call);
-    run_lines(rt, &ample, &refusing, &refusing, lines, met)?;
-    Ok(refusing.has_refused())
-}
-
-/// Does the lines of a transcript with each call refused in turn, until one is not made.
+/// Does the lines of a transcript with each call of each line refused in turn.
 fn refuse_each(
     rt: &impl Abort,
     alloc: Global,
@@ -249,12 +300,9 @@ fn refuse_each(
     met: &mut Met,
 ) -> Result<(), Fail> {
     let lines = lines_of(alloc, transcript)?;
-    for call in 1..MANY {
-        if !run_refused(rt, alloc, &lines, call, met)? {
-            return Ok(());
-        }
-    }
-    Err("refused each time".into())
+    let ample = Refusing::after(alloc, 0);
+    let refusing = Refusing::after(alloc, MANY);
+    refuse_lines(rt, &ample, &refusing, &refusing, &lines, met)
 }
 
 /// A transcript that begins with so many other observations, one for each digit.

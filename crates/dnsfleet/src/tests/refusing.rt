@@ -42,6 +42,13 @@ impl<A: Allocator> Refusing<A> {
         }
     }
 
+    /// From now on the one call that is refused is that with this number, counted from the next; it
+    /// is no greater than the first such number was.
+    pub fn refuse(&self, call: u64) {
+        let before = self.calls.refused.saturating_sub(call);
+        self.calls.made.set(before);
+    }
+
     /// From now on refuses every call, or no longer does.
     pub fn refuse_all(&self, refuses_all: bool) {
         self.calls.refuses_all.set(refuses_all);
@@ -76,6 +83,20 @@ fn refuses_one_call_for_boxes(rt: HostRuntime) -> Result<(), Fail> {
             let made = Box::new(&refusing, call);
             assert_eq!(rt; made.is_err(), call == refused);
             assert_eq!(rt; refusing.has_refused(), 1 <= refused && refused <= call);
+        }
+    }
+    Ok(())
+}
+
+#[test]
+fn refuses_another_call_each_time(rt: HostRuntime) -> Result<(), Fail> {
+    let refusing = Refusing::after(rt.alloc(), 9);
+    for refused in [3, 1, 9, 2] {
+        refusing.refuse(refused);
+        for call in 1..12u64 {
+            let made = Box::new(&refusing, call);
+            assert_eq!(rt; made.is_err(), call == refused);
+            assert_eq!(rt; refusing.has_refused(), refused <= call);
         }
     }
     Ok(())

@@ -1,26 +1,40 @@
 //! The command `serve`: what it prints, and the status that it ends with.
 
+mod staged;
+
 use super::settings::loopback;
 use super::told::Told;
-use crate::serve::{ConfigurationFault, Words, serve_settings, settings_at};
-use crate::{Settings, SettingsFault, UdpPort, program, read_settings, run};
-use std::alloc::Global;
+use crate::serve::{ConfigurationFault, Words, print_report, serve_settings, settings_at};
+use crate::{Settings, SettingsFault, UdpPort, end_run, program, read_settings, run};
+use fleet_site::Report;
+use std::alloc::{AllocError, Global};
+use std::io::{self, Write};
+use std::os::fd::AsRawFd;
 use std::process::{Abort, ExitCode};
 use std::test::Fail;
 
 /// A key.
 const KEY: &str = "000102030405060708090a0b0c0d0e0f101112131415161718191A1B1C1D1E1F";
 
-/// Runs the program with words, and gives the status with what was printed on standard output and
-/// on standard error.
-fn run_words(rt: &HostRuntime, words: &str) -> Result<(ExitCode, String, String), Fail> {
-    let told = Told::new(rt.alloc());
+/// The status that a run ends with, and what was printed on standard output and on standard error.
+fn end(told: Told, ran: io::Result<ExitCode>) -> (ExitCode, String, String) {
+    let code = end_run(&told, ran);
+    (code, told.output.into_inner(), told.errors.into_inner())
+}
+
+/// Runs the program with words, and gives the status with what was printed.
+fn run_told(rt: &HostRuntime, told: Told, words: &str) -> Result<(ExitCode, String, String), Fail> {
     let mut list = Vec::new(rt.alloc());
     for word in words.split(' ') {
         list.push(word.to_string(rt.alloc())?)?;
     }
-    let code = run(rt, &told, list.as_slice())?;
-    Ok((code, told.output.into_inner(), told.errors.into_inner()))
+    let ran = run(rt, &told, list.as_slice());
+    Ok(end(told, ran))
+}
+
+/// The same where all can be printed.
+fn run_words(rt: &HostRuntime, words: &str) -> Result<(ExitCode, String, String), Fail> {
+    run_told(rt, Told::new(rt.alloc()), words)
 }
 
 /// Words that the program does not take, a line each.
@@ -116,12 +130,23 @@ fn run_key(rt: &HostRuntime, key: &str) -> Result<(ExitCode, String, String), Fa
     run_words(rt, words.as_str())
 }
 
-/// A run ended with this status, and told this alone, on standard error.
-fn check_run(rt: &impl Abort, run: (ExitCode, String, String), status: u8, told: &str) {
+/// A run ended with this status, printed this, and told this on standard error.
+fn check_end(
+    rt: &impl Abort,
+    run: (ExitCode, String, String),
+    status: u8,
+    printed: &str,
+    told: &str,
+) {
     let (code, output, errors) = run;
     assert!(rt; code == ExitCode::from(status), "{told}");
-    assert_eq!(rt; output.as_str(), "", "{told}");
+    assert_eq!(rt; output.as_str(), printed, "{told}");
     assert_eq!(rt; errors.as_str(), told);
+}
+
+/// A run ended with this status, and told this alone, on standard error.
+fn check_run(rt: &impl Abort, run: (ExitCode, String, String), status: u8, told: &str) {
+    check_end(rt, run, status, "", told)
 }
 
 /// A key of so many digits is refused.
@@ -166,13 +191,13 @@ fn reads_a_file(rt: HostRuntime) {
 }
 
 /// Serves three turns with settings, and gives the status with what was printed.
-fn serve_turns(
+fn serve_told(
     rt: &HostRuntime,
+    told: Told,
     settings: Result<Settings, ConfigurationFault>,
-) -> Result<(ExitCode, String, String), Fail> {
-    let told = Told::new(rt.alloc());
-    let code = serve_settings(rt, &told, settings, [7; 32], 3)?;
-    Ok((code, told.output.into_inner(), told.errors.into_inner()))
+) -> (ExitCode, String, String) {
+    let ran = serve_settings(rt, &told, settings, [7; 32], 3);
+    end(told, ran)
 }
 
 /// A configuration without settings is told so, with status 1.
@@ -183,7 +208,8 @@ fn check_told(
     text: &str,
 ) -> Result<(), Fail> {
     let told = format!(in rt.alloc(); "dnsfleet: config: {text}\n")?;
-    check_run(stop, serve_turns(rt, Err(fault))?, 1, told.as_str());
+    let told_in = Told::new(rt.alloc());
+    check_run(stop, serve_told(rt, told_in, Err(fault)), 1, told.as_str());
     Ok(())
 }
 
@@ -229,35 +255,97 @@ fn tells_faults_of_its_addresses(rt: HostRuntime) -> Result<(), Fail> {
     check_fault(&rt, &rt, SettingsFault::OutOfMemory, "out of memory")
 }
 
+/// The configuration of a site at a port of 127.0.0.1.
+fn configuration(alloc: Global, port: u16) -> Result<String, Fail> {
+    Ok(format!(in alloc;
+        "listen = \"127.0.0.1:{port}\"\nupstreams = [\"127.0.0.1:5301\", \"10.0.0.1:53\"]\n"
+    )?)
+}
+
 /// Settings of a site at a port of 127.0.0.1.
 fn settings_for(alloc: Global, port: u16) -> Result<Settings, Fail> {
-    let text = format!(in alloc;
-        "listen = \"127.0.0.1:{port}\"\nupstreams = [\"127.0.0.1:5301\"]\n"
-    )?;
+    let text = configuration(alloc, port)?;
     Ok(read_settings(alloc, text.as_bytes())?)
 }
 
-/// Serves three turns at a port of 127.0.0.1.
-fn serve_at(rt: &HostRuntime, port: u16) -> Result<(ExitCode, String, String), Fail> {
-    serve_turns(rt, Ok(settings_for(rt.alloc(), port)?))
+/// Serves three turns at a port of 127.0.0.1, where so many lines can be printed.
+fn serve_at(rt: &HostRuntime, port: u16, lines: u32) -> Result<(ExitCode, String, String), Fail> {
+    let told = Told::full_after(rt.alloc(), lines);
+    let settings = settings_for(rt.alloc(), port)?;
+    Ok(serve_told(rt, told, Ok(settings)))
 }
 
-/// What is printed of three turns at a port at which nothing comes in.
-fn quiet_text(alloc: Global, port: u16) -> Result<String, Fail> {
-    Ok(format!(in alloc;
-        "listening 127.0.0.1:{port}\nturns 3 received 0 sent 0 lost 0 faults 0 refused 0 short 0\n"
-    )?)
+/// A port that is free.
+fn free_port(rt: &HostRuntime) -> Result<u16, Fail> {
+    Ok(UdpPort::bind(rt, loopback(0))?.address().port)
 }
 
 #[test]
 fn prints_where_it_listens_and_what_it_counted(rt: HostRuntime) -> Result<(), Fail> {
     let taken = UdpPort::bind(&rt, loopback(0))?;
     let port = taken.address().port;
-    check_run(&rt, serve_at(&rt, port)?, 1, "dnsfleet: socket\n");
+    check_run(&rt, serve_at(&rt, port, 2)?, 1, "dnsfleet: socket\n");
     drop(taken);
-    let (code, output, errors) = serve_at(&rt, port)?;
-    assert!(rt; code == ExitCode::SUCCESS);
-    assert_eq!(rt; output.as_str(), quiet_text(rt.alloc(), port)?.as_str());
-    assert_eq!(rt; errors.as_str(), "");
+    let listens = format!(in rt.alloc(); "listening 127.0.0.1:{port}\n")?;
+    let printed = format!(in rt.alloc();
+        "{listens}turns 3 received 0 sent 0 lost 0 faults 0 refused 0 short 0\n"
+    )?;
+    check_end(&rt, serve_at(&rt, port, 2)?, 0, printed.as_str(), "");
+    // Output that fails is told, at either line.
+    let told = "dnsfleet: write\n";
+    check_end(&rt, serve_at(&rt, port, 1)?, 1, listens.as_str(), told);
+    check_end(&rt, serve_at(&rt, port, 0)?, 1, "", told);
+    Ok(())
+}
+
+#[test]
+fn tells_what_ends_it(rt: HostRuntime) -> Result<(), Fail> {
+    let full = Told::full_after(rt.alloc(), 0);
+    let ended = run_told(&rt, full, "dnsfleet --help")?;
+    check_run(&rt, ended, 1, "dnsfleet: write\n");
+    let ended = end(Told::new(rt.alloc()), Err(io::Error::from(AllocError)));
+    check_run(&rt, ended, 1, "dnsfleet: out of memory\n");
+    Ok(())
+}
+
+#[test]
+fn serves_so_many_turns(rt: HostRuntime) -> Result<(), Fail> {
+    let port = free_port(&rt)?;
+    // A pipe stands for the file, which is read to the end of what is written here.
+    let (reader, mut writer) = io::pipe(&rt)?;
+    let file = reader.as_raw_fd();
+    writer.write_all(configuration(rt.alloc(), port)?.as_bytes())?;
+    drop(writer);
+    let words = format!(in rt.alloc();
+        "dnsfleet serve --turns 2 --key {KEY} --config /proc/self/fd/{file}"
+    )?;
+    let printed = format!(in rt.alloc();
+        "listening 127.0.0.1:{port}\nturns 2 received 0 sent 0 lost 0 faults 0 refused 0 short 0\n"
+    )?;
+    check_end(
+        &rt,
+        run_words(&rt, words.as_str())?,
+        0,
+        printed.as_str(),
+        "",
+    );
+    Ok(())
+}
+
+#[test]
+fn prints_each_count(rt: HostRuntime) -> Result<(), Fail> {
+    let told = Told::new(rt.alloc());
+    let report = Report {
+        turns: 1,
+        received: 2,
+        sent: 3,
+        lost: 4,
+        faults: 5,
+        refused: 6,
+        short: 7,
+    };
+    print_report(&told, &report)?;
+    let printed = "turns 1 received 2 sent 3 lost 4 faults 5 refused 6 short 7\n";
+    assert_eq!(rt; told.output.into_inner().as_str(), printed);
     Ok(())
 }

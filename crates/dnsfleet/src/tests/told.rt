@@ -1,27 +1,44 @@
 //! What is printed, kept apart.
 
 use std::alloc::Global;
-use std::cell::RefCell;
+use std::cell::{Cell, RefCell};
 use std::fmt::Display;
 use std::io;
 use std::io::ErrorKind;
 
-/// What is written on standard output and on standard error, and nothing else.
+/// What is written on standard output and on standard error, and nothing else. Standard output
+/// takes so many writes, and then it is full.
 #[derive(Drop)]
 pub struct Told {
     /// Standard output.
     pub output: RefCell<String>,
     /// Standard error.
     pub errors: RefCell<String>,
+    left: Cell<u32>,
 }
 
 impl Told {
     /// Nothing was written.
     pub fn new(alloc: Global) -> Told {
+        Told::full_after(alloc, u32::MAX)
+    }
+
+    /// Nothing was written; standard output is full after so many writes.
+    pub fn full_after(alloc: Global, left: u32) -> Told {
         Told {
             output: RefCell::new(String::new(alloc)),
             errors: RefCell::new(String::new(alloc)),
+            left: Cell::new(left),
         }
+    }
+
+    /// Adds a value to standard output, unless it is full.
+    fn add_output<D: Display + Drop>(&self, value: D) -> io::Result<()> {
+        match self.left.get().checked_sub(1) {
+            Some(left) => self.left.set(left),
+            None => return Err(io::Error::from(ErrorKind::StorageFull)),
+        }
+        add(&self.output, value)
     }
 }
 
@@ -36,16 +53,16 @@ fn add<D: Display + Drop>(text: &RefCell<String>, value: D) -> io::Result<()> {
 
 impl Print for Told {
     fn print<D: Display + Drop>(&self, value: D) -> io::Result<()> {
-        add(&self.output, value)
+        self.add_output(value)
     }
 
     fn println<D: Display + Drop>(&self, value: D) -> io::Result<()> {
-        add(&self.output, format_args!("{value}\n"))
+        self.add_output(format_args!("{value}\n"))
     }
 
     fn write_all(&self, bytes: &[u8]) -> io::Result<()> {
         match str::from_utf8(bytes) {
-            Ok(text) => add(&self.output, text),
+            Ok(text) => self.add_output(text),
             Err(_) => Err(io::Error::from(ErrorKind::InvalidData)),
         }
     }
