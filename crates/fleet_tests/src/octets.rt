@@ -9,8 +9,9 @@ use std::test::Fail;
 ///
 /// The frames are of 192.0.2.1 at rank 1 from 100 to 400, of 192.0.2.2 at rank 1 from 200 to 210,
 /// and of both, the preferred first; of what the reply tells at 101; and of 192.0.2.9 at rank 1
-/// from 100 to 400. `longest-frame` has 16384 octets, `two-octets-more` as many more. `flush` is of com. at 120, `after` of 192.0.2.2 at rank 1 from 150 to 250, and
-/// `withdrawn` of both; `after-relay` tells it at 200. `first-older` has the version before.
+/// from 100 to 400. `longest-frame` has 16384 octets, `two-octets-more` as many more. `flush` is of
+/// com. at 120, `after` of 192.0.2.2 at rank 1 from 150 to 250, and `withdrawn` of both;
+/// `after-relay` tells it at 200. `first-older` has the version before.
 ///
 /// The query has the id 1234, the reply has 192.0.2.1 for 300 seconds, and who asked is told so at
 /// once, or 10 seconds later, or code 2 where no upstream answers.

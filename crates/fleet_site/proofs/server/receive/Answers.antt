@@ -5,8 +5,8 @@ use Rattle.fleet_site.proofs.server.receive.Goals as goal
 
 pub returns-in-Ok-Some : goal.returns-in-Ok-Some
 returns-in-Ok-Some g c =
-    heard_one _ _ _ (length c.args.buffer.now) c.args.now c.args.word c.args.site.now c.datagram-answer.new.self
-    c.args.report.now c.count_received.new.self c.carry_out.new.report c.in-Ok-Some.from
+    heard_one _ _ _ (length c.args.buffer.now) c.args.now c.args.word c.args.site.now
+    c.datagram-answer.new.self c.args.report.now c.count_received.new.self c.carry_out.new.report c.in-Ok-Some.from
     (take c.in-Ok-Some.len c.recv.new.buffer) (result_data c.datagram-answer.result)
     c.told-buffer
     (rw c.in-Ok-Some.field-0-is at c.in-Ok-Some.ensures.told) c.in-Ok-Some.ensures.failed
