@@ -66,13 +66,17 @@ def bodies_of(root, name):
 
 
 def state_of(root, crates, name):
-    """A hash of what a verdict on a body of this crate rests on: code and definitions, its own and those below."""
+    """A hash of what a verdict on a body of this crate rests on: code and definitions, its own and those below, but no
+    tests, which a check of a body leaves out."""
     state = hashlib.sha256()
     for crate in sorted(all_below(crates, name)):
         for part, ending in (("src", ".rt"), ("specs", ".antt")):
-            for at, folders, files in sorted(os.walk(f"{root}/crates/{crate}/{part}")):
+            top = f"{root}/crates/{crate}/{part}"
+            for at, folders, files in sorted(os.walk(top)):
                 for file in sorted(it for it in files if it.endswith(ending)):
                     path = f"{at}/{file}"
+                    if path == f"{top}/tests.rt" or path.startswith(f"{top}/tests/"):
+                        continue
                     with open(path, "rb") as it:
                         octets = it.read()
                     state.update(f"{os.path.relpath(path, root)} {len(octets)}\n".encode())
