@@ -268,9 +268,9 @@ fn settings_for(alloc: Global, port: u16) -> Result<Settings, Fail> {
     Ok(read_settings(alloc, text.as_bytes())?)
 }
 
-/// Serves three turns at a port of 127.0.0.1, where so many lines can be printed.
+/// Serves three turns at a port of 127.0.0.1, where the line behind so many can't be printed.
 fn serve_at(rt: &HostRuntime, port: u16, lines: u32) -> Result<(ExitCode, String, String), Fail> {
-    let told = Told::full_after(rt.alloc(), lines);
+    let told = Told::failing_after(rt.alloc(), lines);
     let settings = settings_for(rt.alloc(), port)?;
     Ok(serve_told(rt, told, Ok(settings)))
 }
@@ -300,8 +300,8 @@ fn prints_where_it_listens_and_what_it_counted(rt: HostRuntime) -> Result<(), Fa
 
 #[test]
 fn tells_what_ends_it(rt: HostRuntime) -> Result<(), Fail> {
-    let full = Told::full_after(rt.alloc(), 0);
-    let ended = run_told(&rt, full, "dnsfleet --help")?;
+    let failing = Told::failing_after(rt.alloc(), 0);
+    let ended = run_told(&rt, failing, "dnsfleet --help")?;
     check_run(&rt, ended, 1, "dnsfleet: write\n");
     let ended = end(Told::new(rt.alloc()), Err(io::Error::from(AllocError)));
     check_run(&rt, ended, 1, "dnsfleet: out of memory\n");

@@ -6,8 +6,8 @@ use std::fmt::Display;
 use std::io;
 use std::io::ErrorKind;
 
-/// What is written on standard output and on standard error, and nothing else. Standard output
-/// takes so many writes, and then it is full.
+/// What is written on standard output and on standard error, and nothing else. Behind so many
+/// writes on standard output one fails.
 #[derive(Drop)]
 pub struct Told {
     /// Standard output.
@@ -20,11 +20,11 @@ pub struct Told {
 impl Told {
     /// Nothing was written.
     pub fn new(alloc: Global) -> Told {
-        Told::full_after(alloc, u32::MAX)
+        Told::failing_after(alloc, u32::MAX)
     }
 
-    /// Nothing was written; standard output is full after so many writes.
-    pub fn full_after(alloc: Global, left: u32) -> Told {
+    /// Nothing was written; after so many writes on standard output one fails.
+    pub fn failing_after(alloc: Global, left: u32) -> Told {
         Told {
             output: RefCell::new(String::new(alloc)),
             errors: RefCell::new(String::new(alloc)),
@@ -32,11 +32,12 @@ impl Told {
         }
     }
 
-    /// Adds a value to standard output, unless it is full.
+    /// Adds a value to standard output, unless this write fails.
     fn add_output<D: Display + Drop>(&self, value: D) -> io::Result<()> {
-        match self.left.get().checked_sub(1) {
-            Some(left) => self.left.set(left),
-            None => return Err(io::Error::from(ErrorKind::StorageFull)),
+        let left = self.left.get();
+        self.left.set(left.wrapping_sub(1));
+        if left == 0 {
+            return Err(io::Error::from(ErrorKind::StorageFull));
         }
         add(&self.output, value)
     }
