@@ -163,7 +163,7 @@ fn serve_new<P: Port, C: Clock>(
 fn serve_port<R: time::Clock + AllocGlobal, O: Print>(
     rt: &R,
     out: &O,
-    port: &mut UdpPort,
+    port: &mut UdpPort<'_, R>,
     settings: Settings,
     key: [u8; KEY_LENGTH],
     turns: u32,
@@ -173,6 +173,7 @@ fn serve_port<R: time::Clock + AllocGlobal, O: Print>(
     println!(out; "listening {host}:{number}")?;
     let mut clock = SystemClock::new(rt);
     let report = serve_new(rt.alloc(), port, &mut clock, settings, key, turns);
+    port.finish();
     print_report(out, &report)
 }
 
@@ -193,7 +194,7 @@ pub fn serve_settings<R: time::Clock + Net + AllocGlobal, O: Print + Eprint>(
         Ok(settings) => settings,
         Err(fault) => return Ok(fail(out, format_args!("config: {fault}"))),
     };
-    let Ok(mut port) = UdpPort::bind(rt, settings.listen) else {
+    let Ok(mut port) = UdpPort::bind(rt, rt, rt.alloc(), settings.listen) else {
         return Ok(fail(out, "socket"));
     };
     serve_port(rt, out, &mut port, settings, key, turns)?;

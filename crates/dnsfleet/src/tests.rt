@@ -1,6 +1,7 @@
 //! What is printed, of which no contract speaks, and every fault of a line.
 
 mod bodies;
+mod bursts;
 mod datagrams;
 mod examples;
 mod frames;

@@ -34,7 +34,7 @@ const BEFORE_SECONDS: &[u8] =
 const BEHIND_SECONDS: &[u8] = b"\x00\x04\xc0\x00\x02\x01";
 
 /// A socket of a test, which waits for a second at most, and where it is.
-fn open(rt: &HostRuntime) -> Result<(UdpSocket, Addr), Fail> {
+pub fn open(rt: &HostRuntime) -> Result<(UdpSocket, Addr), Fail> {
     let socket = UdpSocket::bind(rt, SocketAddrV4::new(Ipv4Addr::LOCALHOST, 0))?;
     socket.set_read_timeout(Some(Duration::from_secs(1)))?;
     let port = socket.local_addr()?.port();
@@ -42,13 +42,13 @@ fn open(rt: &HostRuntime) -> Result<(UdpSocket, Addr), Fail> {
 }
 
 /// Sends octets to a port of this machine.
-fn send(socket: &UdpSocket, to: Addr, bytes: &[u8]) -> Result<(), Fail> {
+pub fn send(socket: &UdpSocket, to: Addr, bytes: &[u8]) -> Result<(), Fail> {
     socket.send_to(bytes, SocketAddrV4::new(Ipv4Addr::LOCALHOST, to.port))?;
     Ok(())
 }
 
 /// The next datagram of a socket.
-fn receive(alloc: Global, socket: &UdpSocket) -> Result<Vec<u8>, Fail> {
+pub fn receive(alloc: Global, socket: &UdpSocket) -> Result<Vec<u8>, Fail> {
     let mut buffer = [0u8; 600];
     let (len, _) = socket.recv_from(&mut buffer)?;
     Ok(Vec::from_slice(alloc, &buffer[..len])?)
@@ -56,14 +56,19 @@ fn receive(alloc: Global, socket: &UdpSocket) -> Result<Vec<u8>, Fail> {
 
 /// A site on a socket.
 #[derive(Drop)]
-struct Served {
-    port: UdpPort,
+struct Served<'a> {
+    port: UdpPort<'a, HostRuntime>,
     site: Site,
 }
 
-impl Served {
+impl<'a> Served<'a> {
     /// A site with one upstream and one peer.
-    fn new(alloc: Global, port: UdpPort, upstream: Addr, peer: Addr) -> Result<Served, Fail> {
+    fn new(
+        alloc: Global,
+        port: UdpPort<'a, HostRuntime>,
+        upstream: Addr,
+        peer: Addr,
+    ) -> Result<Served<'a>, Fail> {
         let upstreams = Vec::from_slice(alloc, &[upstream])?;
         let peers = Vec::from_slice(alloc, &[peer])?;
         let site = Site::new(alloc, Config::new(upstreams, peers)?);
@@ -90,9 +95,9 @@ impl Served {
 }
 
 /// Two sites that are each other's peers.
-fn open_sites(rt: &HostRuntime, upstream: Addr) -> Result<(Served, Served), Fail> {
-    let first = UdpPort::bind(rt, loopback(0))?;
-    let second = UdpPort::bind(rt, loopback(0))?;
+fn open_sites(rt: &HostRuntime, upstream: Addr) -> Result<(Served<'_>, Served<'_>), Fail> {
+    let first = UdpPort::bind(rt, rt, rt.alloc(), loopback(0))?;
+    let second = UdpPort::bind(rt, rt, rt.alloc(), loopback(0))?;
     let (here, there) = (first.address(), second.address());
     let first = Served::new(rt.alloc(), first, upstream, there)?;
     let second = Served::new(rt.alloc(), second, upstream, here)?;
@@ -153,7 +158,7 @@ fn shows_record(answer: &[u8]) -> bool {
 }
 
 /// Two sends of a port fail and are counted; a receive that finds nothing is not.
-fn check_failures(rt: &impl Abort, port: &mut UdpPort) -> Result<(), Fail> {
+fn check_failures(rt: &impl Abort, port: &mut UdpPort<'_, HostRuntime>) -> Result<(), Fail> {
     assert!(rt; port.send(loopback(0), b"x").is_err());
     let elsewhere = Addr {
         host: 0x0a00_0001,
@@ -170,7 +175,7 @@ fn check_failures(rt: &impl Abort, port: &mut UdpPort) -> Result<(), Fail> {
 /// A port receives the first octets of a datagram, at most eight.
 fn check_arrival(
     rt: &impl Abort,
-    port: &mut UdpPort,
+    port: &mut UdpPort<'_, HostRuntime>,
     client: &UdpSocket,
     from: Addr,
     bytes: &[u8],
@@ -188,8 +193,8 @@ fn check_arrival(
 
 #[test]
 fn counts_what_fails(rt: HostRuntime) -> Result<(), Fail> {
-    let mut port = UdpPort::bind(&rt, loopback(0))?;
-    assert!(rt; UdpPort::bind(&rt, port.address()).is_err());
+    let mut port = UdpPort::bind(&rt, &rt, rt.alloc(), loopback(0))?;
+    assert!(rt; UdpPort::bind(&rt, &rt, rt.alloc(), port.address()).is_err());
     check_failures(&rt, &mut port)?;
     let (client, from) = open(&rt)?;
     check_arrival(&rt, &mut port, &client, from, b"")?;
@@ -206,7 +211,7 @@ const LONGEST: usize = 16384;
 
 #[test]
 fn carries_the_longest_frame(rt: HostRuntime) -> Result<(), Fail> {
-    let mut port = UdpPort::bind(&rt, loopback(0))?;
+    let mut port = UdpPort::bind(&rt, &rt, rt.alloc(), loopback(0))?;
     let (client, from) = open(&rt)?;
     let mut bytes = Vec::new(rt.alloc());
     for at in 0..LONGEST {
@@ -220,6 +225,7 @@ fn carries_the_longest_frame(rt: HostRuntime) -> Result<(), Fail> {
     }
     assert_eq!(rt; buffer.get(..LONGEST), bytes.get(..LONGEST));
     port.send(from, &bytes)?;
+    port.finish();
     buffer.fill(0);
     let (len, _) = client.recv_from(&mut buffer)?;
     assert_eq!(rt; buffer.get(..len), bytes.get(..LONGEST));

@@ -277,12 +277,12 @@ fn serve_at(rt: &HostRuntime, port: u16, lines: u32) -> Result<(ExitCode, String
 
 /// A port that is free.
 fn free_port(rt: &HostRuntime) -> Result<u16, Fail> {
-    Ok(UdpPort::bind(rt, loopback(0))?.address().port)
+    Ok(UdpPort::bind(rt, rt, rt.alloc(), loopback(0))?.address().port)
 }
 
 #[test]
 fn prints_where_it_listens_and_what_it_counted(rt: HostRuntime) -> Result<(), Fail> {
-    let taken = UdpPort::bind(&rt, loopback(0))?;
+    let taken = UdpPort::bind(&rt, &rt, rt.alloc(), loopback(0))?;
     let port = taken.address().port;
     check_run(&rt, serve_at(&rt, port, 2)?, 1, "dnsfleet: socket\n");
     drop(taken);

@@ -1,0 +1,74 @@
+//! Datagrams that wait in a port.
+
+ghost use Rattle.std.specs.Prelude.{◌≡◌, ◌↔◌, [], ◌∷◌, IsTrue, IfOk, OnErr, MatchOption};
+ghost use Rattle.dnsfleet.specs.Queue.{Pushes};
+
+use fleet_name::Octets;
+use fleet_pending::Addr;
+use std::alloc::{AllocError, Allocator, Global};
+use std::collections::VecDeque;
+use std::marker::Model;
+
+/// How many datagrams wait at most. Of one octet more than the longest frame each, so many have
+/// less than 64 MiB.
+pub const MOST_WAITING: usize = 4095;
+
+/// Datagrams that wait in their order, each with the address that it came from or goes to.
+#[derive(Drop)]
+pub struct Queue<A: Allocator = Global> {
+    alloc: A,
+    waiting: VecDeque<(Addr, Octets<A>), A>,
+}
+
+impl<A: Allocator> Model for Queue<A> {
+    ghost use Rattle.std.specs.Prelude.{ℕ, ◌≤◌, List, length};
+    ghost use Rattle.fleet_pending.specs.declared.waiter.Addr.{Addr};
+    ghost use Rattle.dnsfleet.specs.declared.queue.TheConstants.{MOST_WAITING};
+
+    ghost Value = { List (Addr × List ℕ) };
+
+    ghost view = { λ q. q.waiting.items };
+
+    ghost invariant = { λ q. length q.waiting.items ≤ MOST_WAITING };
+}
+
+impl<A: Allocator + Copy> Queue<A> {
+    /// Nothing waits.
+    pub fn new(alloc: A) -> Queue<A>
+        ensures { result ≡ [] }
+    {
+        Queue {
+            alloc,
+            waiting: VecDeque::new(alloc),
+        }
+    }
+
+    /// Whether nothing waits.
+    pub fn is_empty(&self) -> bool
+        ensures { IsTrue result ↔ (self.now ≡ []) }
+    {
+        self.waiting.is_empty()
+    }
+
+    /// Puts a copy of a datagram behind the others. `false` where so many wait as may; where there
+    /// is no memory for it, nothing changes either.
+    pub fn push(&mut self, addr: Addr, octets: &[u8]) -> Result<bool, AllocError>
+        ensures pushed { IfOk result (λ fits. Pushes self.old (addr, octets.now) fits self.new) }
+        ensures memory { OnErr result (self.new ≡ self.old) }
+    {
+        if self.waiting.len() >= MOST_WAITING {
+            return Ok(false);
+        }
+        let octets = Octets::copy_of(self.alloc, octets)?;
+        self.waiting.push_back((addr, octets))?;
+        Ok(true)
+    }
+
+    /// Takes the first one out.
+    pub fn pop(&mut self) -> Option<(Addr, Octets<A>)>
+        ensures { MatchOption result ((self.old ≡ []) × (self.new ≡ []))
+            (λ d. self.old ≡ d ∷ self.new) }
+    {
+        self.waiting.pop_front()
+    }
+}

@@ -1,0 +1,187 @@
+//! Datagrams that come and go in bursts, over sockets of this machine.
+
+use super::loopback::{open, receive, send};
+use super::refusing::Refusing;
+use super::settings::loopback;
+use crate::UdpPort;
+use crate::inbox::Inbox;
+use crate::queue::MOST_WAITING;
+use fleet_pending::Addr;
+use fleet_site::Port;
+use std::alloc::{Allocator, Global};
+use std::net::UdpSocket;
+use std::process::Abort;
+use std::test::Fail;
+use std::time;
+
+/// How many octets a frame of these tests has: more than a message can have.
+const FRAME: usize = 600;
+
+/// A buffer with room for a frame and one octet more.
+type Buffer = [u8; FRAME + 1];
+
+/// Octets that begin with a mark, so many.
+fn marked(alloc: Global, mark: u8, len: usize) -> Result<Vec<u8>, Fail> {
+    let mut octets = vec![in alloc; 0u8; len]?;
+    if let Some(first) = octets.first_mut() {
+        *first = mark;
+    }
+    Ok(octets)
+}
+
+/// Sends a datagram for each mark: a frame for a digit, a message for anything else.
+fn send_marked(alloc: Global, socket: &UdpSocket, to: Addr, marks: &str) -> Result<(), Fail> {
+    for mark in marks.bytes() {
+        let len = if mark.is_ascii_digit() { FRAME } else { 20 };
+        send(socket, to, &marked(alloc, mark, len)?)?;
+    }
+    Ok(())
+}
+
+/// The marks of what a port hands on, until nothing comes.
+fn handed_on<C: time::Clock, A: Allocator + Copy>(
+    alloc: Global,
+    port: &mut UdpPort<'_, C, A>,
+) -> Result<String, Fail> {
+    let mut marks = String::new(alloc);
+    let mut buffer: Buffer = [0; FRAME + 1];
+    for _ in 0..1000u32 {
+        match port.recv(&mut buffer) {
+            Ok(Some(_)) => marks.push(char::from(buffer[0]))?,
+            _ => return Ok(marks),
+        }
+    }
+    Err("no end".into())
+}
+
+/// Messages come before the frames that wait, each kind in its order of arrival; so do those that
+/// come while frames wait.
+#[test]
+fn hands_messages_on_before_frames(rt: HostRuntime) -> Result<(), Fail> {
+    let mut port = UdpPort::bind(&rt, &rt, rt.alloc(), loopback(0))?;
+    let (client, from) = open(&rt)?;
+    send_marked(rt.alloc(), &client, port.address(), "12a3b4")?;
+    let mut buffer: Buffer = [0; FRAME + 1];
+    assert!(rt; matches!(port.recv(&mut buffer), Ok(Some(got)) if got == (from, 20)));
+    assert_eq!(rt; buffer[0], b'a');
+    send_marked(rt.alloc(), &client, port.address(), "5c")?;
+    assert_eq!(rt; handed_on(rt.alloc(), &mut port)?.as_str(), "bc12345");
+    assert_eq!(rt; port.failures(), 0);
+    Ok(())
+}
+
+/// Sends as many frames as a socket holds, so many times, and takes one of them out each time.
+#[test]
+fn loses_no_frame_that_has_room(rt: HostRuntime) -> Result<(), Fail> {
+    let mut port = UdpPort::bind(&rt, &rt, rt.alloc(), loopback(0))?;
+    let (client, _) = open(&rt)?;
+    let mut buffer: Buffer = [0; FRAME + 1];
+    for _ in 0..5u32 {
+        for _ in 0..10u32 {
+            send_marked(rt.alloc(), &client, port.address(), "0123456789")?;
+        }
+        assert!(rt; matches!(port.recv(&mut buffer), Ok(Some((_, FRAME)))));
+    }
+    // The first ones of the first burst were taken out.
+    let marks = handed_on(rt.alloc(), &mut port)?;
+    assert_eq!(rt; marks.len(), 495);
+    assert!(rt; marks.starts_with("56789012345678901234"));
+    assert!(rt; marks.ends_with("01234567890123456789"));
+    Ok(())
+}
+
+/// What waits is bounded: what comes beyond is dropped, of each kind by itself.
+#[test]
+fn keeps_so_many_and_no_more(rt: HostRuntime) -> Result<(), Fail> {
+    let mut inbox = Inbox::new(rt.alloc());
+    let from = loopback(1);
+    let octets = [7u8; FRAME];
+    for _ in 0..MOST_WAITING {
+        assert!(rt; matches!(inbox.keep(from, &octets), Ok(true)));
+    }
+    assert!(rt; matches!(inbox.keep(from, &octets), Ok(false)));
+    assert!(rt; matches!(inbox.keep(from, b"x"), Ok(true)));
+    let mut buffer: Buffer = [0; FRAME + 1];
+    assert_eq!(rt; inbox.hand_on(&mut buffer), Some((from, 1)));
+    assert_eq!(rt; inbox.hand_on(&mut buffer), Some((from, FRAME)));
+    assert!(rt; matches!(inbox.keep(from, &octets), Ok(true)));
+    assert!(rt; matches!(inbox.keep(from, &octets), Ok(false)));
+    Ok(())
+}
+
+/// Three frames and a message come, while a port's call for memory with that number is refused: at
+/// most one of them is dropped, and all others come in order. Whether the call was made.
+fn check_refused(stop: &impl Abort, rt: &HostRuntime, call: u64) -> Result<bool, Fail> {
+    let refusing = Refusing::after(rt.alloc(), call);
+    let mut port = UdpPort::bind(rt, rt, &refusing, loopback(0))?;
+    let (client, _) = open(rt)?;
+    send_marked(rt.alloc(), &client, port.address(), "12a3")?;
+    let marks = handed_on(rt.alloc(), &mut port)?;
+    let wanted = ["a123", "1a23", "a23", "a13", "a12", "123"];
+    assert!(stop; wanted.contains(&marks.as_str()), "{call}: {marks}");
+    assert_eq!(stop; port.failures(), 0);
+    Ok(refusing.has_refused())
+}
+
+#[test]
+fn drops_a_datagram_that_has_no_memory(rt: HostRuntime) -> Result<(), Fail> {
+    for call in 1..100u64 {
+        if !check_refused(&rt, &rt, call)? {
+            assert!(rt; call > 4);
+            return Ok(());
+        }
+    }
+    Err("no end".into())
+}
+
+/// How many frames a socket has for taking.
+fn count_arrived(socket: &UdpSocket) -> Result<usize, Fail> {
+    let mut buffer: Buffer = [0; FRAME + 1];
+    let mut count = 0usize;
+    socket.set_nonblocking(true)?;
+    for _ in 0..1000u32 {
+        if socket.recv_from(&mut buffer).is_err() {
+            break;
+        }
+        count = count.saturating_add(1);
+    }
+    socket.set_nonblocking(false)?;
+    Ok(count)
+}
+
+/// A frame goes out while the port receives, a message at once; and what is left at the end.
+#[test]
+fn sends_frames_while_it_receives(rt: HostRuntime) -> Result<(), Fail> {
+    let mut port = UdpPort::bind(&rt, &rt, rt.alloc(), loopback(0))?;
+    let (client, to) = open(&rt)?;
+    let frame = marked(rt.alloc(), b'f', FRAME)?;
+    for _ in 0..20u32 {
+        port.send(to, &frame)?;
+    }
+    port.send(to, b"m")?;
+    assert_eq!(rt; receive(rt.alloc(), &client)?.as_slice(), b"m".as_slice());
+    assert_eq!(rt; count_arrived(&client)?, 0);
+    let mut buffer: Buffer = [0; FRAME + 1];
+    send(&client, port.address(), b"q")?;
+    assert!(rt; matches!(port.recv(&mut buffer), Ok(Some((_, 1)))));
+    assert_eq!(rt; count_arrived(&client)?, 8);
+    port.finish();
+    assert_eq!(rt; count_arrived(&client)?, 12);
+    assert_eq!(rt; port.failures(), 0);
+    Ok(())
+}
+
+/// Where a frame that waited can't be sent, the receive fails, and the next one goes on.
+#[test]
+fn tells_a_frame_that_can_not_be_sent(rt: HostRuntime) -> Result<(), Fail> {
+    let mut port = UdpPort::bind(&rt, &rt, rt.alloc(), loopback(0))?;
+    let frame = marked(rt.alloc(), b'f', FRAME)?;
+    port.send(loopback(0), &frame)?;
+    assert_eq!(rt; port.failures(), 0);
+    let mut buffer: Buffer = [0; FRAME + 1];
+    assert!(rt; port.recv(&mut buffer).is_err());
+    assert_eq!(rt; port.failures(), 1);
+    assert!(rt; matches!(port.recv(&mut buffer), Ok(None)));
+    assert_eq!(rt; port.failures(), 1);
+    Ok(())
+}
