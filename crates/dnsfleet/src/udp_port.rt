@@ -26,7 +26,7 @@ const WAIT: u64 = 200;
 const LOWEST_FREE: i32 = 3;
 
 /// How many frames are sent before the port pauses, so that a receiver can take them in.
-const BURST: usize = 8;
+const BURST: usize = 2;
 
 /// How many milliseconds a pause lasts.
 const PAUSE: u64 = 1;
@@ -65,6 +65,8 @@ impl<'a, C: time::Clock, A: Allocator + Copy> UdpPort<'a, C, A> {
         ensures address { IfOk result (λ port. IsAt addr port.address) }
         ensures descriptor { IfOk result (λ port. LOWEST_FREE ≤ℤ udp_raw_fd port.socket) }
         ensures failed { IfOk result (λ port. port.failed ≡ 0) }
+        ensures idle { IfOk result (λ port. (port.arrived.messages ≡ [])
+            × (port.arrived.frames ≡ []) × (port.leaving ≡ [])) }
     {
         let Ok(socket) = open(net, addr) else {
             return Err(PortFault);
@@ -261,8 +263,9 @@ impl<'a, C: time::Clock, A: Allocator + Copy> UdpPort<'a, C, A> {
         }
     }
 
-    /// Sends and takes in what there is, until a datagram can be handed on or its time is over.
-    #[tactic(auto, using(crate::proofs::Queues::takes_nothing, crate::proofs::Queues::takes_more, crate::proofs::Queues::leaves_nothing, crate::proofs::Queues::leaves_more, crate::proofs::Queues::receives_next, crate::proofs::Queues::receives_fault, crate::proofs::Queues::receives_after, crate::proofs::Queues::receives_nothing, crate::proofs::Queues::handed_nothing, crate::proofs::Queues::left_messages, crate::proofs::Queues::left_frames))]
+    /// Sends and takes in what there is, until a datagram can be handed on, all is sent or the time
+    /// of a receive is over.
+    #[tactic(auto, using(crate::proofs::Queues::takes_nothing, crate::proofs::Queues::takes_more, crate::proofs::Queues::leaves_nothing, crate::proofs::Queues::leaves_more, crate::proofs::Queues::receives_fault))]
     fn work(&mut self, buffer: &mut [u8]) -> Result<Option<(Addr, usize)>, PortFault>
         ensures within { IfOk result (λ got. IfSome got (λ p. p.1 ≤ length buffer.old)) }
         ensures failed { self.new.failed ≡ failures_after result self.old.failed }
@@ -284,7 +287,7 @@ impl<'a, C: time::Clock, A: Allocator + Copy> UdpPort<'a, C, A> {
                 None => {}
             }
             if self.leaving.is_empty() {
-                return self.wait(buffer);
+                return Ok(None);
             }
             self.clock.sleep(Duration::from_millis(PAUSE));
         }

@@ -164,9 +164,9 @@ fn sends_frames_while_it_receives(rt: HostRuntime) -> Result<(), Fail> {
     let mut buffer: Buffer = [0; FRAME + 1];
     send(&client, port.address(), b"q")?;
     assert!(rt; matches!(port.recv(&mut buffer), Ok(Some((_, 1)))));
-    assert_eq!(rt; count_arrived(&client)?, 8);
+    assert_eq!(rt; count_arrived(&client)?, 2);
     port.finish();
-    assert_eq!(rt; count_arrived(&client)?, 12);
+    assert_eq!(rt; count_arrived(&client)?, 18);
     assert_eq!(rt; port.failures(), 0);
     Ok(())
 }

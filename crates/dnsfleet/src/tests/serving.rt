@@ -277,7 +277,11 @@ fn serve_at(rt: &HostRuntime, port: u16, lines: u32) -> Result<(ExitCode, String
 
 /// A port that is free.
 fn free_port(rt: &HostRuntime) -> Result<u16, Fail> {
-    Ok(UdpPort::bind(rt, rt, rt.alloc(), loopback(0))?.address().port)
+    Ok(
+        UdpPort::bind(rt, rt, rt.alloc(), loopback(0))?
+            .address()
+            .port,
+    )
 }
 
 #[test]

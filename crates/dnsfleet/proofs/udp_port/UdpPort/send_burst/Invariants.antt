@@ -1,5 +1,5 @@
 use Rattle.std.proofs.Common.{◌≡◌}
-use Rattle.dnsfleet.specs.Queue.{TakesIn, Leaves}
+use Rattle.dnsfleet.specs.Queue.{Leaves}
 use Rattle.dnsfleet.proofs.udp_port.UdpPort.send_burst.Given as goal
 
 abbrev pub invariant-loop : goal.invariant-loop

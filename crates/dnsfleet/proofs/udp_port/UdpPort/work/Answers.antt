@@ -1,6 +1,6 @@
-use Rattle.std.proofs.Common.{◌≡◌, ◌∙◌, subst, sym}
-use Rattle.dnsfleet.specs.Queue.{TakesIn, Receives, Leaves}
-use Rattle.dnsfleet.proofs.Queues.{receives_next, receives_after, takes_more, handed_nothing, leaves_more}
+use Rattle.std.proofs.Common.{◌∙◌, subst, sym}
+use Rattle.dnsfleet.specs.Queue.{TakesIn, Leaves}
+use Rattle.dnsfleet.proofs.Queues.{receives_next, takes_more, handed_nothing, leaves_more}
 use Rattle.dnsfleet.proofs.udp_port.UdpPort.work.Goals as goal
 
 pub returns-in-Some-clause-arrived : goal.returns-in-Some-clause-arrived
@@ -14,26 +14,24 @@ returns-in-Some-clause-arrived g c =
 
 pub returns-then-is_empty-clause-arrived : goal.returns-then-is_empty-clause-arrived
 returns-then-is_empty-clause-arrived g c =
-    receives_after _ _ c.hand_on.new.self _ _ _
-    (handed_nothing _ _ c.empty_socket.new.self.arrived _ _
+    receives_next _ _ _ c.empty_socket.new.self.arrived _ _ _
+    (c.empty_socket.auto.buffer ∙ c.loop.auto.buffer)
     (takes_more _ c.loop.self.arrived _ c.loop.invariant.1
     (subst (λ a. TakesIn a c.empty_socket.new.self.arrived) c.send_burst.ensures.arrived
     c.empty_socket.ensures.arrived))
-    c.in-None.ensures.handed)
-    (subst (λ n. Receives n c.hand_on.new.self c.wait.result c.wait.new.buffer c.wait.new.self.arrived)
-    (c.hand_on.auto.buffer ∙ c.empty_socket.auto.buffer ∙ c.loop.auto.buffer)
-    c.wait.ensures.arrived)
+    c.in-None.ensures.handed
 
 pub loop-preserved : goal.loop-preserved
 loop-preserved g c = (
-    c.in-Ok-empty_socket.ensures.failed ∙ c.in-Ok.ensures.failed ∙ c.loop.invariant.0,
-    handed_nothing _ _ c.empty_socket.new.self.arrived _ _
-    (takes_more _ c.loop.self.arrived _ c.loop.invariant.1
-    (subst (λ a. TakesIn a c.empty_socket.new.self.arrived) c.send_burst.ensures.arrived
-    c.empty_socket.ensures.arrived))
-    c.in-None.ensures.handed,
-    subst (λ a. Leaves c.args.self.now.leaving a) (sym c.empty_socket.ensures.leaving)
-    (leaves_more _ c.loop.self.leaving _ c.loop.invariant.2 c.send_burst.ensures.leaving))
+  c.in-Ok-empty_socket.ensures.failed ∙ c.in-Ok.ensures.failed ∙ c.loop.invariant.0,
+  handed_nothing _ _ c.empty_socket.new.self.arrived _ _
+      (takes_more _ c.loop.self.arrived _ c.loop.invariant.1
+      (subst (λ a. TakesIn a c.empty_socket.new.self.arrived) c.send_burst.ensures.arrived
+      c.empty_socket.ensures.arrived))
+      c.in-None.ensures.handed,
+  subst (λ a. Leaves c.args.self.now.leaving a) (sym c.empty_socket.ensures.leaving)
+      (leaves_more _ c.loop.self.leaving _ c.loop.invariant.2 c.send_burst.ensures.leaving),
+)
 
 pub returns-clause-arrived : goal.returns-clause-arrived
 returns-clause-arrived g c =
