@@ -61,9 +61,10 @@ def bound(port):
 class Site:
     """A running site."""
 
-    def __init__(self, options, folder, port, peers):
+    def __init__(self, options, folder, port, peers, sweep=None):
+        sweep = options.sweep if sweep is None else sweep
         text = f'listen = "{HOST}:{port}"\nupstreams = ["{HOST}:{UPSTREAM}"]\n'
-        text += "peers = [" + ", ".join(f'"{HOST}:{it}"' for it in peers) + f"]\nsweep = {options.sweep}\n"
+        text += "peers = [" + ", ".join(f'"{HOST}:{it}"' for it in peers) + f"]\nsweep = {sweep}\n"
         path = os.path.join(folder, f"{port}.toml")
         with open(path, "w") as file:
             file.write(text)
@@ -175,7 +176,7 @@ def run_late(options, folder, count):
     late = None
     try:
         learn(client, upstream, first, [name_of(it) for it in range(count)])
-        late = Site(options, folder, LATE, [FIRST])
+        late = Site(options, folder, LATE, [FIRST], 0 if options.late_is_silent else None)
         learn(client, upstream, late, own_names())
         asking, shares = Client(LATE), []
         for sweep in range(1, options.sweeps + 1):
@@ -217,6 +218,7 @@ def options_of():
     words.add_argument("--sweep", type=int, default=5, help="seconds between sweeps (5)")
     words.add_argument("--sweeps", type=int, default=3, help="how many sweeps are waited for (3)")
     words.add_argument("--behind", type=float, default=0.5, help="seconds behind a sweep's second at which is asked (0.5)")
+    words.add_argument("--late-is-silent", action="store_true", help="the late site sends no sweeps of its own")
     words.add_argument("--sweeping", action="store_true", help="measure the site that sweeps, not the late one")
     words.add_argument("--peers", default="1,16", help="with --sweeping: how many peers, as a list")
     return words.parse_args()
