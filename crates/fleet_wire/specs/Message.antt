@@ -1,6 +1,7 @@
 -- What messages say: a header, a question, and records (RFC 1035 4.1).
-use Rattle.std.specs.Prelude.{◌≡◌, ◌≢◌, ℕ, ◌/◌, ◌%◌, ◌<◌, ◌≤◌, ◌⊎◌, List, [], ◌∷◌, length, slice_index, Bool, true, false, nat_eq, nat_le, IsTrue}
+use Rattle.std.specs.Prelude.{◌≡◌, ◌≢◌, ℕ, ◌/◌, ◌%◌, ◌<◌, ◌≤◌, ◌⊎◌, List, [], ◌∷◌, ◌++◌, length, drop, slice_index, Bool, true, false, nat_eq, nat_le, IsTrue}
 use Rattle.std.specs.List.{AllByRecursion}
+use Rattle.fleet_name.specs.Name.{wire}
 use Rattle.fleet_wire.specs.Number.{u16_at}
 use Rattle.fleet_wire.specs.Question.{QuestionData, IsQuestionData, IsQuestion, QuestionFails}
 use Rattle.fleet_wire.specs.Record.{RecordData, IsPlainRecord, RecordsAt, RecordsFail}
@@ -46,6 +47,14 @@ pub record IsQuery (m : List ℕ) (h : Header) (q : QuestionData) (past : ℕ) :
   pub counted : HasOneQuestion m
   pub header : h ≡ header_of m
   pub question : IsQuestion m 12 q past
+
+-- m is a query whose name stands in full and in lower case: it has no pointer and no capital letter
+pub record IsPlainQuery (m : List ℕ) (h : Header) (q : QuestionData) : Type 0 where
+  pub past : ℕ
+  pub query : IsQuery m h q past
+  pub lower_case : q.spelled ≡ wire q.name
+  pub others : List ℕ
+  pub in_full : drop 12 m ≡ wire q.name ++ others
 
 -- the first fault of header and question
 abbrev pub QueryFails : List ℕ → ReadFault → Type 0

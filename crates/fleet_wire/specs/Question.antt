@@ -30,6 +30,17 @@ abbrev pub question_if_any : Option (Bor QuestionData) → Option QuestionData
 question_if_any None = None
 question_if_any (Some q) = Some q.now
 
+-- a question whose name is lent: as it is spelled, and in lower case
+abbrev pub lent_data : List ℕ → List ℕ → ℕ → ℕ → QuestionData
+lent_data spelled name rtype class =
+    record { spelled = spelled; name = labels_of name; rtype = rtype; class = class }
+
+-- octets of a name in full, in its own case and in lower case
+pub record IsLent (spelled name : List ℕ) : Type 0 where
+  pub spells : lower spelled ≡ name
+  pub whole : name ≡ wire (labels_of name)
+  pub named : IsName (labels_of name)
+
 -- the question q stands at p, and ends before e
 pub record IsQuestion (m : List ℕ) (p : ℕ) (q : QuestionData) (e : ℕ) : Type 0 where
   pub labels : List (List ℕ)

@@ -1,9 +1,9 @@
 //! Replies that are to be written.
 
-ghost use Rattle.std.specs.Prelude.{◌≡◌, ◌<◌, [], Some, None, OnOk, OnErr, IsTrue, MatchOption};
-ghost use Rattle.fleet_wire.specs.Question.{question_if_any};
-ghost use Rattle.fleet_wire.specs.Outline.{line, with_answer, with_authority, IsQuestionIfAny};
+ghost use Rattle.std.specs.Prelude.{◌≡◌, ◌<◌, [], Some, None, OnOk, OnErr, MatchOption};
+ghost use Rattle.fleet_wire.specs.Outline.{line, with_answer, with_authority};
 
+use crate::lent::LentQuestion;
 use crate::question::Question;
 use crate::section::{Section, line_of};
 use fleet_name::Name;
@@ -21,24 +21,21 @@ pub struct Outline<'a, A: Allocator = Global> {
     pub(crate) rd: bool,
     pub(crate) rcode: u8,
     pub(crate) tc: bool,
-    pub(crate) question: Option<&'a Question<A>>,
+    pub(crate) question: Option<LentQuestion<'a>>,
     pub(crate) answer: Section<'a, A>,
     pub(crate) authority: Section<'a, A>,
 }
 
 impl<'a, A: Allocator> Model for Outline<'a, A> {
-    ghost use Rattle.fleet_wire.specs.Question.{question_if_any};
     ghost use Rattle.fleet_wire.specs.Outline.{OutlineData, outline_data, IsOutlineData};
 
     ghost Value = { OutlineData };
 
     ghost view = { λ o.
-        outline_data o.id o.opcode o.rd o.rcode o.tc (question_if_any o.question) o.answer
-        o.authority };
+        outline_data o.id o.opcode o.rd o.rcode o.tc o.question o.answer o.authority };
 
     ghost invariant = { λ o. IsOutlineData
-        (outline_data o.id o.opcode o.rd o.rcode o.tc (question_if_any o.question) o.answer
-        o.authority) };
+        (outline_data o.id o.opcode o.rd o.rcode o.tc o.question o.answer o.authority) };
 }
 
 impl<'a, A: Allocator + Copy> Outline<'a, A> {
@@ -61,8 +58,30 @@ impl<'a, A: Allocator + Copy> Outline<'a, A> {
             (λ q. result.question ≡ Some q.now) }
         ensures empty { (result.answer ≡ []) × (result.authority ≡ []) }
     {
-        // What the proof needs to know of the question.
-        prove!(is_named(question));
+        let lent = match question {
+            None => None,
+            Some(asked) => Some(asked.lend()),
+        };
+        Outline::of_lent(alloc, id, opcode, rd, rcode, tc, lent)
+    }
+
+    /// `new`, of a question that is lent.
+    pub fn of_lent(
+        alloc: A,
+        id: u16,
+        opcode: u8,
+        rd: bool,
+        rcode: u8,
+        tc: bool,
+        question: Option<LentQuestion<'a>>,
+    ) -> Outline<'a, A>
+        requires opcode { opcode < 16 }
+        requires rcode { rcode < 16 }
+        ensures header { (result.id ≡ id) × (result.opcode ≡ opcode) × (result.rd ≡ rd)
+            × (result.rcode ≡ rcode) × (result.tc ≡ tc) }
+        ensures question { result.question ≡ question }
+        ensures empty { (result.answer ≡ []) × (result.authority ≡ []) }
+    {
         Outline {
             id,
             opcode,
@@ -107,16 +126,5 @@ impl<'a, A: Allocator + Copy> Outline<'a, A> {
         ensures err { OnErr result (self.new ≡ self.old) }
     {
         self.authority.push(line_of(name, rtype, ttl, rdata))
-    }
-}
-
-/// The name of a question, if there is one, is a name: it has octets.
-fn is_named<A: Allocator>(question: Option<&Question<A>>) -> bool
-    ensures always { IsTrue result }
-    ensures lawful { IsQuestionIfAny (question_if_any question.entry) }
-{
-    match question {
-        None => true,
-        Some(asked) => !asked.name.octets().is_empty(),
     }
 }

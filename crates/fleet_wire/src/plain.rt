@@ -9,7 +9,7 @@ use crate::shape::{Part, parts_of};
 use fleet_name::is_lower;
 
 /// The octets behind a name in full and in lower case, if one stands first.
-fn after_name(octets: &[u8]) -> Option<&[u8]>
+pub(crate) fn after_name(octets: &[u8]) -> Option<&[u8]>
     ensures { MatchOption result
         ((n : List (List ℕ)) (others : List ℕ) → IsName n → octets.now ≡ wire n ++ others → ⊥)
         (λ s. (n : List (List ℕ)) × IsName n × (octets.now ≡ wire n ++ s.now)) }

@@ -1,10 +1,10 @@
 //! Queries: the header and the question of a message (RFC 1035 4.1.1, 4.1.2).
 
-ghost use Rattle.std.specs.Prelude.{◌≡◌, ℕ, ◌+◌, ◌++◌, length, IfOk, OnOk, IfErr, MatchResult};
+ghost use Rattle.std.specs.Prelude.{◌≡◌, ℕ, ◌+◌, ◌++◌, length, IfOk, OnOk, IfErr, IfSome, IsTrue, is_some, MatchResult};
 ghost use Rattle.fleet_name.specs.Fault.{OrMemory};
 ghost use Rattle.fleet_name.specs.Name.{labels_of, IsSpelling};
 ghost use Rattle.fleet_wire.specs.Question.{QuestionData, spelled_question_data, IsQuestion, QuestionFails};
-ghost use Rattle.fleet_wire.specs.Message.{header_of, IsHeader, HasOneQuestion, HeaderFails, IsQuery, QueryFails, HasQuery};
+ghost use Rattle.fleet_wire.specs.Message.{header_of, IsHeader, HasOneQuestion, HeaderFails, IsQuery, IsPlainQuery, QueryFails, HasQuery};
 ghost use Rattle.fleet_wire.specs.Query.{query_head, query_octets, query_header, lowercase_question};
 ghost use Rattle.fleet_wire.specs.declared.header.Header.{Header};
 ghost use Rattle.fleet_wire.specs.declared.fault.ReadFault.TheVariants.{OutOfMemory};
@@ -12,8 +12,10 @@ ghost use Rattle.fleet_wire.specs.declared.fault.ReadFault.TheVariants.{OutOfMem
 use crate::bounds::LONGEST_MESSAGE;
 use crate::fault::ReadFault;
 use crate::header::{Header, header_at};
+use crate::lent::LentQuestion;
 use crate::name_reader::{Spelled, name_of, spelling_at};
 use crate::number::{push_short, short_at};
+use crate::plain::after_name;
 use crate::question::Question;
 use fleet_name::Octets;
 use std::alloc::{AllocError, Allocator};
@@ -107,6 +109,35 @@ pub fn read_query<A: Allocator + Copy>(
     let spelled = question_at(message, 12)?;
     let question = question_of(alloc, &spelled)?;
     Ok((header, question))
+}
+
+/// The header and the question of a message whose question stands in full and in lower case: its
+/// name has no pointer and no capital letter (RFC 1035 3.1, 4.1.4). The message lends the question.
+/// `None` where `read_query` has a fault to tell, or the question is spelled in another way. What
+/// follows the question is not looked at. This takes no memory.
+pub fn read_plain_query(message: &[u8]) -> Option<(Header, LentQuestion<'_>)>
+    ensures found { IfSome result (λ r. IsPlainQuery message.now r.0 r.1) }
+    ensures lawful { IfSome result (λ r. IsHeader r.0) }
+    ensures only { (h : Header) (q : QuestionData) → IsPlainQuery message.now h q
+        → IsTrue (is_some result) }
+{
+    let header = match counted_header(message) {
+        Ok(header) => header,
+        Err(_) => return None,
+    };
+    let (_, rest) = message.split_at(12);
+    let others = after_name(rest)?;
+    if others.len() < 4 {
+        return None;
+    }
+    let (name, _) = rest.split_at(rest.len() - others.len());
+    let question = LentQuestion {
+        spelled: name,
+        name,
+        rtype: short_at(others, 0),
+        class: short_at(others, 2),
+    };
+    Some((header, question))
 }
 
 /// Adds a header that wants recursion alone and counts one question.

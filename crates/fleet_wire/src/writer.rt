@@ -1,50 +1,57 @@
 //! Writing a reply (RFC 1035 4.1).
 
-ghost use Rattle.std.specs.Prelude.{◌≡◌, ◌+◌, ◌<◌, ◌≤◌, ◌++◌, length, IfOk, OnOk, IfSome, MatchOption};
+ghost use Rattle.std.specs.Prelude.{◌≡◌, ◌+◌, ◌<◌, ◌≤◌, ◌++◌, ◌∷◌, [], length, IfOk, OnOk, IfSome, MatchOption};
 ghost use Rattle.fleet_name.specs.declared.bounds.TheConstants.{LONGEST_NAME};
 ghost use Rattle.fleet_wire.specs.Number.{u16_octets, u32_octets};
-ghost use Rattle.fleet_wire.specs.Question.{QuestionData, question_if_any};
+ghost use Rattle.fleet_wire.specs.Question.{QuestionData};
 ghost use Rattle.fleet_wire.specs.Line.{record_of_line, records_of_lines};
 ghost use Rattle.fleet_wire.specs.Message.{IsReply};
-ghost use Rattle.fleet_wire.specs.Outline.{record_octets, question_octets_if_any, section_octets, body_size, header_octets, octets_of_outline, IsWhole, message_of_outline};
+ghost use Rattle.fleet_wire.specs.Outline.{record_octets, question_octets_if_any, section_octets, whole_octets, cut_octets, header_octets, octets_of_outline, IsWhole, message_of_outline};
 ghost use Rattle.fleet_wire.specs.declared.bounds.TheConstants.{LONGEST_MESSAGE};
 
 use crate::bounds::LONGEST_MESSAGE;
 use crate::class::IN;
+use crate::lent::LentQuestion;
 use crate::line::Line;
-use crate::number::{push_long, push_short};
 use crate::outline::Outline;
-use crate::question::Question;
 use crate::section::Section;
 use std::alloc::{AllocError, Allocator};
 
 /// Adds a question in its own spelling, if there is one.
-fn push_question<A: Allocator, B: Allocator>(
+fn push_question<A: Allocator>(
     out: &mut Vec<u8, A>,
-    question: Option<&Question<B>>,
+    question: &Option<LentQuestion>,
 ) -> Result<(), AllocError>
     ensures { OnOk result (out.new.items
-        ≡ out.old.items ++ question_octets_if_any (question_if_any question.entry)) }
+        ≡ out.old.items ++ question_octets_if_any question.now) }
 {
     match question {
         None => Ok(()),
         Some(asked) => {
-            out.extend_from_slice(asked.spelled.as_slice())?;
-            push_short(out, asked.rtype)?;
-            push_short(out, asked.class)
+            out.extend_from_slice(asked.spelled)?;
+            push_type(out, asked.rtype, asked.class)
         }
     }
 }
 
+/// Adds a type and a class.
+fn push_type<A: Allocator>(out: &mut Vec<u8, A>, rtype: u16, class: u16) -> Result<(), AllocError>
+    ensures { OnOk result (out.new.items ≡ out.old.items ++ (u16_octets rtype ++ u16_octets class)) }
+{
+    let [type_high, type_low] = rtype.to_be_bytes();
+    let [class_high, class_low] = class.to_be_bytes();
+    out.extend_from_slice(&[type_high, type_low, class_high, class_low])
+}
+
 /// How many octets a question has: its name in full, which has `LONGEST_NAME` at most, and four.
-fn question_size<A: Allocator>(question: Option<&Question<A>>) -> usize
-    ensures size { result ≡ length (question_octets_if_any (question_if_any question.entry)) }
+fn question_size(question: &Option<LentQuestion>) -> usize
+    ensures size { result ≡ length (question_octets_if_any question.now) }
     ensures short { result ≤ LONGEST_NAME + 4 }
 {
-    let Some(asked) = question else {
-        return 0;
-    };
-    asked.name.octets().len() + 4
+    match question {
+        None => 0,
+        Some(asked) => asked.name_len() + 4,
+    }
 }
 
 /// Adds the octets between the name and the RDATA.
@@ -59,10 +66,11 @@ fn push_fixed<A: Allocator>(
         ≡ out.old.items
         ++ (u16_octets rtype ++ (u16_octets class ++ (u32_octets ttl ++ u16_octets count)))) }
 {
-    push_short(out, rtype)?;
-    push_short(out, class)?;
-    push_long(out, ttl)?;
-    push_short(out, count)
+    let [t0, t1] = rtype.to_be_bytes();
+    let [c0, c1] = class.to_be_bytes();
+    let [s0, s1, s2, s3] = ttl.to_be_bytes();
+    let [n0, n1] = count.to_be_bytes();
+    out.extend_from_slice(&[t0, t1, c0, c1, s0, s1, s2, s3, n0, n1])
 }
 
 /// Adds a record.
@@ -133,22 +141,21 @@ fn room_behind<A: Allocator>(section: &Section<A>, room: usize) -> Option<usize>
     room_after(more, left)
 }
 
-/// How many octets header, question and records have, if they fit a message.
-fn size_within<A: Allocator>(
-    question: Option<&Question<A>>,
-    answer: &Section<A>,
-    authority: &Section<A>,
-) -> Option<usize>
-    ensures size { MatchOption result
-        (LONGEST_MESSAGE < 12 + body_size (question_if_any question.entry) answer.now
-        authority.now)
-        (λ size. size ≡ 12 + body_size (question_if_any question.entry) answer.now
-        authority.now) }
+/// How many octets a reply has that is written whole, if they fit a message.
+fn size_of<A: Allocator>(outline: &Outline<A>) -> Option<usize>
+    ensures size { MatchOption result (LONGEST_MESSAGE < length (whole_octets outline.now))
+        (λ size. size ≡ length (whole_octets outline.now)) }
     ensures short { IfSome result (λ size. size ≤ LONGEST_MESSAGE) }
 {
-    let room = room_behind(answer, LONGEST_MESSAGE - 12 - question_size(question))?;
-    let left = room_behind(authority, room)?;
+    let bare = 12 + question_size(&outline.question);
+    let room = room_behind(&outline.answer, LONGEST_MESSAGE - bare)?;
+    let left = room_behind(&outline.authority, room)?;
     Some(LONGEST_MESSAGE - left)
+}
+
+/// How many octets a reply has that is cut off.
+fn cut_size<A: Allocator>(outline: &Outline<A>) -> usize {
+    12 + question_size(&outline.question)
 }
 
 /// Adds the header.
@@ -162,16 +169,56 @@ fn push_header<A: Allocator, B: Allocator>(
     ensures { OnOk result (out.new.items
         ≡ out.old.items ++ header_octets outline.now tc answer authority) }
 {
-    push_short(out, outline.id)?;
+    let [id_high, id_low] = outline.id.to_be_bytes();
     let cut = if tc { 2 } else { 0 };
     let wanted = if outline.rd { 1 } else { 0 };
-    out.push(128 + outline.opcode * 8 + cut + wanted)?;
-    out.push(128 + outline.rcode)?;
+    let flags = 128 + outline.opcode * 8 + cut + wanted;
+    out.extend_from_slice(&[id_high, id_low, flags, 128 + outline.rcode])?;
     let questions = if outline.question.is_some() { 1 } else { 0 };
-    push_short(out, questions)?;
-    push_short(out, answer)?;
-    push_short(out, authority)?;
-    push_short(out, 0)
+    push_counts(out, questions, answer, authority)
+}
+
+/// Adds the four counts of a header: no record is additional.
+fn push_counts<A: Allocator>(
+    out: &mut Vec<u8, A>,
+    questions: u16,
+    answer: u16,
+    authority: u16,
+) -> Result<(), AllocError>
+    ensures { OnOk result (out.new.items ≡ out.old.items
+        ++ (u16_octets questions ++ (u16_octets answer ++ (u16_octets authority ++ 0 ∷ 0 ∷ [])))) }
+{
+    let [q0, q1] = questions.to_be_bytes();
+    let [a0, a1] = answer.to_be_bytes();
+    let [n0, n1] = authority.to_be_bytes();
+    out.extend_from_slice(&[q0, q1, a0, a1, n0, n1, 0, 0])
+}
+
+/// Adds all of a reply, which fits a message.
+fn push_whole<A: Allocator, B: Allocator>(
+    out: &mut Vec<u8, A>,
+    outline: &Outline<B>,
+) -> Result<(), AllocError>
+    requires { length (whole_octets outline.now) ≤ LONGEST_MESSAGE }
+    ensures { OnOk result (out.new.items ≡ out.old.items ++ whole_octets outline.now) }
+{
+    let answers = outline.answer.len() as u16;
+    let authorities = outline.authority.len() as u16;
+    push_header(out, outline, outline.tc, answers, authorities)?;
+    push_question(out, &outline.question)?;
+    push_section(out, &outline.answer)?;
+    push_section(out, &outline.authority)
+}
+
+/// Adds header and question alone, with TC set.
+fn push_cut<A: Allocator, B: Allocator>(
+    out: &mut Vec<u8, A>,
+    outline: &Outline<B>,
+) -> Result<(), AllocError>
+    ensures { OnOk result (out.new.items ≡ out.old.items ++ cut_octets outline.now) }
+{
+    push_header(out, outline, true, 0, 0)?;
+    push_question(out, &outline.question)
 }
 
 /// The octets of a reply (RFC 1035 4.1): header, question and records, every name in full. QR and
@@ -187,18 +234,27 @@ pub fn write_reply<A: Allocator, B: Allocator>(
         (q : QuestionData) → IsWhole outline.now q
         → IsReply v.items (message_of_outline outline.now q)) }
 {
-    let Some(size) = size_within(outline.question, &outline.answer, &outline.authority) else {
-        let mut octets = Vec::with_capacity(alloc, 12 + question_size(outline.question))?;
-        push_header(&mut octets, outline, true, 0, 0)?;
-        push_question(&mut octets, outline.question)?;
+    let Some(size) = size_of(outline) else {
+        let mut octets = Vec::with_capacity(alloc, cut_size(outline))?;
+        push_cut(&mut octets, outline)?;
         return Ok(octets);
     };
     let mut octets = Vec::with_capacity(alloc, size)?;
-    let answers = outline.answer.len() as u16;
-    let authorities = outline.authority.len() as u16;
-    push_header(&mut octets, outline, outline.tc, answers, authorities)?;
-    push_question(&mut octets, outline.question)?;
-    push_section(&mut octets, &outline.answer)?;
-    push_section(&mut octets, &outline.authority)?;
+    push_whole(&mut octets, outline)?;
     Ok(octets)
+}
+
+/// Writes the octets that `write_reply` gives in place of what `out` holds. Where it has room for
+/// 512 octets, this takes no memory.
+pub fn write_reply_into<A: Allocator, B: Allocator>(
+    out: &mut Vec<u8, A>,
+    outline: &Outline<B>,
+) -> Result<(), AllocError>
+    ensures octets { OnOk result (out.new.items ≡ octets_of_outline outline.now) }
+{
+    out.clear();
+    match size_of(outline) {
+        Some(_) => push_whole(out, outline),
+        None => push_cut(out, outline),
+    }
 }

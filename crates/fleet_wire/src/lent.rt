@@ -1,0 +1,82 @@
+//! Questions that are lent.
+
+ghost use Rattle.std.specs.Prelude.{◌≡◌, None, List, ℕ, ◌++◌, ◌+◌, ◌≤◌, length, IfSome, MatchOption};
+ghost use Rattle.fleet_name.specs.Name.{wire, labels_of, IsName};
+ghost use Rattle.fleet_name.specs.declared.bounds.TheConstants.{LONGEST_NAME};
+ghost use Rattle.fleet_wire.specs.Number.{u16_at};
+ghost use Rattle.fleet_wire.specs.Question.{QuestionData, IsQuestionData};
+
+use crate::question::Question;
+use std::alloc::Allocator;
+use std::marker::Model;
+
+/// A question (RFC 1035 4.1.2) that a message or a `Question` lends: nothing of it is copied.
+#[derive(Drop)]
+pub struct LentQuestion<'a> {
+    /// The name in full, in its own case.
+    pub(crate) spelled: &'a [u8],
+    /// The name in full, in lower case.
+    pub(crate) name: &'a [u8],
+    /// The type that is asked for.
+    pub(crate) rtype: u16,
+    /// The class that is asked for.
+    pub(crate) class: u16,
+}
+
+impl<'a> Model for LentQuestion<'a> {
+    ghost use Rattle.std.specs.Prelude.{◌≡◌};
+    ghost use Rattle.fleet_name.specs.Name.{wire, labels_of};
+    ghost use Rattle.fleet_wire.specs.Question.{QuestionData, lent_data, IsLent};
+
+    ghost Value = { QuestionData };
+
+    ghost view = { λ q. lent_data q.spelled.now q.name.now q.rtype q.class };
+
+    ghost invariant = { λ q. IsLent q.spelled.now q.name.now };
+}
+
+impl<'a> LentQuestion<'a> {
+    /// The name in full, in lower case (RFC 1035 3.1).
+    pub fn name(&self) -> &'a [u8]
+        ensures octets { result.now ≡ wire self.now.name }
+        ensures named { IsName self.now.name }
+    {
+        self.name
+    }
+
+    /// The type that is asked for.
+    pub fn rtype(&self) -> u16
+        ensures { result ≡ self.now.rtype }
+    {
+        self.rtype
+    }
+
+    /// The class that is asked for.
+    pub fn class(&self) -> u16
+        ensures { result ≡ self.now.class }
+    {
+        self.class
+    }
+
+    /// How many octets the name has in full, 255 at most (RFC 1035 2.3.4).
+    pub(crate) fn name_len(&self) -> usize
+        ensures spelled { result ≡ length self.now.spelled }
+        ensures short { result ≤ LONGEST_NAME }
+    {
+        self.name.len()
+    }
+}
+
+impl<A: Allocator> Question<A> {
+    /// The question, lent.
+    pub fn lend(&self) -> LentQuestion<'_>
+        ensures { result ≡ self.now }
+    {
+        LentQuestion {
+            spelled: self.spelled.as_slice(),
+            name: self.name.octets(),
+            rtype: self.rtype,
+            class: self.class,
+        }
+    }
+}
