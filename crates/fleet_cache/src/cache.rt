@@ -1,6 +1,7 @@
 //! What a site holds.
 
 ghost use Rattle.std.specs.Prelude.{◌≡◌, ℕ, ◌^◌, ◌<◌, ◌≤◌, max, true, false, List, [], ◌∷◌, ◌++◌, ◌↔◌, length, take, IsTrue, IfOk, IfErr, OnOk, OnErr};
+ghost use Rattle.fleet_name.specs.Name.{wire, IsWire};
 ghost use Rattle.fleet_observe.specs.Observation.{ObservationData, IsObservation};
 ghost use Rattle.fleet_cache.specs.Cached.{IsCached, IsPast, IsNeedless, IsNeededAt, IsSameSet};
 ghost use Rattle.fleet_cache.specs.Answer.{answer_of};
@@ -14,7 +15,7 @@ use crate::items::Items;
 use crate::lookup::is_past;
 use crate::sweep::{Cursor, sweep};
 use fleet_observe::{Moment, Observation};
-use fleet_wire::Question;
+use fleet_wire::{LentQuestion, Question};
 use std::alloc::{AllocError, Allocator, Global};
 use std::marker::Model;
 use thiserror::Error;
@@ -239,8 +240,31 @@ impl<A: Allocator> Cache<A> {
             → answer_data result
             ≡ answer_of s (max self.now.floor moment) question.now.name question.now.rtype }
     {
+        self.answer_at(question.name.octets(), question.rtype, moment)
+    }
+
+    /// `answer` of a question that is lent.
+    pub fn answer_lent(&self, question: &LentQuestion<'_>, moment: Moment) -> Answer<'_, A>
+        ensures filled { AllSome (chain_of result) }
+        ensures kinds { HasKinds (answer_data result) }
+        ensures told { (s : List ObservationData) → IsCached s self.now.floor self.now.items
+            → answer_data result
+            ≡ answer_of s (max self.now.floor moment) question.now.name question.now.rtype }
+    {
+        self.answer_at(question.name(), question.rtype(), moment)
+    }
+
+    /// The answer to a question for a type of a name, by the name's octets.
+    fn answer_at(&self, name: &[u8], rtype: u16, moment: Moment) -> Answer<'_, A>
+        requires { IsWire name.now }
+        ensures filled { AllSome (chain_of result) }
+        ensures kinds { HasKinds (answer_data result) }
+        ensures told { (s : List ObservationData) → IsCached s self.now.floor self.now.items
+            → (n : List (List ℕ)) → name.now ≡ wire n
+            → answer_data result ≡ answer_of s (max self.now.floor moment) n rtype }
+    {
         let at = later_of(self.floor, moment);
-        follow(&self.held, question.name.octets(), question.rtype, at)
+        follow(&self.held, name, rtype, at)
     }
 
     /// Takes a copy of an observation in.

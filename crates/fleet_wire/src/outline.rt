@@ -79,7 +79,7 @@ impl<'a, A: Allocator + Copy> Outline<'a, A> {
         requires rcode { rcode < 16 }
         ensures header { (result.id ≡ id) × (result.opcode ≡ opcode) × (result.rd ≡ rd)
             × (result.rcode ≡ rcode) × (result.tc ≡ tc) }
-        ensures question { result.question ≡ question }
+        ensures question { result.question ≡ question.entry }
         ensures empty { (result.answer ≡ []) × (result.authority ≡ []) }
     {
         Outline {
