@@ -5,7 +5,7 @@ use Rattle.fleet_name.specs.Name.{wire}
 use Rattle.fleet_wire.specs.Record.{RecordData}
 use Rattle.fleet_wire.specs.Number.{u16_octets, u32_octets}
 use Rattle.fleet_wire.specs.declared.bounds.TheConstants.{LONGEST_MESSAGE}
-use Rattle.fleet_wire.specs.Outline.{OutlineData, record_octets, section_octets, question_octets_if_any, header_octets, body_size, whole_octets, cut_octets, octets_of_outline}
+use Rattle.fleet_wire.specs.Outline.{OutlineData, record_octets, section_octets, question_octets_if_any, header_octets, whole_octets, cut_octets, octets_of_outline}
 
 -- each record has octets
 pub count_rows : (rs : List RecordData) → length rs ≤ length (section_octets rs)
@@ -22,7 +22,8 @@ count_rows (r ∷ rs) =
     )
 
 whole_size : (o : OutlineData)
-    → length (whole_octets o) ≡ 12 + body_size o.question o.answer o.authority
+    → length (whole_octets o) ≡ 12 + (length (question_octets_if_any o.question)
+    + (length (section_octets o.answer) + length (section_octets o.authority)))
 whole_size o =
     let h = header_octets o o.tc (length o.answer) (length o.authority) in
     length-append h

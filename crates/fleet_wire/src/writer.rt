@@ -255,7 +255,7 @@ pub fn write_reply_into<A: Allocator, B: Allocator>(
 ) -> Result<(), AllocError>
     ensures octets { OnOk result (out.new.items ≡ octets_of_outline outline.now) }
 {
-    out.clear();
+    out.truncate(0);
     match size_of(outline) {
         Some(_) => push_whole(out, outline),
         None => push_cut(out, outline),

@@ -4,14 +4,14 @@ use Rattle.fleet_name.proofs.Lemmas.{labels_of-spelled}
 use Rattle.fleet_wire.proofs.PlainQueries.{front_is, name_lent, question_stands, plain_behind}
 use Rattle.fleet_wire.proofs.query.read_plain_query.Goals as goal
 
-pub returns-then-others-lt4-clause-only : goal.returns-then-others-lt4-clause-only
-returns-then-others-lt4-clause-only c h q plain =
+pub returns-then-is_cut-clause-only : goal.returns-then-is_cut-clause-only
+returns-then-is_cut-clause-only c h q plain =
     let found = c.in_ok-others.ensures in
     absurd (omega (
       arith,
       plain_behind c.args.message.now h q found.0 c.in_ok-others.others.now found.1
           (sym c.split_at.ensures.back ∙ found.2) plain,
-      c.if-others-lt4.true,
+      c.if-is_cut.true,
     ))
 
 pub invariant_of-question : goal.invariant_of-question
@@ -27,7 +27,7 @@ returns-clause-found c =
     let name = c.split_at-2.ensures.front
     ∙ front_is c.split_at.result.1.now (wire found.0) c.in_ok-others.others.now found.2 in
     let is = labels_of-spelled c.split_at-2.result.0.now found.0 found.1.labels name in
-    let enough = c.if-others-lt4.false in
+    let enough = c.if-is_cut.false in
     let in_full = sym c.split_at.ensures.back ∙ found.2 in
     record {
       past = 12 + length (wire found.0) + 4;

@@ -11,7 +11,7 @@ returns-in-Some g c =
     record {
       octets =
           on_ok_weaker c.push_whole.result
-          (λ e. e ∙ (ap (λ (x : List ℕ). x ++ whole_octets o) c.clear.ensures.items
+          (λ e. e ∙ (ap (λ (x : List ℕ). x ++ whole_octets o) c.truncate.ensures.items
           ∙ written_whole o (omega (arith, fits.size, fits.short))))
           c.push_whole.ensures;
     }
@@ -22,7 +22,7 @@ returns-in-None g c =
     record {
       octets =
           on_ok_weaker c.push_cut.result
-          (λ e. e ∙ (ap (λ (x : List ℕ). x ++ cut_octets o) c.clear.ensures.items
+          (λ e. e ∙ (ap (λ (x : List ℕ). x ++ cut_octets o) c.truncate.ensures.items
           ∙ written_cut o c.in-None.ensures.size))
           c.push_cut.ensures;
     }
