@@ -1,13 +1,12 @@
 -- The id of the query that asking would send.
-use Rattle.std.proofs.Common.{◌≡◌, ◌≢◌, ℕ, ◌+◌, ◌%◌, ◌<◌, ◌≤◌, ◌⊎◌, inl, inr, List, Option, Some, None, Result, Ok, Err, length, sym, ◌∙◌, ap, arith}
+use Rattle.std.proofs.Common.{◌≡◌, ◌≢◌, ℕ, ◌+◌, ◌%◌, ◌<◌, ◌≤◌, ◌⊎◌, inl, inr, List, Some, None, Result, Ok, Err, length, sym, ◌∙◌, ap, arith}
 use Rattle.std.proofs.lemmas.Bool.{cases_lt}
-use Rattle.fleet_name.specs.Places.{At, NoneIs}
 use Rattle.fleet_pending.specs.declared.bounds.TheConstants.{MOST_ENTRIES}
 use Rattle.fleet_pending.specs.Waiter.{WaiterData}
 use Rattle.fleet_pending.specs.FreeId.{IsFirstFree}
-use Rattle.fleet_pending.specs.PendingData.{EntryData, PendingData, AsksFor}
+use Rattle.fleet_pending.specs.PendingData.{EntryData}
 use Rattle.fleet_pending.specs.Asking.{Joins, waits_already, waits_too, no_place, no_memory_for_place, Opens, is_sent, no_room, no_memory_for_room, joins, opens}
-use Rattle.fleet_pending.specs.QueryId.{TellsId, IsAskedUnder, AskedUnderIdTold}
+use Rattle.fleet_pending.specs.QueryId.{AskedUnderIdTold}
 use Rattle.fleet_pending.specs.declared.answer.Asked.{Asked}
 use Rattle.fleet_pending.specs.declared.answer.Asked.TheVariants.{Send}
 use Rattle.fleet_pending.specs.declared.answer.PendingFault.{PendingFault}
