@@ -1,11 +1,11 @@
 //! What a miss makes of the table of open questions.
 
 ghost use Rattle.std.specs.Prelude.{◌≡◌, ◌<◌, ◌≤◌, ⊤, List, IfOk, IfErr, OnErr};
+ghost use Rattle.fleet_wire.specs.Query.{query_octets};
 ghost use Rattle.fleet_wire.specs.declared.class.TheConstants.{IN};
 ghost use Rattle.fleet_observe.specs.Observation.{ObservationData};
 ghost use Rattle.fleet_cache.specs.Cached.{IsCached};
 ghost use Rattle.fleet_pending.specs.Asking.{Asks, ask_result};
-ghost use Rattle.fleet_wire.specs.Query.{query_octets};
 ghost use Rattle.fleet_site.specs.Carried.{Keeps, IsAskable, IsAnswered, TurnsAway, IsFirstSaid};
 ghost use Rattle.fleet_site.specs.OutcomeData.{outcome_data, sends};
 ghost use Rattle.fleet_site.specs.Question.{Reacts, Forwards, Questioned, turns_away};
