@@ -116,8 +116,9 @@ impl<A: Allocator> Held<A> {
     /// The items of a name, by its octets.
     pub(crate) fn at(&self, name: &[u8]) -> &[Item<A>]
         requires { IsWire name.now }
-        ensures { (n : List (List ℕ)) (kind : Kind) → name.now ≡ wire n
+        ensures of_name { (n : List (List ℕ)) (kind : Kind) → name.now ≡ wire n
             → IsOfName kind self.now n result.now }
+        ensures own { IsHeld self.now }
     {
         let words = pack(name);
         let Some(front) = self.front(words.as_slice()) else {
@@ -186,14 +187,16 @@ impl<A: Allocator> Held<A> {
     }
     /// Whether a name error may be held of a name of fewer octets.
     pub(crate) fn may_deny_above(&self, name: &[u8]) -> bool
-        ensures { result ≡ false → HasNoneShorter NameError (length name.now) self.now }
+        ensures none { result ≡ false → HasNoneShorter NameError (length name.now) self.now }
+        ensures own { IsHeld self.now }
     {
         self.denied.may_stand_above(name)
     }
 
     /// Whether a flush may be held of a name of fewer octets.
     pub(crate) fn may_flush_above(&self, name: &[u8]) -> bool
-        ensures { result ≡ false → HasNoneShorter Flush (length name.now) self.now }
+        ensures none { result ≡ false → HasNoneShorter Flush (length name.now) self.now }
+        ensures own { IsHeld self.now }
     {
         self.flushed.may_stand_above(name)
     }
