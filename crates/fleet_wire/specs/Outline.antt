@@ -77,11 +77,6 @@ cut_octets o = header_octets o true 0 0 ++ question_octets_if_any o.question
 abbrev pub section_octets : List RecordData → List ℕ
 section_octets rs = flat_map record_octets rs
 
--- how many octets a reply has behind its header
-abbrev pub body_size : Option QuestionData → List RecordData → List RecordData → ℕ
-body_size q a b = length (question_octets_if_any q)
-    + (length (section_octets a) + length (section_octets b))
-
 -- a record of the class IN
 abbrev pub line : List (List ℕ) → ℕ → ℕ → List ℕ → RecordData
 line name rtype ttl rdata =

@@ -1,6 +1,5 @@
 -- What a question is, without where it lies in memory (RFC 1035 4.1.2).
-use Rattle.std.specs.Prelude.{◌≡◌, ℕ, ◌+◌, ◌<◌, ◌≤◌, ◌⊎◌, List, length, Option, Some, None}
-use Rattle.std.specs.Borrow.{Bor}
+use Rattle.std.specs.Prelude.{◌≡◌, ℕ, ◌+◌, ◌<◌, ◌≤◌, ◌⊎◌, List, length}
 use Rattle.fleet_name.specs.Name.{wire, lower, lower_all, labels_of, IsName}
 use Rattle.fleet_wire.specs.Number.{u16_at}
 use Rattle.fleet_wire.specs.NameAt.{NameAt, ReadsName}
@@ -24,11 +23,6 @@ spelled_question_data q = record {
   rtype = q.rtype;
   class = q.class;
 }
-
--- a question that is lent, if there is one
-abbrev pub question_if_any : Option (Bor QuestionData) → Option QuestionData
-question_if_any None = None
-question_if_any (Some q) = Some q.now
 
 -- a question whose name is lent: as it is spelled, and in lower case
 abbrev pub lent_data : List ℕ → List ℕ → ℕ → ℕ → QuestionData

@@ -63,7 +63,7 @@ impl<'a> LentQuestion<'a> {
         ensures spelled { result ≡ length self.now.spelled }
         ensures short { result ≤ LONGEST_NAME }
     {
-        self.name.len()
+        self.spelled.len()
     }
 }
 
@@ -72,9 +72,11 @@ impl<A: Allocator> Question<A> {
     pub fn lend(&self) -> LentQuestion<'_>
         ensures { result ≡ self.now }
     {
+        let spelled = self.spelled.as_slice();
+        let name = self.name.octets();
         LentQuestion {
-            spelled: self.spelled.as_slice(),
-            name: self.name.octets(),
+            spelled,
+            name,
             rtype: self.rtype,
             class: self.class,
         }

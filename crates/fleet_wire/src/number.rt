@@ -33,9 +33,9 @@ pub(crate) fn push_short<A: Allocator>(out: &mut Vec<u8, A>, n: u16) -> Result<(
     out.extend_from_slice(&n.to_be_bytes())
 }
 
-/// Adds a number of four octets.
-pub(crate) fn push_long<A: Allocator>(out: &mut Vec<u8, A>, n: u32) -> Result<(), AllocError>
-    ensures { OnOk result (out.new.items ≡ out.old.items ++ u32_octets n) }
+/// The octets of a number of four octets.
+pub(crate) fn long_octets(n: u32) -> [u8; 4]
+    ensures { result ≡ u32_octets n }
 {
-    out.extend_from_slice(&n.to_be_bytes())
+    n.to_be_bytes()
 }

@@ -127,7 +127,8 @@ pub fn read_plain_query(message: &[u8]) -> Option<(Header, LentQuestion<'_>)>
     };
     let (_, rest) = message.split_at(12);
     let others = after_name(rest)?;
-    if others.len() < 4 {
+    let is_cut = others.len() < 4;
+    if is_cut {
         return None;
     }
     let (name, _) = rest.split_at(rest.len() - others.len());

@@ -6,13 +6,14 @@ ghost use Rattle.fleet_wire.specs.Number.{u16_octets, u32_octets};
 ghost use Rattle.fleet_wire.specs.Question.{QuestionData};
 ghost use Rattle.fleet_wire.specs.Line.{record_of_line, records_of_lines};
 ghost use Rattle.fleet_wire.specs.Message.{IsReply};
-ghost use Rattle.fleet_wire.specs.Outline.{record_octets, question_octets_if_any, section_octets, whole_octets, cut_octets, header_octets, octets_of_outline, IsWhole, message_of_outline};
+ghost use Rattle.fleet_wire.specs.Outline.{record_octets, question_octets_if_any, section_octets, whole_octets, cut_octets, header_octets, octets_of_outline, IsOutlineData, IsWhole, message_of_outline};
 ghost use Rattle.fleet_wire.specs.declared.bounds.TheConstants.{LONGEST_MESSAGE};
 
 use crate::bounds::LONGEST_MESSAGE;
 use crate::class::IN;
 use crate::lent::LentQuestion;
 use crate::line::Line;
+use crate::number::long_octets;
 use crate::outline::Outline;
 use crate::section::Section;
 use std::alloc::{AllocError, Allocator};
@@ -68,7 +69,7 @@ fn push_fixed<A: Allocator>(
 {
     let [t0, t1] = rtype.to_be_bytes();
     let [c0, c1] = class.to_be_bytes();
-    let [s0, s1, s2, s3] = ttl.to_be_bytes();
+    let [s0, s1, s2, s3] = long_octets(ttl);
     let [n0, n1] = count.to_be_bytes();
     out.extend_from_slice(&[t0, t1, c0, c1, s0, s1, s2, s3, n0, n1])
 }
@@ -146,6 +147,7 @@ fn size_of<A: Allocator>(outline: &Outline<A>) -> Option<usize>
     ensures size { MatchOption result (LONGEST_MESSAGE < length (whole_octets outline.now))
         (λ size. size ≡ length (whole_octets outline.now)) }
     ensures short { IfSome result (λ size. size ≤ LONGEST_MESSAGE) }
+    ensures lawful { IsOutlineData outline.now }
 {
     let bare = 12 + question_size(&outline.question);
     let room = room_behind(&outline.answer, LONGEST_MESSAGE - bare)?;
@@ -207,7 +209,8 @@ fn push_whole<A: Allocator, B: Allocator>(
     push_header(out, outline, outline.tc, answers, authorities)?;
     push_question(out, &outline.question)?;
     push_section(out, &outline.answer)?;
-    push_section(out, &outline.authority)
+    push_section(out, &outline.authority)?;
+    Ok(())
 }
 
 /// Adds header and question alone, with TC set.
@@ -252,7 +255,7 @@ pub fn write_reply_into<A: Allocator, B: Allocator>(
 ) -> Result<(), AllocError>
     ensures octets { OnOk result (out.new.items ≡ octets_of_outline outline.now) }
 {
-    out.clear();
+    out.truncate(0);
     match size_of(outline) {
         Some(_) => push_whole(out, outline),
         None => push_cut(out, outline),
