@@ -129,6 +129,6 @@ fn decide_answer<A: Allocator + Copy>(
     if is_miss(answer) {
         return Ok(Decision::Miss(header, question));
     }
-    let reply = tell(alloc, header, question.lend(), answer)?;
+    let reply = tell(alloc, header, &question, answer)?;
     Ok(Decision::Reply(reply))
 }

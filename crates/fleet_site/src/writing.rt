@@ -26,31 +26,31 @@ pub(crate) fn is_miss<A: Allocator>(answer: &Answer<'_, A>) -> bool
 pub(crate) fn tell<A: Allocator + Copy>(
     alloc: A,
     header: Header,
-    question: LentQuestion<'_>,
+    question: &Question<A>,
     answer: &Answer<'_, A>,
 ) -> Result<Octets<A>, AllocError>
     requires opcode { header.opcode < 16 }
     requires known { answer_data answer.now ≢ Missed }
     requires kinds { HasKinds (answer_data answer.now) }
-    ensures { IfOk result (Writes header question (answer_data answer.now)) }
+    ensures { IfOk result (Writes header question.now (answer_data answer.now)) }
 {
-    let mut outline = begin(alloc, header, rcode_of(answer), Some(question));
+    let mut outline = begin(alloc, header, rcode_of(answer), Some(question.lend()));
     add_answer(&mut outline, answer)?;
     finish(alloc, &outline)
 }
 
 /// The reply that tells an answer, in place of what `out` holds.
-pub(crate) fn tell_into<A: Allocator + Copy>(
+pub(crate) fn tell_into<'a, A: Allocator + Copy>(
     out: &mut Vec<u8, A>,
     alloc: A,
     header: Header,
-    question: LentQuestion<'_>,
-    answer: &Answer<'_, A>,
+    question: LentQuestion<'a>,
+    answer: &Answer<'a, A>,
 ) -> Result<(), AllocError>
     requires opcode { header.opcode < 16 }
     requires known { answer_data answer.now ≢ Missed }
     requires kinds { HasKinds (answer_data answer.now) }
-    ensures { OnOk result (Writes header question (answer_data answer.now) out.new.items) }
+    ensures { OnOk result (Writes header question.entry (answer_data answer.now) out.new.items) }
 {
     let mut outline = begin(alloc, header, rcode_of(answer), Some(question));
     add_answer(&mut outline, answer)?;
