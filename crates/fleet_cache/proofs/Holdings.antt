@@ -16,7 +16,7 @@ use Rattle.fleet_cache.specs.Dominates.{dominates}
 use Rattle.fleet_cache.specs.Cached.{place, IsCached, IsCovered, IsPast, IsNeedless, IsSameSet}
 use Rattle.fleet_cache.specs.Held.{IsHeld, IsTaken}
 use Rattle.fleet_cache.specs.Slots.{items_of, IsLaid, IsPut}
-use Rattle.fleet_cache.specs.Noted.{AreNoted, HasNone}
+use Rattle.fleet_cache.specs.Noted.{NotedData, AreNoted, HasNone, HasNoneShorter}
 use Rattle.fleet_cache.specs.Swept.{IsThinned, IsSwept}
 use Rattle.fleet_cache.specs.Orders.{over_from}
 use Rattle.fleet_cache.proofs.Places.{place_laws}
@@ -316,7 +316,15 @@ module _ {K E : Type 0} (octets : K → List ℕ) (es new : List (K × List Obse
       )
 
 -- where a length is not noted, no name of it is there
-pub noted_none : (kind : Kind) (lengths : List Bool) (items : List ObservationData) (size : ℕ)
-    → AreNoted kind lengths items → get_or lengths size false ≡ false → HasNone kind size items
-noted_none kind lengths items size noted none o h is of_size =
-    false≢true (sym none ∙ (ap (λ v. get_or lengths v false) (sym of_size) ∙ noted o h is))
+pub noted_none : (kind : Kind) (noted : NotedData) (items : List ObservationData) (size : ℕ)
+    → AreNoted kind noted items → get_or noted.lengths size false ≡ false → HasNone kind size items
+noted_none kind noted items size are none o h is of_size =
+    false≢true (sym none ∙ (ap (λ v. get_or noted.lengths v false) (sym of_size)
+    ∙ (are o h is).marked))
+
+-- where no shorter length is noted, no shorter name is there
+pub noted_longer : (kind : Kind) (noted : NotedData) (items : List ObservationData) (size : ℕ)
+    → AreNoted kind noted items → nat_lt noted.least size ≡ false
+    → HasNoneShorter kind size items
+noted_longer kind noted items size are none o h is =
+    let within = (are o h is).within in grind (arith, nat_tests, none, within)

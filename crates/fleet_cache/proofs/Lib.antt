@@ -1,5 +1,6 @@
 mod Places
 mod SameKeys
+mod Keys
 mod Names
 mod Under
 mod Voids

@@ -1,33 +1,37 @@
--- What is found by a key is the most preferred of its items.
-use Rattle.std.proofs.Common.{ℕ, ◌≡◌, ◌||◌, Bool, true, false, refl, not, List, [], ◌∷◌, length, inl, inr, Option, Some, None, slice_get, MatchOption, ◌↔◌, sym, ap, ◌∙◌, subst}
+-- What is found by a name is the most preferred of its items.
+use Rattle.std.proofs.Common.{ℕ, ◌≡◌, ◌<◌, ◌||◌, ◌⊎◌, nat_eq, arith, Bool, true, false, refl, not, List, [], ◌∷◌, length, inl, inr, Option, Some, None, slice_get, MatchOption, ◌↔◌, sym, ap, ◌∙◌, subst}
 use mathlib.Core.Bool.{false≢true}
 use Rattle.std.specs.Map.{lookup}
 use Rattle.std.specs.Ordering.{is_eq}
 use Rattle.std.proofs.lemmas.Cmp.{tied_itself, nat_list_cmp_total}
 use denote.Ref.{Bor}
-use Rattle.fleet_name.specs.Name.{wire}
-use Rattle.fleet_front.specs.Front.{IsGreatest}
+use Rattle.std.specs.List.{AllByRecursion}
+use Rattle.fleet_name.specs.Name.{wire, IsName, IsWire}
 use Rattle.fleet_observe.specs.Members.{Has}
 use Rattle.fleet_observe.specs.declared.observation.kind.Kind.{Kind}
-use Rattle.fleet_observe.specs.Observation.{ObservationData, AreObservations, key_at, key_of}
+use Rattle.fleet_observe.specs.Observation.{ObservationData, AreObservations, kind_number}
 use Rattle.fleet_observe.specs.Preference.{preference, preference_total, octets_cmp}
-use Rattle.fleet_cache.specs.Front.{without_hidden}
+use Rattle.fleet_cache.specs.Front.{IsDescending}
+use Rattle.fleet_cache.specs.Row.{row}
 use Rattle.fleet_cache.specs.Live.{is_live}
-use Rattle.fleet_cache.specs.Cut.{CutData, is_hidden, IsCutAt}
+use Rattle.fleet_cache.specs.Cut.{CutData, is_hidden, ShowsLiving, IsCutAt}
 use Rattle.fleet_cache.specs.Dominates.{dominates}
 use Rattle.fleet_cache.specs.Cached.{is_covered, IsCovered}
 use Rattle.fleet_cache.specs.Packed.{octet_words, words_of, IsPackable}
 use Rattle.fleet_cache.specs.Slots.{items_of, IsSlot, IsLaid}
 use Rattle.fleet_cache.specs.Best.{IsBest, referent, IsOn}
-use Rattle.fleet_cache.specs.Keyed.{HasNoKey, IsOfKey}
+use Rattle.fleet_cache.specs.Keyed.{HasNoKey, IsOfKey, IsOfName, is_of, is_shown_of}
 use Rattle.fleet_cache.specs.Noted.{HasNone}
-use Rattle.fleet_cache.specs.Orders.{over_from}
+use Rattle.fleet_cache.specs.Orders.{row_of_key}
 use Rattle.fleet_cache.proofs.Packed.{packed_exact}
-use Rattle.fleet_cache.proofs.Slots.{Around, in_slot, slot_of_key, covered_in_front, in_front, in_items}
-use Rattle.std.proofs.lemmas.Bool.{cases_Bool, not-true, or_left, or_right}
+use Rattle.fleet_cache.proofs.Slots.{Around, over_words, in_slot, slot_of_key, covered_in_front, in_front, in_items}
+use Rattle.std.proofs.lemmas.Bool.{cases_Bool, not-true, or_left, or_right, and_parts, and_from}
+use Rattle.std.proofs.lemmas.Bool.Decides.{nat_tests}
+use Rattle.std.specs.List.{filter}
+use Rattle.std.specs.declared.cmp.Ordering.TheVariants.{Greater}
 use Rattle.std.specs.Cmp.{Equal-is}
-use Rattle.fleet_name.proofs.Lemmas.{Has-filter, Has-in_filter}
-use Rattle.fleet_observe.proofs.Lemmas.{key_exact, preference_exact}
+use Rattle.fleet_name.proofs.Lemmas.{wire_exact, Has-filter, Has-in_filter}
+use Rattle.fleet_observe.proofs.Lemmas.{kind_exact, preference_exact}
 
 -- what is not false is true
 twice : (b : Bool) → not b ≡ false → b ≡ true
@@ -83,8 +87,7 @@ module _ {K : Type 0} (octets : K → List ℕ) (q : List ℕ) where
       let e = in_slot es c.0 c.1 in
       let same : words_of c.0 ≡ words_of x = elim c.2 [
         | inl here ↦ ap words_of here
-        | inr over ↦
-            ap octet_words (over_from c.0 x over).same_key
+        | inr over ↦ over_words c.0 x over
       ] in
       looked_none es none e.0 e.1 (sym ((laid.slots e.0 e.1).one_key c.0 e.2) ∙ (same ∙ sym is))
 
@@ -116,48 +119,115 @@ module _ {K : Type 0} (octets : K → List ℕ) (q : List ℕ) where
     covered_there x is = covered_in_front octets es x f
         (subst (λ v. Around octets es v f) is (slot_of_key octets es q f laid found).around)
 
--- a key stands for a name, a kind and a type
-module _ (lives : ObservationData → Bool) (words : List ℕ) (n : List (List ℕ)) (kind : Kind)
-    (rtype : ℕ) (items : List ObservationData) (e : words ≡ octet_words (key_at n kind rtype)) where
-  one_key : (o : ObservationData) → IsOn lives n kind rtype o → words_of o ≡ words
-  one_key o k = let i = k.named in let j = k.of_kind in let l = k.of_type
-      in let m : key_of o ≡ key_at n kind rtype = cc in ap octet_words m ∙ sym e
+-- the octets of a name in full are packable
+pub packable_wire : (name : List ℕ) → IsWire name → AllByRecursion (λ x. x < 256) name
+    → (n : List (List ℕ)) → name ≡ wire n → IsPackable n
+packable_wire name w bytes n is = record {
+  bytes = subst (AllByRecursion (λ x. x < 256)) is bytes;
+  named = subst IsName (wire_exact w.name n (sym w.whole ∙ is)) w.named;
+}
 
-  pub none_on : HasNoKey items words → IsBest (IsOn lives n kind rtype) items None
-  none_on none = λ y h k. none y h (one_key y k)
+-- the words of a name tell it
+module _ (words : List ℕ) (n : List (List ℕ)) (items : List ObservationData)
+    (e : words ≡ octet_words (wire n)) (kind : Kind) where
+  one_name : (o : ObservationData) → o.name ≡ n → words_of o ≡ words
+  one_name o k = ap (λ v. octet_words (wire v)) k ∙ sym e
 
-  module _ (fits : IsPackable (key_at n kind rtype)) (f : List ObservationData)
-      (front : IsOfKey items words f) (cut : CutData) where
-    same_key : (o : ObservationData) → Has f o → key_of o ≡ key_at n kind rtype
-    same_key o h = packed_exact (key_of o) (key_at n kind rtype) (front.packable o h) fits
-        (front.keyed o h ∙ e)
+  pub none_of_name : HasNoKey items words → IsOfName kind items n []
+  none_of_name none = record {
+    member = λ o h. absurd h;
+    named = λ o h. absurd h;
+    whole = λ o h k of_kind. none o h (one_name o k);
+    in_rows = tt;
+  }
 
-    pub front_named : (o : ObservationData) → Has f o → o.name ≡ n
-    front_named o h = (key_exact o.name n o.kind kind o.rtype rtype (same_key o h)).0
+  pub all_of_name : IsPackable n → (f : List ObservationData) → IsOfKey items words f
+      → IsOfName kind items n f
+  all_of_name fits f front = record {
+    member = front.member;
+    named = λ o h. packed_exact o.name n (front.packable o h) fits (front.keyed o h ∙ e);
+    whole = λ o h k of_kind. front.whole o h (one_name o k);
+    in_rows = front.own_front.descending;
+  }
 
-    pub some_on : ((o : ObservationData) → Has f o → is_hidden cut o ≡ not (lives o))
-        → (r : Option (Bor ObservationData))
-        → MatchOption r (without_hidden is_hidden cut f ≡ [])
-        (λ x. IsGreatest preference (without_hidden is_hidden cut f) x.now)
-        → IsBest (IsOn lives n kind rtype) items (referent r)
-    some_on told None none = λ y h k. let there = front.whole y h (one_key y k) in
-        let seen : not (is_hidden cut y) ≡ true = ap not (told y there ∙ ap not k.live) in
-        subst (λ v. Has v y) none (Has-in_filter (λ o. not (is_hidden cut o)) f y there seen)
-    some_on told (Some x) best =
-        let m = Has-filter (λ o. not (is_hidden cut o)) f x.now best.member in
-        let k = key_exact x.now.name n x.now.kind kind x.now.rtype rtype (same_key x.now m.0) in
-        let seen : is_hidden cut x.now ≡ false = not-true (is_hidden cut x.now) m.1 in (
-          front.member x.now m.0,
-          record {
-            live = twice (lives x.now) (sym (told x.now m.0) ∙ seen);
-            named = k.0;
-            of_kind = k.1;
-            of_type = k.2;
-          },
-          λ y h j. let there = front.whole y h (one_key y j) in
-              best.greatest y (Has-in_filter (λ o. not (is_hidden cut o)) f y there
-              (ap not (told y there ∙ ap not j.live))),
-        )
+-- what is of the kind and the type is told so
+of_from : (kind : Kind) (rtype : ℕ) (o : ObservationData) → is_of kind rtype o ≡ true
+    → (o.kind ≡ kind) × (o.rtype ≡ rtype)
+of_from kind rtype o e =
+    let p = and_parts (nat_eq o.rtype rtype) (nat_eq (kind_number o.kind) (kind_number kind)) e in
+    (kind_exact o.kind kind (grind (arith, nat_tests, p.1)), grind (arith, nat_tests, p.0))
+
+of_to : (kind : Kind) (rtype : ℕ) (o : ObservationData) → o.kind ≡ kind → o.rtype ≡ rtype
+    → is_of kind rtype o ≡ true
+of_to kind rtype o k r =
+    let same = ap kind_number k in
+    and_from (nat_eq o.rtype rtype) (nat_eq (kind_number o.kind) (kind_number kind))
+    (grind (arith, nat_tests, r)) (grind (arith, nat_tests, same))
+
+-- in rows, the first one of a kind and a type is the most preferred
+rows_first : (kind : Kind) (rtype : ℕ) (xs : List ObservationData) (x : ObservationData)
+    (rest : List ObservationData) (test : ObservationData → Bool)
+    → ((o : ObservationData) → test o ≡ true → (o.kind ≡ kind) × (o.rtype ≡ rtype))
+    → IsDescending row xs → filter test xs ≡ x ∷ rest
+    → (y : ObservationData) → Has xs y → test y ≡ true → (preference x y ≡ Greater) ⊎ (x ≡ y)
+rows_first kind rtype [] x rest test tells d e y h k = absurd h
+rows_first kind rtype (z ∷ xs) x rest test tells d e y h k = elim (cases_Bool (test z)) [
+  | inl yea ↦
+      let f : z ∷ filter test xs ≡ x ∷ rest = rw yea at e in
+      let same : z ≡ x = cc in
+      elim h [
+        | inl here ↦ inr (sym same ∙ here)
+        | inr far ↦
+            let a = tells z yea in
+            let b = tells y k in
+            inl (ap (λ v. preference v y) (sym same)
+            ∙ (sym (row_of_key z y (a.0 ∙ sym b.0) (a.1 ∙ sym b.1)) ∙ d.0 y far))
+      ]
+  | inr nay ↦ elim h [
+    | inl here ↦ absurd (false≢true (sym nay ∙ (ap test here ∙ k)))
+    | inr far ↦ rows_first kind rtype xs x rest test tells d.1 (rw nay at e) y far k
+  ]
+]
+
+-- the first of a name's items that is of a kind and a type and that a cut shows
+module _ (kind : Kind) (rtype : ℕ) (items here : List ObservationData) (n : List (List ℕ))
+    (lives : ObservationData → Bool) (cut : CutData) (of : IsOfName kind items n here)
+    (shows : ShowsLiving lives items n cut) where
+  shown_on : (o : ObservationData) → Has items o → IsOn lives n kind rtype o → Has here o
+      × (is_shown_of kind rtype cut o ≡ true)
+  shown_on o h k = (
+    of.whole o h k.named k.of_kind,
+    and_from (is_of kind rtype o) (not (is_hidden cut o)) (of_to kind rtype o k.of_kind k.of_type)
+        (ap not (shows o h k.named ∙ ap not k.live)),
+  )
+
+  pub first_is_best : (r : Option (Bor ObservationData))
+      → MatchOption r (filter (is_shown_of kind rtype cut) here ≡ [])
+      (λ x. (rest : List ObservationData)
+      × (filter (is_shown_of kind rtype cut) here ≡ x.now ∷ rest))
+      → IsBest (IsOn lives n kind rtype) items (referent r)
+  first_is_best None none = λ y h k. let s = shown_on y h k in
+      subst (λ v. Has v y) none (Has-in_filter (is_shown_of kind rtype cut) here y s.0 s.1)
+  first_is_best (Some x) first =
+      let m = Has-filter (is_shown_of kind rtype cut) here x.now
+      (subst (λ v. Has v x.now) (sym first.1) (inl refl)) in
+      let p = and_parts (is_of kind rtype x.now) (not (is_hidden cut x.now)) m.1 in
+      let k = of_from kind rtype x.now p.0 in
+      let seen : is_hidden cut x.now ≡ false = not-true (is_hidden cut x.now) p.1 in
+      let named = of.named x.now m.0 in (
+        of.member x.now m.0,
+        record {
+          live = twice (lives x.now) (sym (shows x.now (of.member x.now m.0) named) ∙ seen);
+          named = named;
+          of_kind = k.0;
+          of_type = k.1;
+        },
+        λ y h j. let s = shown_on y h j in
+            rows_first kind rtype here x.now first.0 (is_shown_of kind rtype cut)
+            (λ o t. of_from kind rtype o (and_parts (is_of kind rtype o)
+            (not (is_hidden cut o)) t).0)
+            of.in_rows first.1 y s.0 s.1,
+      )
 
 -- where no name of so many octets is noted, none stands
 pub none_noted : (lives : ObservationData → Bool) (n : List (List ℕ)) (kind : Kind) (size : ℕ)
@@ -166,14 +236,23 @@ pub none_noted : (lives : ObservationData → Bool) (n : List (List ℕ)) (kind 
 none_noted lives n kind size items none is y h on =
     none y h on.of_kind (ap (λ v. length (wire v)) on.named ∙ is)
 
--- what is of the key of another observation is of its name
+-- and nothing is of the name and the kind
+pub unnoted_of_name : (kind : Kind) (size : ℕ) (items : List ObservationData) (n : List (List ℕ))
+    → HasNone kind size items → size ≡ length (wire n) → IsOfName kind items n []
+unnoted_of_name kind size items n none is = record {
+  member = λ o h. absurd h;
+  named = λ o h. absurd h;
+  whole = λ o h named of_kind. none o h of_kind (ap (λ v. length (wire v)) named ∙ sym is);
+  in_rows = tt;
+}
+
+-- what has the words of another observation is of its name
 pub key_named : (items : List ObservationData) (words : List ℕ) (front : List ObservationData)
     → IsOfKey items words front → (x : ObservationData) → Has front x → (o : ObservationData)
     → Has items o → words_of o ≡ words → o.name ≡ x.name
 key_named items words front is x first o there key =
-    let same = packed_exact (key_of o) (key_of x) (is.packable o (is.whole o there key))
-    (is.packable x first) (key ∙ sym (is.keyed x first)) in
-    (key_exact o.name x.name o.kind x.kind o.rtype x.rtype same).0
+    packed_exact o.name x.name (is.packable o (is.whole o there key)) (is.packable x first)
+    (key ∙ sym (is.keyed x first))
 
 -- the first of a list is one of it
 pub first_has : (xs : List ObservationData) (x : ObservationData) → Some x ≡ slice_get xs 0

@@ -1,4 +1,4 @@
--- Keys as words compare as their octets do.
+-- Names as words compare as their octets do.
 use Rattle.std.proofs.Common.{ℕ, zero, suc, ◌+◌, ◌*◌, ◌≡◌, ◌<◌, ◌≤◌, List, [], ◌∷◌, length, drop, refl, sym, ap, ◌∙◌, arith}
 use Rattle.std.specs.declared.cmp.Ordering.{Ordering}
 use Rattle.std.specs.declared.cmp.Ordering.TheVariants.{Less, Equal, Greater}
@@ -11,7 +11,9 @@ use Rattle.std.proofs.lemmas.List.{length-drop}
 use Rattle.std.proofs.lemmas.Map.Lookups.{exact_bytes}
 use Rattle.fleet_cache.specs.declared.words.TheConstants.{WEIGHTS}
 use Rattle.fleet_cache.specs.Packed.{weigh, octet_words_within, octet_words, IsPackable}
-use Rattle.fleet_observe.specs.Preference.{octets_cmp}
+use Rattle.fleet_name.specs.Name.{wire}
+use Rattle.fleet_name.proofs.Lemmas.{wire_exact}
+use Rattle.fleet_observe.specs.Preference.{octets_cmp, name_cmp}
 use Rattle.fleet_observe.proofs.Lemmas.{then_assoc}
 
 abbrev pub AreBytes : List ℕ → Type 0
@@ -126,14 +128,14 @@ within_cmp (suc k) (x ∷ xs) (y ∷ ys) a b n m =
     (bytes_left 7 (y ∷ ys) b) (omega (arith, n, i)) (omega (arith, m, j)))
     ∙ weigh_cmp WEIGHTS are_weights (x ∷ xs) (y ∷ ys) a b
 
-pub packed_cmp : (xs ys : List ℕ) → IsPackable xs → IsPackable ys
-    → octets_cmp (octet_words xs) (octet_words ys) ≡ octets_cmp xs ys
+pub packed_cmp : (n m : List (List ℕ)) → IsPackable n → IsPackable m
+    → octets_cmp (octet_words (wire n)) (octet_words (wire m)) ≡ name_cmp n m
 unfolding octet_words
-packed_cmp xs ys a b = within_cmp 37 xs ys a.bytes b.bytes (omega (arith, a.fits))
-    (omega (arith, b.fits))
+packed_cmp n m a b = within_cmp 37 (wire n) (wire m) a.bytes b.bytes (omega (arith, a.named.fits))
+    (omega (arith, b.named.fits))
 
-pub packed_exact : (xs ys : List ℕ) → IsPackable xs → IsPackable ys
-    → octet_words xs ≡ octet_words ys → xs ≡ ys
-packed_exact xs ys a b same = exact_bytes xs ys (sym (packed_cmp xs ys a b)
-    ∙ (ap (λ v. octets_cmp v (octet_words ys)) same
-    ∙ tied_itself nat_list_cmp_total (octet_words ys)))
+pub packed_exact : (n m : List (List ℕ)) → IsPackable n → IsPackable m
+    → octet_words (wire n) ≡ octet_words (wire m) → n ≡ m
+packed_exact n m a b same = wire_exact n m (exact_bytes (wire n) (wire m) (sym (packed_cmp n m a b)
+    ∙ (ap (λ v. octets_cmp v (octet_words (wire m))) same
+    ∙ tied_itself nat_list_cmp_total (octet_words (wire m)))))

@@ -5,19 +5,23 @@ use Rattle.std.specs.Map.{lookup, set_value, values_of}
 use Rattle.std.specs.BTreeMap.{insert_entry}
 use Rattle.std.specs.declared.cmp.Ordering.{Ordering}
 use Rattle.std.specs.declared.cmp.Ordering.TheVariants.{Less, Equal, Greater}
-use Rattle.std.specs.Ordering.{is_eq, ordering_reverse, ordering_then}
+use Rattle.std.specs.Ordering.{is_eq, ordering_reverse}
 use Rattle.std.proofs.lemmas.Cmp.{tied_itself, nat_list_cmp_total}
 use Rattle.std.proofs.lemmas.Map.Lookups.{exact_bytes}
 use Rattle.fleet_observe.specs.Members.{Has}
-use Rattle.fleet_observe.specs.Observation.{ObservationData, key_of}
-use Rattle.fleet_observe.specs.Preference.{preference, octets_cmp}
+use Rattle.fleet_name.specs.Name.{wire}
+use Rattle.fleet_observe.specs.Observation.{ObservationData}
+use Rattle.fleet_observe.specs.Preference.{octets_cmp, name_cmp}
+use Rattle.fleet_observe.proofs.Lemmas.{key_exact}
 use Rattle.fleet_cache.specs.Front.{IsDescending, IsFront}
 use Rattle.fleet_cache.specs.Dominates.{dominates}
+use Rattle.fleet_cache.specs.Row.{row}
 use Rattle.fleet_cache.specs.Packed.{octet_words, words_of, IsPackable}
 use Rattle.fleet_cache.specs.Cached.{place, IsCovered}
 use Rattle.fleet_cache.specs.Slots.{items_of, concat, is_nil, IsSlot, IsLaid, IsPut}
 use Rattle.fleet_cache.proofs.Packed.{packed_cmp, packed_exact}
-use Rattle.fleet_cache.specs.Orders.{preference_laws, over_from}
+use Rattle.fleet_cache.specs.Orders.{row_laws, over_from}
+use Rattle.fleet_cache.proofs.Keys.{place_of_name, place_before}
 use Rattle.fleet_cache.proofs.Places.{place_laws}
 use Rattle.std.proofs.lemmas.Bool.{cases_Bool}
 use Rattle.std.specs.Cmp.{Equal-is}
@@ -30,19 +34,24 @@ pub joined_values : {K : Type 0} (es : List (K × List ObservationData))
 joined_values [] = refl
 joined_values (e ∷ es) = ap (λ t. e.1 ++ t) (joined_values es)
 
--- within a key, the greater comes first
-descend_within_key : (xs : List ObservationData) (k : List ℕ)
+-- what dominates is of the name of what it dominates
+pub over_words : (p o : ObservationData) → dominates p o ≡ true → words_of p ≡ words_of o
+over_words p o e =
+    let k = key_exact p.name o.name p.kind o.kind p.rtype o.rtype (over_from p o e).same_key in
+    ap (λ n. octet_words (wire n)) k.0
+
+-- within a name, the greater comes first
+descend_within_name : (xs : List ObservationData) (k : List ℕ)
     → ((x : ObservationData) → Has xs x → (words_of x) ≡ k)
-    → ((x : ObservationData) → Has xs x → IsPackable (key_of x)) → IsDescending preference xs
+    → ((x : ObservationData) → Has xs x → IsPackable x.name) → IsDescending row xs
     → IsDescending place xs
-descend_within_key [] k same fits d = tt
-descend_within_key (x ∷ xs) k same fits d = (
-  (λ y h. let one : key_of x ≡ key_of y = packed_exact (key_of x) (key_of y) (fits x (inl refl))
-      (fits y (inr h)) (same x (inl refl) ∙ sym (same y (inr h))) in
-      let e : octets_cmp (key_of y) (key_of x) ≡ Equal = ap (octets_cmp (key_of y)) one
-      ∙ tied_itself nat_list_cmp_total (key_of y) in
-      ap (λ o. ordering_then o (preference x y)) e ∙ d.0 y h),
-  descend_within_key xs k (λ y h. same y (inr h)) (λ y h. fits y (inr h)) d.1,
+descend_within_name [] k same fits d = tt
+descend_within_name (x ∷ xs) k same fits d = (
+  (λ y h. let a = fits x (inl refl) in let b = fits y (inr h) in
+      let one : x.name ≡ y.name = packed_exact x.name y.name a b
+      (same x (inl refl) ∙ sym (same y (inr h))) in
+      place_of_name x y a.named b.named one ∙ d.0 y h),
+  descend_within_name xs k (λ y h. same y (inr h)) (λ y h. fits y (inr h)) d.1,
 )
 
 -- nothing is the front of nothing
@@ -56,11 +65,11 @@ nil_front R D = record {
 
 -- a set with a member has some front
 pub some_of : (s items : List ObservationData) (x : ObservationData) → Has s x
-    → IsFront preference dominates s items → is_nil items ≡ false
-some_of s [] x h front = elim (climb preference_laws s x).1 [
-  | inl same ↦ absurd (front.whole (climb preference_laws s x).0 (subst (Has s) (sym same) h)
-      (climb preference_laws s x).2)
-  | inr far ↦ absurd (front.whole (climb preference_laws s x).0 far.0 (climb preference_laws s x).2)
+    → IsFront row dominates s items → is_nil items ≡ false
+some_of s [] x h front = elim (climb row_laws s x).1 [
+  | inl same ↦ absurd (front.whole (climb row_laws s x).0 (subst (Has s) (sym same) h)
+      (climb row_laws s x).2)
+  | inr far ↦ absurd (front.whole (climb row_laws s x).0 far.0 (climb row_laws s x).2)
 ]
 some_of s (y ∷ items) x h front = refl
 
@@ -90,7 +99,7 @@ module _ {K : Type 0} (octets : K → List ℕ) where
   pub items_descend : (es : List Slot) → IsLaid octets es → IsDescending place (items_of es)
   items_descend [] laid = tt
   items_descend (e ∷ es) laid = IsDescending-append place e.1 (items_of es)
-      (descend_within_key e.1 (octets e.0) (laid.slots e (inl refl)).one_key
+      (descend_within_name e.1 (octets e.0) (laid.slots e (inl refl)).one_key
       (laid.slots e (inl refl)).packable (laid.slots e (inl refl)).own_front.descending)
       (items_descend es (record {
         slots = λ f h. laid.slots f (inr h);
@@ -101,17 +110,17 @@ module _ {K : Type 0} (octets : K → List ℕ) where
       let ky : (words_of y) ≡ octets s.0.0 = (laid.slots s.0 (inr s.1)).one_key y s.2 in
       let fx = (laid.slots e (inl refl)).packable x h in
       let fy = (laid.slots s.0 (inr s.1)).packable y s.2 in
-      let up : octets_cmp (key_of y) (key_of x) ≡ Greater =
-      sym (packed_cmp (key_of y) (key_of x) fy fx) ∙ ap (λ v. octets_cmp v (words_of x)) ky
+      let up : name_cmp y.name x.name ≡ Greater =
+      sym (packed_cmp y.name x.name fy fx) ∙ ap (λ v. octets_cmp v (words_of x)) ky
       ∙ ap (octets_cmp (octets s.0.0)) kx ∙ laid.ascending.0 s.0 s.1 in
-      ap (λ o. ordering_then o (preference x y)) up)
+      place_before x y fx.named fy.named up)
 
   -- one slot replaced, or put in: what the items become. The items besides it are of other keys
   pub one_front : (s a f g b : List ObservationData) (x : ObservationData)
       → ((y : ObservationData) → Has a y → (words_of y) ≡ (words_of x) → ⊥)
       → ((y : ObservationData) → Has b y → (words_of y) ≡ (words_of x) → ⊥)
       → ((y : ObservationData) → Has f y → (words_of y) ≡ (words_of x))
-      → IsFront preference dominates (x ∷ f) g
+      → IsFront row dominates (x ∷ f) g
       → IsDescending place (a ++ (g ++ b))
       → IsFront place dominates s (a ++ (f ++ b))
       → IsFront place dominates (x ∷ s) (a ++ (g ++ b))
@@ -132,14 +141,12 @@ module _ {K : Type 0} (octets : K → List ℕ) where
       | inr nay ↦ nay
       | inl over ↦ elim (three a g b y h) [
         | inl l ↦ elim m [
-          | inl e ↦ absurd (in_a y l (sym (ap words_of e
-              ∙ ap octet_words (over_from w y over).same_key)))
+          | inl e ↦ absurd (in_a y l (sym (ap words_of e ∙ over_words w y over)))
           | inr old ↦ front.undominated y (has_left a _ y l) w old
         ]
         | inr n ↦ elim n [
           | inr r ↦ elim m [
-            | inl e ↦ absurd (in_b y r (sym (ap words_of e
-                ∙ ap octet_words (over_from w y over).same_key)))
+            | inl e ↦ absurd (in_b y r (sym (ap words_of e ∙ over_words w y over)))
             | inr old ↦ front.undominated y (has_right a _ y (has_right f b y r)) w old
           ]
           | inl c ↦ elim m [
@@ -193,8 +200,7 @@ module _ {K : Type 0} (octets : K → List ℕ) where
           ] in
           let member : Has s p.0 = elim p.1 [ inl e ↦ subst (Has s) (sym e) old | inr far ↦ far.0 ]
           in
-          let key : (words_of p.0) ≡ (words_of x) = ap octet_words (over_from p.0 y top).same_key
-          ∙ key_of_new y c in
+          let key : (words_of p.0) ≡ (words_of x) = over_words p.0 y top ∙ key_of_new y c in
           elim (three a f b p.0 (front.whole p.0 member p.2)) [
             | inl l ↦ absurd (in_a p.0 l key)
             | inr n ↦ elim n [
@@ -409,8 +415,7 @@ module _ {K : Type 0} (octets : K → List ℕ) where
       in_front es (words_of x) f a c.0 c.1
           (elim c.2 [
             | inl same ↦ ap words_of same
-            | inr over ↦
-                ap octet_words (over_from c.0 x over).same_key
+            | inr over ↦ over_words c.0 x over
           ]),
       c.2,
     ),
@@ -418,9 +423,9 @@ module _ {K : Type 0} (octets : K → List ℕ) where
 
   pub put_at : (es : List Slot) (f g : List ObservationData) (x : ObservationData) (kept : Bool)
       (k : K) → octets k ≡ (words_of x) → (a : Around es (words_of x) f)
-      → ((y : ObservationData) → Has f y → (words_of y) ≡ (words_of x)) → IsPackable (key_of x)
-      → ((y : ObservationData) → Has f y → IsPackable (key_of y))
-      → IsFront preference dominates (x ∷ f) g → length g ≤ length f + 1 → (kept ≡ false)
+      → ((y : ObservationData) → Has f y → (words_of y) ≡ (words_of x)) → IsPackable x.name
+      → ((y : ObservationData) → Has f y → IsPackable y.name)
+      → IsFront row dominates (x ∷ f) g → length g ≤ length f + 1 → (kept ≡ false)
       ↔ IsCovered f x → IsPut octets es (a.pre ++ (k, g) ∷ a.post) x kept
   put_at es f g x kept k is_key a in_f fits in_fits new size needless =
       let laid_new : IsLaid octets (a.pre ++ (k, g) ∷ a.post) = record {
@@ -435,10 +440,10 @@ module _ {K : Type 0} (octets : K → List ℕ) where
               ];
               packable = λ y c. elim (new.of_set y c) [
                 | inl e ↦
-                    subst (λ v. IsPackable (key_of v)) e fits
+                    subst (λ (v : ObservationData). IsPackable v.name) e fits
                 | inr old ↦ in_fits y old
               ];
-              own_front = front_itself preference_laws (x ∷ f) g new;
+              own_front = front_itself row_laws (x ∷ f) g new;
             })
             | inr r ↦ a.laid_post.slots e r
           ]
@@ -487,7 +492,7 @@ module _ {K : Type 0} (octets : K → List ℕ) where
   pub put_edited : (es new : List Slot) (f g : List ObservationData) (x : ObservationData)
       (kept : Bool) → IsLaid octets es → lookup (λ k. is_eq (octets_cmp (words_of x) (octets k))) es
       ≡ Some f → new ≡ set_value (λ k. is_eq (octets_cmp (words_of x) (octets k))) es g
-      → IsPackable (key_of x) → IsFront preference dominates (x ∷ f) g → length g ≤ length f + 1
+      → IsPackable x.name → IsFront row dominates (x ∷ f) g → length g ≤ length f + 1
       → (kept ≡ false) ↔ IsCovered f x → IsPut octets es new x kept
   put_edited es new f g x kept laid found is fits front size needless =
       let p = slot_of_key es (words_of x) f laid found in
@@ -499,8 +504,8 @@ module _ {K : Type 0} (octets : K → List ℕ) where
   pub put_entered : (es new : List Slot) (g : List ObservationData) (x : ObservationData) (k : K)
       → octets k ≡ (words_of x) → IsLaid octets es
       → lookup (λ j. is_eq (octets_cmp (words_of x) (octets j))) es ≡ None
-      → new ≡ insert_entry (λ i j. octets_cmp (octets i) (octets j)) es k g → IsPackable (key_of x)
-      → IsFront preference dominates (x ∷ []) g → length g ≤ 1 → IsPut octets es new x true
+      → new ≡ insert_entry (λ i j. octets_cmp (octets i) (octets j)) es k g → IsPackable x.name
+      → IsFront row dominates (x ∷ []) g → length g ≤ 1 → IsPut octets es new x true
   put_entered es new g x k same laid found is fits front size =
       let p = gap_of_key es k laid (rw same found) in
       let here = subst (λ q. (a : Around es q [])

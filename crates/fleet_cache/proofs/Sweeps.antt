@@ -10,7 +10,7 @@ use Rattle.fleet_cache.specs.Front.{IsDescending}
 use Rattle.fleet_cache.specs.Cut.{CutData, is_hidden}
 use Rattle.fleet_cache.specs.Packed.{words_of}
 use Rattle.fleet_cache.specs.Slots.{items_of, is_nil, IsSlot, IsLaid}
-use Rattle.fleet_cache.specs.Swept.{IsThinned, IsSwept}
+use Rattle.fleet_cache.specs.Swept.{IsThinned}
 use Rattle.fleet_cache.proofs.Holdings.{live_shorter}
 use Rattle.fleet_cache.specs.Orders.{cut_laws}
 use Rattle.fleet_observe.specs.Preference.{octets_cmp}

@@ -1,21 +1,15 @@
 -- What a cache holds of a set of observations.
-use Rattle.std.specs.Prelude.{◌≡◌, ℕ, Bool, ◌≤◌, ◌⊎◌, List, ◌∷◌, ◌++◌, slice_get, Some}
+use Rattle.std.specs.Prelude.{◌≡◌, ℕ, Bool, ◌≤◌, ◌⊎◌, List, slice_get, Some}
 use Rattle.std.specs.declared.cmp.Ordering.{Ordering}
 use Rattle.std.specs.Ordering.{ordering_then}
-use Rattle.fleet_wire.specs.Number.{u16_octets}
-use Rattle.fleet_observe.specs.declared.observation.kind.Kind.{Kind}
 use Rattle.fleet_observe.specs.Members.{Has}
-use Rattle.fleet_observe.specs.Observation.{ObservationData, AreObservations, kind_number, expires, key_of}
+use Rattle.fleet_observe.specs.Observation.{ObservationData, AreObservations, expires, key_of}
 use Rattle.fleet_observe.specs.Preference.{octets_cmp, preference}
 use Rattle.fleet_front.specs.Front.{IsCovered as IsCoveredBy, is_covered as is_covered_by}
 use Rattle.fleet_cache.specs.Front.{IsFront}
 use Rattle.fleet_cache.specs.Void.{IsVoid}
 use Rattle.fleet_cache.specs.Live.{live_of}
 use Rattle.fleet_cache.specs.Dominates.{dominates}
-
--- the octets of a key, by those of its name
-abbrev pub key_with : List ℕ → Kind → ℕ → List ℕ
-key_with name kind rtype = name ++ kind_number kind ∷ u16_octets rtype
 
 -- by key, and the preferred first within a key: what is greater comes first
 abbrev pub place : ObservationData → ObservationData → Ordering

@@ -4,6 +4,7 @@ pub mod Void
 pub mod Live
 pub mod Cut
 pub mod Dominates
+pub mod Row
 pub mod Cached
 pub mod Held
 pub mod Answer

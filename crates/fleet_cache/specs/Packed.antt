@@ -1,8 +1,9 @@
--- The octets of a key, `WORD_OCTETS` to a word, so that the words compare as the octets do.
-use Rattle.std.specs.Prelude.{ℕ, zero, suc, ◌+◌, ◌*◌, ◌<◌, ◌≤◌, List, [], ◌∷◌, length, drop}
+-- The octets of a name, `WORD_OCTETS` to a word, so that the words compare as the octets do.
+use Rattle.std.specs.Prelude.{ℕ, zero, suc, ◌+◌, ◌*◌, ◌<◌, List, [], ◌∷◌, drop}
 use Rattle.std.specs.List.{AllByRecursion}
 use Rattle.fleet_cache.specs.declared.words.TheConstants.{MOST_WORDS, WEIGHTS, WORD_OCTETS}
-use Rattle.fleet_observe.specs.Observation.{ObservationData, key_of}
+use Rattle.fleet_name.specs.Name.{wire, IsName}
+use Rattle.fleet_observe.specs.Observation.{ObservationData}
 
 -- a number whose digits are the octets and 1, and 0 where there are no more
 abbrev pub weigh : List ℕ → List ℕ → ℕ
@@ -17,15 +18,15 @@ octet_words_within (suc k) [] = []
 octet_words_within (suc k) (x ∷ octets) =
     weigh WEIGHTS (x ∷ octets) ∷ octet_words_within k (drop WORD_OCTETS (x ∷ octets))
 
--- the octets of a key as words
+-- the octets of a name as words
 unfoldable pub octet_words : List ℕ → List ℕ
 octet_words octets = octet_words_within MOST_WORDS octets
 
--- the words of an observation's key
+-- the words of an observation's name
 abbrev pub words_of : ObservationData → List ℕ
-words_of o = octet_words (key_of o)
+words_of o = octet_words (wire o.name)
 
--- octets that fit in so many words
-pub record IsPackable (octets : List ℕ) : Type 0 where
-  pub bytes : AllByRecursion (λ x. x < 256) octets
-  pub fits : length octets ≤ WORD_OCTETS * MOST_WORDS
+-- a name that words tell
+pub record IsPackable (name : List (List ℕ)) : Type 0 where
+  pub bytes : AllByRecursion (λ x. x < 256) (wire name)
+  pub named : IsName name

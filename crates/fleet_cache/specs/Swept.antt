@@ -21,7 +21,7 @@ pub record IsSwept (m : ℕ) (items rest : List ObservationData) : Type 0 where
   pub size : length rest ≤ length items
 
 -- of the items none was dropped of those that live, whatever lives, where the cut hides just what does
--- not, of those that have the key
+-- not, of those of the name with these words
 abbrev pub IsTrimmed : List ℕ → CutData → List ObservationData → List ObservationData → Type 0
 IsTrimmed words cut items rest = (lives : ObservationData → Bool)
     → ((o : ObservationData) → Has items o → words_of o ≡ words → is_hidden cut o ≡ not (lives o))

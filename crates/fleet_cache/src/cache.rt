@@ -28,9 +28,9 @@ pub struct Stopped {
     pub taken: usize,
 }
 
-/// The undominated observations of a set that are live at a floor: those of a key (the octets of the
-/// name, the kind, the type) in one front, the preferred first, and the fronts in a map by their
-/// keys, seven octets to a word.
+/// The undominated observations of a set that are live at a floor: those of a name in one front, by
+/// kind, then type, then the preferred first, and the fronts in a map by the octets of the names,
+/// seven octets to a word.
 ///
 /// What is held may have ended by the floor, or be withdrawn by a flush that is held: it is shown to
 /// nobody, and a sweep, which goes on at the cursor, drops some of it at each purge. `most` is how

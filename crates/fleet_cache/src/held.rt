@@ -1,12 +1,13 @@
 //! What a cache holds in memory.
 
-ghost use Rattle.std.specs.Prelude.{◌≡◌, [], ◌↔◌, false, length, IsTrue, IfOk, OnErr, MatchOption};
-ghost use Rattle.fleet_name.specs.Name.{IsWire};
+ghost use Rattle.std.specs.Prelude.{◌≡◌, ℕ, List, [], ◌↔◌, false, length, IsTrue, IfOk, OnErr, MatchOption};
+ghost use Rattle.fleet_name.specs.Name.{wire, IsWire};
+ghost use Rattle.fleet_observe.specs.declared.observation.kind.Kind.{Kind};
 ghost use Rattle.fleet_observe.specs.declared.observation.kind.Kind.TheVariants.{NameError, Flush};
 ghost use Rattle.fleet_cache.specs.Cached.{IsCovered};
 ghost use Rattle.fleet_cache.specs.Held.{IsHeld, IsTaken};
-ghost use Rattle.fleet_cache.specs.Keyed.{HasNoKey, IsOfKey};
-ghost use Rattle.fleet_cache.specs.Noted.{HasNone};
+ghost use Rattle.fleet_cache.specs.Keyed.{HasNoKey, IsOfKey, IsOfName};
+ghost use Rattle.fleet_cache.specs.Noted.{HasNone, HasNoneShorter};
 ghost use Rattle.fleet_cache.specs.Swept.{IsTrimmed};
 ghost use Rattle.fleet_cache.specs.Slots.{concat};
 
@@ -14,6 +15,7 @@ use crate::cut::Cut;
 use crate::item::Item;
 use crate::noted::Noted;
 use crate::store::{Fronts, Key, covers, drop_hidden, store};
+use crate::words::pack;
 use fleet_front::Front;
 use fleet_observe::{Kind, Observation};
 use std::alloc::{AllocError, Allocator};
@@ -22,10 +24,9 @@ use std::collections::btree_map::Values;
 use std::marker::Model;
 use std::ops::Bound;
 
-/// The observations that a cache holds in memory: those of a key (the octets of the name, the kind,
-/// the type) in one front, the preferred first, and the fronts in a map by their keys. None
-/// dominates another. `denied` says at which names a name error may stand, `flushed` at which a
-/// flush.
+/// The observations that a cache holds in memory: those of a name in one front, by kind, then type,
+/// then the preferred first, and the fronts in a map by the octets of the names. None dominates
+/// another. `denied` says at which names a name error may stand, `flushed` at which a flush.
 #[derive(Drop)]
 pub(crate) struct Held<A: Allocator> {
     fronts: Fronts<A>,
@@ -79,7 +80,7 @@ impl<A: Allocator> Held<A> {
         store(&mut self.fronts, alloc, observation)
     }
 
-    /// Drops what a cut hides of the front of a key, and the front where nothing is left of it.
+    /// Drops what a cut hides of the front of a name, and the front where nothing is left of it.
     pub(crate) fn trim(&mut self, key: &Key<A>, cut: &Cut)
         ensures { IsTrimmed key.now.items cut.now self.old self.new }
     {
@@ -103,13 +104,45 @@ impl<A: Allocator> Held<A> {
         covers(&self.fronts, observation)
     }
 
-    /// The front of a key, by its words.
+    /// The front of a name, by the words of its key.
     pub(crate) fn front(&self, words: &[u64]) -> Option<&Front<Item<A>, A>>
         ensures found { MatchOption result (HasNoKey self.now words.now)
             (λ f. IsOfKey self.now words.now f.now) }
         ensures own { IsHeld self.now }
     {
         self.fronts.get(words)
+    }
+
+    /// The items of a name, by its octets.
+    pub(crate) fn at(&self, name: &[u8]) -> &[Item<A>]
+        requires { IsWire name.now }
+        ensures of_name { (n : List (List ℕ)) (kind : Kind) → name.now ≡ wire n
+            → IsOfName kind self.now n result.now }
+        ensures own { IsHeld self.now }
+    {
+        let words = pack(name);
+        let Some(front) = self.front(words.as_slice()) else {
+            return &[];
+        };
+        front.items()
+    }
+
+    /// The items of a name, by its octets, where there may be one among them that speaks of the
+    /// names below it too: a name error or a flush.
+    pub(crate) fn heads(&self, name: &[u8]) -> &[Item<A>]
+        requires { IsWire name.now }
+        ensures denials { (n : List (List ℕ)) → name.now ≡ wire n
+            → IsOfName NameError self.now n result.now }
+        ensures flushes { (n : List (List ℕ)) → name.now ≡ wire n
+            → IsOfName Flush self.now n result.now }
+    {
+        if self.may_deny(name) {
+            return self.at(name);
+        }
+        if self.may_flush(name) {
+            return self.at(name);
+        }
+        &[]
     }
 
     /// The fronts, one after another.
@@ -151,5 +184,20 @@ impl<A: Allocator> Held<A> {
         ensures own { IsHeld self.now }
     {
         self.flushed.may_stand(name)
+    }
+    /// Whether a name error may be held of a name of fewer octets.
+    pub(crate) fn may_deny_above(&self, name: &[u8]) -> bool
+        ensures none { result ≡ false → HasNoneShorter NameError (length name.now) self.now }
+        ensures own { IsHeld self.now }
+    {
+        self.denied.may_stand_above(name)
+    }
+
+    /// Whether a flush may be held of a name of fewer octets.
+    pub(crate) fn may_flush_above(&self, name: &[u8]) -> bool
+        ensures none { result ≡ false → HasNoneShorter Flush (length name.now) self.now }
+        ensures own { IsHeld self.now }
+    {
+        self.flushed.may_stand_above(name)
     }
 }

@@ -4,6 +4,7 @@ ghost use Rattle.std.specs.Prelude.{◌≡◌, ◌||◌};
 ghost use Rattle.std.specs.Ordering.{is_eq};
 ghost use Rattle.fleet_observe.specs.Preference.{preference};
 ghost use Rattle.fleet_cache.specs.Dominates.{dominates as over, is_same_key};
+ghost use Rattle.fleet_cache.specs.Row.{row as row_of};
 
 use crate::cut::Cut;
 use fleet_front::Ranked;
@@ -12,8 +13,8 @@ use std::alloc::{Allocator, Global};
 use std::cmp::Ordering;
 use std::marker::Model;
 
-/// An observation as a front ranks it: by its preference, and hidden by a cut, from the moment at
-/// which it ends, or by a flush that is not stamped before it.
+/// An observation as the front of its name ranks it: by kind, then type, then preference, and hidden
+/// by a cut, from the moment at which it ends, or by a flush that is not stamped before it.
 #[derive(Drop)]
 pub struct Item<A: Allocator = Global> {
     observation: Observation<A>,
@@ -76,22 +77,38 @@ fn has_key_of<A: Allocator>(one: &Observation<A>, other: &Observation<A>) -> boo
     one.name().cmp(other.name()).is_eq()
 }
 
+/// How the places of two observations of a name compare: by kind, then type, the least first, then
+/// the preferred first.
+fn row<A: Allocator>(one: &Observation<A>, other: &Observation<A>) -> Ordering
+    ensures { result ≡ row_of one.now other.now }
+{
+    let kinds = other.kind().number().cmp(&one.kind().number());
+    if kinds.is_ne() {
+        return kinds;
+    }
+    let types = other.rtype().cmp(&one.rtype());
+    if types.is_ne() {
+        return types;
+    }
+    one.cmp(other)
+}
+
 impl<A: Allocator> Ranked for Item<A> {
     type Cut = Cut;
 
-    ghost use Rattle.fleet_observe.specs.Preference.{preference};
+    ghost use Rattle.fleet_cache.specs.Row.{row};
     ghost use Rattle.fleet_cache.specs.Dominates.{dominates as is_over};
     ghost use Rattle.fleet_cache.specs.Cut.{is_hidden};
     ghost use Rattle.fleet_cache.specs.Orders.{cut_laws};
 
-    ghost order = { preference };
+    ghost order = { row };
 
     ghost dominates = { is_over };
 
     ghost hidden = { is_hidden };
 
     fn order(&self, other: &Self) -> Ordering {
-        self.observation.cmp(&other.observation)
+        row(&self.observation, &other.observation)
     }
 
     fn dominates(&self, other: &Self) -> bool {

@@ -1,6 +1,6 @@
 //! Where observations may stand that speak of the names below theirs.
 
-ghost use Rattle.std.specs.Prelude.{◌≡◌, ◌≤◌, false, List, [], ◌∷◌, get_or, length};
+ghost use Rattle.std.specs.Prelude.{◌≡◌, ◌≤◌, ◌<◌, false, List, [], ◌∷◌, get_or, length, nat_lt};
 ghost use Rattle.fleet_name.specs.declared.bounds.TheConstants.{LONGEST_NAME};
 ghost use Rattle.fleet_observe.specs.Observation.{ObservationData, IsObservation};
 ghost use Rattle.fleet_observe.specs.declared.observation.kind.Kind.{Kind};
@@ -15,19 +15,21 @@ use std::marker::Model;
 const LENGTHS: usize = LONGEST_NAME + 1;
 
 /// How many octets the names have of which observations of a kind were taken in: where none was
-/// noted of a length, no name of that length need be looked up for one. A length stays noted when
-/// its observations have gone.
+/// noted of a length, no name of that length need be looked up for one, and where none was noted of
+/// fewer octets than a name has, none of the names above it. A length stays noted when its
+/// observations have gone.
 #[derive(Drop)]
 pub(crate) struct Noted {
     lengths: [bool; LENGTHS],
+    least: usize,
 }
 
 impl Model for Noted {
-    ghost use Rattle.std.specs.Prelude.{List, Bool};
+    ghost use Rattle.fleet_cache.specs.Noted.{NotedData};
 
-    ghost Value = { List Bool };
+    ghost Value = { NotedData };
 
-    ghost view = { λ d. d.lengths };
+    ghost view = { λ d. record { lengths = d.lengths; least = d.least } };
 }
 
 impl Noted {
@@ -37,6 +39,7 @@ impl Noted {
     {
         Noted {
             lengths: [false; LENGTHS],
+            least: LENGTHS,
         }
     }
 
@@ -47,15 +50,24 @@ impl Noted {
         ensures lawful { IsObservation observation.now }
     {
         if observation.kind() == kind {
-            self.lengths[observation.name().octets().len()] = true;
+            let length = observation.name().octets().len();
+            self.lengths[length] = true;
+            self.least = self.least.min(length);
         }
     }
 
     /// Whether an observation was noted of a name of as many octets.
     pub(crate) fn may_stand(&self, name: &[u8]) -> bool
         requires { length name.now ≤ LONGEST_NAME }
-        ensures { result ≡ get_or self.now (length name.now) false }
+        ensures { result ≡ get_or self.now.lengths (length name.now) false }
     {
         self.lengths[name.len()]
+    }
+
+    /// Whether an observation was noted of a name of fewer octets.
+    pub(crate) fn may_stand_above(&self, name: &[u8]) -> bool
+        ensures { result ≡ nat_lt self.now.least (length name.now) }
+    {
+        self.least < name.len()
     }
 }

@@ -1,51 +1,35 @@
-//! A map from keys to fronts.
+//! A map from names to fronts.
 
 ghost use Rattle.std.specs.Prelude.{◌≡◌, ℕ, Bool, ◌≤◌, ◌↔◌, [], ◌∷◌, length, IsTrue, OnErr, IfOk};
-ghost use Rattle.fleet_name.specs.declared.bounds.TheConstants.{LONGEST_NAME};
-ghost use Rattle.fleet_observe.specs.Observation.{key_of};
-ghost use Rattle.fleet_observe.specs.Preference.{preference};
 ghost use Rattle.fleet_cache.specs.Front.{IsFront};
 ghost use Rattle.fleet_cache.specs.Dominates.{dominates};
-ghost use Rattle.fleet_cache.specs.Cached.{key_with, is_covered, IsCovered};
-ghost use Rattle.fleet_cache.specs.Packed.{octet_words, words_of, IsPackable};
+ghost use Rattle.fleet_cache.specs.Row.{row};
+ghost use Rattle.fleet_cache.specs.Cached.{is_covered, IsCovered};
+ghost use Rattle.fleet_cache.specs.Packed.{words_of, IsPackable};
 ghost use Rattle.fleet_cache.specs.Slots.{items_of, IsLaid, IsPut};
 ghost use Rattle.fleet_cache.specs.Swept.{IsTrimmed};
 
 use crate::cut::Cut;
 use crate::item::Item;
-use crate::words::{MOST_WORDS, key_octets, pack};
+use crate::words::{MOST_WORDS, pack};
 use arrayvec::ArrayVec;
 use fleet_front::Front;
-use fleet_observe::{Kind, Observation};
+use fleet_observe::Observation;
 use std::alloc::{AllocError, Allocator};
 use std::collections::BTreeMap;
 
-/// The words of a key.
+/// A key: the words of a name's octets.
 pub(crate) type Key<A> = Vec<u64, A>;
 
-/// The fronts of a cache, by the words of their keys.
+/// The fronts of a cache, by the names of their items.
 pub(crate) type Fronts<A> = BTreeMap<Key<A>, Front<Item<A>, A>, A>;
 
-/// The words of a key on the stack.
-pub(crate) fn key_words(name: &[u8], kind: Kind, rtype: u16) -> ArrayVec<u64, MOST_WORDS>
-    requires { length name.now ≤ LONGEST_NAME }
-    ensures words { result.items ≡ octet_words (key_with name.now kind rtype) }
-    ensures packable { IsPackable (key_with name.now kind rtype) }
-{
-    let octets = key_octets(name, kind, rtype);
-    pack(octets.as_slice())
-}
-
-/// The words of an observation's key.
+/// The words of an observation's name, on the stack.
 fn words_of_observation<A: Allocator>(observation: &Observation<A>) -> ArrayVec<u64, MOST_WORDS>
     ensures words { result.items ≡ words_of observation.now }
-    ensures packable { IsPackable (key_of observation.now) }
+    ensures packable { IsPackable observation.now.name }
 {
-    key_words(
-        observation.name().octets(),
-        observation.kind(),
-        observation.rtype(),
-    )
+    pack(observation.name().octets())
 }
 
 /// Whether an observation is one of the items, or one of them dominates it.
@@ -67,7 +51,7 @@ fn covers_in<A: Allocator>(items: &[Item<A>], observation: &Observation<A>) -> b
     items.iter().any(|held| held.covers(observation))
 }
 
-/// Takes an observation into the front of its key.
+/// Takes an observation into the front of its name.
 pub(crate) fn store<A: Allocator + Copy>(
     fronts: &mut Fronts<A>,
     alloc: A,
@@ -89,7 +73,7 @@ pub(crate) fn store<A: Allocator + Copy>(
     Ok(true)
 }
 
-/// Drops what a cut hides of the front of a key, and the front where nothing is left of it.
+/// Drops what a cut hides of the front of a name, and the front where nothing is left of it.
 pub(crate) fn drop_hidden<A: Allocator>(fronts: &mut Fronts<A>, key: &Key<A>, cut: &Cut)
     requires { IsLaid (λ k. k.items) fronts.old.entries }
     ensures laid { IsLaid (λ k. k.items) fronts.new.entries }
@@ -110,7 +94,7 @@ fn front_of<A: Allocator>(
     alloc: A,
     observation: Observation<A>,
 ) -> Result<Front<Item<A>, A>, AllocError>
-    ensures front { IfOk result (IsFront preference dominates (observation ∷ [])) }
+    ensures front { IfOk result (IsFront row dominates (observation ∷ [])) }
     ensures size { IfOk result (λ front. length front ≤ 1) }
 {
     let mut front = Front::new(alloc);

@@ -79,7 +79,7 @@ pub(crate) fn sweep<A: Allocator>(held: &mut Held<A>, cursor: &mut Cursor<A>, mo
     }
 }
 
-/// Drops what is not live at the moment of the front of a key.
+/// Drops what is not live at the moment of the front of a name.
 fn trim<A: Allocator>(held: &mut Held<A>, key: &Key<A>, moment: Moment)
     ensures swept { IsSwept moment held.old held.new }
 {

@@ -1,24 +1,17 @@
-//! Keys as words: a map compares a few words faster than many octets.
+//! Names as words: a map compares a few words faster than many octets.
 
 ghost use Rattle.std.specs.Prelude.{◌≡◌, ◌<◌, ◌≤◌, ◌*◌, length};
 ghost use Rattle.std.specs.List.{AllByRecursion};
-ghost use Rattle.fleet_name.specs.declared.bounds.TheConstants.{LONGEST_NAME};
 ghost use Rattle.fleet_cache.specs.declared.words.TheConstants.{MOST_WORDS, WEIGHTS, WORD_OCTETS};
-ghost use Rattle.fleet_cache.specs.Cached.{key_with};
 ghost use Rattle.fleet_cache.specs.Packed.{weigh, octet_words};
 
 use arrayvec::ArrayVec;
-use fleet_name::bounds::LONGEST_NAME;
-use fleet_observe::Kind;
 
 /// How many octets a word has at most.
 pub(crate) const WORD_OCTETS: usize = 7;
 
-/// The most words of a key.
+/// The most words of a name.
 pub(crate) const MOST_WORDS: usize = 37;
-
-/// The most octets of a key: those of the longest name, one of the kind and two of the type.
-const LONGEST_KEY: usize = LONGEST_NAME + 3;
 
 /// The powers of 257 from the sixth one down: an octet and 1 is a digit, and 0 stands where there
 /// are no more octets.
@@ -31,21 +24,6 @@ const WEIGHTS: [u64; WORD_OCTETS] = [
     257,
     1,
 ];
-
-/// The octets of a key on the stack: those of the name, the kind, the type in two octets.
-pub(crate) fn key_octets(name: &[u8], kind: Kind, rtype: u16) -> ArrayVec<u8, LONGEST_KEY>
-    requires { length name.now ≤ LONGEST_NAME }
-    ensures { result.items ≡ key_with name.now kind rtype }
-{
-    let mut key = ArrayVec::new();
-    if key.try_extend_from_slice(name).is_err() {
-        return key;
-    }
-    key.push(kind.number());
-    key.push((rtype / 256) as u8);
-    key.push((rtype % 256) as u8);
-    key
-}
 
 /// Octets as words, `WORD_OCTETS` to a word, that compare as the octets do.
 pub(crate) fn pack(octets: &[u8]) -> ArrayVec<u64, MOST_WORDS>

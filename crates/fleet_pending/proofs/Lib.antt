@@ -4,11 +4,9 @@ pub mod Keeping
 pub mod FreeId
 pub mod FirstDue
 pub mod Table
-pub mod Undone
+pub mod QueryId
 pub mod Refused
 pub mod Settled
-pub mod NewEntry
 pub mod Waiting
-pub mod Sent
 pub mod DueCount
 pub mod Unchanged

@@ -19,10 +19,6 @@ at_push (z ∷ xs) zero y x h = inl h
 at_push (z ∷ xs) (suc j) y x h =
     elim (at_push xs j y x h) [ inl p ↦ inl p | inr p ↦ inr (ap (λ n. suc n) p.0, p.1) ]
 
-pub last_at : {X : Type 0} (xs : List X) (y : X) → At (xs ++ y ∷ []) (length xs) y
-last_at [] y = refl
-last_at (x ∷ xs) y = last_at xs y
-
 -- what is left after one is taken out stood before it or after it
 pub at_remove : {X : Type 0} (xs : List X) (i j : ℕ) (x : X) → At (remove xs i) j x
     → (k : ℕ) × At xs k x × (j < i → k ≡ j) × (i ≤ j → k ≡ j + 1)

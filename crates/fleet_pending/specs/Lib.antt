@@ -5,8 +5,7 @@ pub mod Asking
 pub mod Due
 pub mod Calls
 pub mod Refusal
-pub mod Undone
+pub mod QueryId
 pub mod Settled
-pub mod NewEntry
 pub mod Waiting
 pub mod DueCount

@@ -1,10 +1,9 @@
 //! Laws of the table. Their functions do nothing when run.
 
 ghost use Rattle.fleet_pending.specs.Refusal.{RefusesExactly};
-ghost use Rattle.fleet_pending.specs.Undone.{IsUndone};
+ghost use Rattle.fleet_pending.specs.QueryId.{AskedUnderIdTold};
 ghost use Rattle.fleet_pending.specs.Calls.{EachAsOften};
 ghost use Rattle.fleet_pending.specs.DueCount.{CountsDue};
-ghost use Rattle.fleet_pending.specs.NewEntry.{OpensLast};
 ghost use Rattle.fleet_pending.specs.Settled.{SettlesItsEntry};
 ghost use Rattle.fleet_pending.specs.Waiting.{WaitersStay};
 
@@ -20,19 +19,15 @@ pub fn waiters_kept()
     ensures { EachAsOften }
 {}
 
-/// A new entry that is given back at once leaves the table as it was before it was asked.
-pub fn settling_undoes_asking()
-    ensures { IsUndone }
+/// Where `query_id` tells an id, asking answers a query under it to the first upstream, or no memory;
+/// where it tells none, asking sends none.
+pub fn queries_have_the_id_told()
+    ensures { AskedUnderIdTold }
 {}
 
 /// Where an entry has an id, settling under it gives back that entry and takes out no other.
 pub fn settling_gives_its_entry()
     ensures { SettlesItsEntry }
-{}
-
-/// A new entry stands last, alone under its id, and the asker is its first waiter.
-pub fn new_entry_is_last()
-    ensures { OpensLast }
 {}
 
 /// Who waits after a call waited before it, or is the one who asked.

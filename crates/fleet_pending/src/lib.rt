@@ -16,8 +16,8 @@ mod waiters;
 pub use answer::{Asked, Due, PendingFault, Unasked};
 pub use entry::Entry;
 pub use laws::{
-    new_entry_is_last, refusals_are_exact, serving_leaves_fewer_due, settling_gives_its_entry,
-    settling_undoes_asking, waiters_kept, waiters_stay,
+    queries_have_the_id_told, refusals_are_exact, serving_leaves_fewer_due,
+    settling_gives_its_entry, waiters_kept, waiters_stay,
 };
 pub use pending::Pending;
 pub use waiter::{Addr, Waiter};

@@ -3,6 +3,7 @@
 ghost use Rattle.std.specs.Prelude.{◌≡◌, ◌<◌, ◌≤◌, [], IfErr, IfSome, OnErr, MatchOption, option_copied, IsTrue, ◌↔◌};
 ghost use Rattle.fleet_pending.specs.Asking.{Asks, Opens, Settles, Advances, ask_result, with_next_upstream};
 ghost use Rattle.fleet_pending.specs.Due.{Dues, due_at, due_entry};
+ghost use Rattle.fleet_pending.specs.QueryId.{TellsId};
 ghost use Rattle.fleet_pending.specs.PendingData.{UsesId, AsksFor, Matches, IsEntryData, IsPendingData};
 ghost use Rattle.fleet_pending.specs.declared.bounds.TheConstants.{MOST_UPSTREAMS};
 ghost use Rattle.fleet_wire.specs.declared.class.TheConstants.{IN};
@@ -75,6 +76,22 @@ impl<A: Allocator> Pending<A> {
             Some(i) => join(&mut self.entries[i], waiter),
             None => add_entry(&mut self.entries, waiter, moment, word),
         }
+    }
+
+    /// The id of the query that asking would send now, with the same word; `None` where an entry
+    /// has the question's name and type, or 256 are open.
+    pub fn query_id(&self, question: &Question<A>, word: u16) -> Option<u16>
+        ensures tells { TellsId self.now question.now word result }
+        ensures lawful { IsPendingData self.now }
+    {
+        if place_of_question(self.entries.as_slice(), question).is_some() {
+            return None;
+        }
+        if self.entries.len() >= MOST_ENTRIES {
+            return None;
+        }
+        let id = first_free_id(self.entries.as_slice(), word);
+        Some(id)
     }
 
     /// The entry with an id.

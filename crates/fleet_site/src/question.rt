@@ -1,31 +1,29 @@
 //! What a miss makes of the table of open questions.
 
-ghost use Rattle.std.specs.Prelude.{◌≡◌, ◌<◌, ◌≤◌, ℕ, ⊤, List, IfOk, IfErr, OnErr};
+ghost use Rattle.std.specs.Prelude.{◌≡◌, ◌<◌, ◌≤◌, ⊤, List, IfOk, IfErr, OnErr};
+ghost use Rattle.fleet_wire.specs.Query.{query_octets};
 ghost use Rattle.fleet_wire.specs.declared.class.TheConstants.{IN};
 ghost use Rattle.fleet_observe.specs.Observation.{ObservationData};
 ghost use Rattle.fleet_cache.specs.Cached.{IsCached};
 ghost use Rattle.fleet_pending.specs.Asking.{Asks, ask_result};
-ghost use Rattle.fleet_pending.specs.PendingData.{EntryData, UsesId};
-ghost use Rattle.fleet_name.specs.Places.{At};
-ghost use Rattle.fleet_site.specs.Carried.{Keeps, IsAskable, IsAnswered, TurnsAway, IsQueryOf};
-ghost use Rattle.fleet_site.specs.OutcomeData.{outcome_data};
+ghost use Rattle.fleet_site.specs.Carried.{Keeps, IsAskable, IsAnswered, TurnsAway, IsFirstSaid};
+ghost use Rattle.fleet_site.specs.OutcomeData.{outcome_data, sends};
 ghost use Rattle.fleet_site.specs.Question.{Reacts, Forwards, Questioned, turns_away};
-ghost use Rattle.fleet_site.specs.Table.{IsTableOf, KeepsTable, AskClassOne};
+ghost use Rattle.fleet_site.specs.Table.{IsTableOf, KeepsTable};
 ghost use Rattle.fleet_site.specs.Verdict.{IsAsking, verdict};
 
 use crate::config::addr_of;
 use crate::outcome::{Outcome, Refusal, SiteFault};
-use crate::query::entry_query;
 use crate::verdict::{Decision, decide};
 use crate::writing::reply_without;
 use fleet_cache::Cache;
+use fleet_name::Octets;
 use fleet_observe::Moment;
 use fleet_pending::{
-    Addr, Asked, Pending, PendingFault, Unasked, Waiter, new_entry_is_last, settling_undoes_asking,
-    waiters_stay,
+    Addr, Asked, Pending, PendingFault, Unasked, Waiter, queries_have_the_id_told, waiters_stay,
 };
 use fleet_wire::rcode::{REFUSED, SERVER_FAILURE};
-use fleet_wire::{Header, Question};
+use fleet_wire::{Header, Question, write_query};
 use std::alloc::{AllocError, Allocator};
 
 /// When a question came, from whom, and where the search for the id of its query begins.
@@ -94,7 +92,7 @@ fn react<A: Allocator + Copy>(
     }
 }
 
-/// A miss goes to the table, and a new entry's query to its upstream.
+/// A miss goes to the table, and a new entry's query, which is written before, to its upstream.
 fn forward<A: Allocator + Copy>(
     alloc: A,
     pending: &mut Pending<A>,
@@ -110,29 +108,46 @@ fn forward<A: Allocator + Copy>(
         arrival.word header question) ⊤ pending.old result pending.new }
     ensures table { KeepsTable pending.old pending.new }
 {
+    queries_have_the_id_told();
+    let outcome = first_outcome(alloc, pending, upstreams, arrival.word, &question)?;
     let from = arrival.from;
     let id = header.id;
     let waiter = Waiter { from, id, question };
-    let asked = match enter(pending, waiter, arrival) {
-        Ok(asked) => asked,
-        Err(unasked) => return turn_away(alloc, from, header, unasked),
-    };
-    new_entry_is_last();
-    match asked {
-        Asked::Again => Ok(Outcome::without_packets(alloc, 0, None)),
-        Asked::Joined => Ok(Outcome::without_packets(alloc, 0, None)),
-        Asked::Send { upstream, id } => {
-            let to = addr_of(upstreams, upstream);
-            match query_for(alloc, pending, to, id) {
-                Ok(outcome) => Ok(outcome),
-                Err(_) => {
-                    let _ = pending.settle(id);
-                    settling_undoes_asking();
-                    Err(SiteFault::OutOfMemory { taken: 0 })
-                }
-            }
-        }
+    match enter(pending, waiter, arrival) {
+        Ok(_) => Ok(outcome),
+        Err(unasked) => turn_away(alloc, from, header, unasked),
     }
+}
+
+/// What is sent where a waiter for the question is taken: where it opens an entry, the query.
+fn first_outcome<A: Allocator + Copy>(
+    alloc: A,
+    pending: &Pending<A>,
+    upstreams: &[Addr],
+    word: u16,
+    question: &Question<A>,
+) -> Result<Outcome<A>, AllocError>
+    requires { IsTableOf upstreams.now pending.now }
+    ensures { IfOk result (λ o.
+        IsFirstSaid upstreams.now pending.now word question.now (outcome_data o)) }
+{
+    match pending.query_id(question, word) {
+        Some(id) => query_for(alloc, addr_of(upstreams, 0), id, question),
+        None => Ok(Outcome::without_packets(alloc, 0, None)),
+    }
+}
+
+/// The query with an id for a question.
+fn query_for<A: Allocator + Copy>(
+    alloc: A,
+    to: Addr,
+    id: u16,
+    question: &Question<A>,
+) -> Result<Outcome<A>, AllocError>
+    ensures { IfOk result (λ o. outcome_data o ≡ sends to (query_octets id question.now)) }
+{
+    let octets = Octets::new(write_query(alloc, id, question)?);
+    Outcome::with_packet(alloc, to, octets, None)
 }
 
 /// A waiter asks, and as its question is of class 1 (IN), all that wait still asked for class 1.
@@ -150,26 +165,6 @@ fn enter<A: Allocator + Copy>(
 {
     waiters_stay();
     pending.ask(waiter, arrival.clock, arrival.word)
-}
-
-/// The query for the entry with an id.
-fn query_for<A: Allocator + Copy>(
-    alloc: A,
-    pending: &Pending<A>,
-    to: Addr,
-    id: u16,
-) -> Result<Outcome<A>, AllocError>
-    requires there { (i : ℕ) × ((e : EntryData) × At pending.now.entries i e × UsesId id e) }
-    requires class { AskClassOne pending.now }
-    ensures { IfOk result (λ o. IsQueryOf pending.now to id (outcome_data o)) }
-{
-    match pending.entry(id) {
-        Some(entry) => {
-            let octets = entry_query(alloc, id, entry)?;
-            Outcome::with_packet(alloc, to, octets, None)
-        }
-        None => unreachable!(),
-    }
 }
 
 /// The reply to a waiter that was not taken.

@@ -6,7 +6,8 @@ use crate::observations::{
 use crate::rows::{Row, Words, check_told, is_row, push_octets, read_row};
 use fleet_cache::{Answer, Cache, Chain, Shown};
 use fleet_gossip::{decode, sweep};
-use fleet_observe::Observation;
+use fleet_observe::{Moment, Observation};
+use fleet_wire::Question;
 use linked_list_allocator::LocalHeap;
 use std::alloc::Global;
 use std::mem::swap;
@@ -56,13 +57,34 @@ fn push_answer(told: &mut String, answer: &Answer<'_, &LocalHeap>) -> Result<(),
     }
 }
 
+/// Whether the question, lent, is answered as it is, which was told.
+fn check_lent(
+    caches: &Caches<'_>,
+    question: &Question,
+    moment: Moment,
+    told: &str,
+) -> Result<(), Fail> {
+    let mut other = String::new(caches.global);
+    push_answer(
+        &mut other,
+        &caches.ours.answer_lent(&question.lend(), moment),
+    )?;
+    if told.ends_with(other.as_str()) {
+        Ok(())
+    } else {
+        Err("another answer".into())
+    }
+}
+
 /// What the cache answers to a question for a name and a type at a moment.
 fn tell_answer(caches: &Caches<'_>, mut words: Words<'_>, told: &mut String) -> Result<(), Fail> {
     let name = words.word();
     let rtype = words.word().parse()?;
     let moment = moment_of(words.word())?;
     let question = question_of(caches.global, name, rtype, 1)?;
-    push_answer(told, &caches.ours.answer(&question, moment))
+    let answer = caches.ours.answer(&question, moment);
+    push_answer(told, &answer)?;
+    check_lent(caches, &question, moment, told)
 }
 
 /// Adds the name, type, rank and TTL that is shown of an observation.

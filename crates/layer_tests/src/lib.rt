@@ -17,6 +17,8 @@ mod frames;
 #[cfg(test)]
 mod fronts;
 #[cfg(test)]
+mod in_place;
+#[cfg(test)]
 mod made;
 #[cfg(test)]
 mod messages;

@@ -1,9 +1,10 @@
 //! Messages that are cut off, or say what is not so, and replies that are written in each way.
 
+use crate::in_place::{check_in_place, written_twice};
 use crate::rows::{Words, octets_of, push_octets};
 use crate::tables::check_rows;
 use fleet_name::Name;
-use fleet_wire::{Message, Outline, ReadFault, plain_rdata, read_query, read_reply, write_reply};
+use fleet_wire::{Message, Outline, ReadFault, plain_rdata, read_query, read_reply};
 use std::alloc::Global;
 use std::process::Abort;
 use std::test::Fail;
@@ -48,6 +49,7 @@ fn push_query(alloc: Global, message: &[u8], told: &mut String) -> Result<(), Fa
 
 /// Adds what a message asks for, and what it has as a reply.
 pub(crate) fn push_both(alloc: Global, message: &[u8], told: &mut String) -> Result<(), Fail> {
+    check_in_place(alloc, message)?;
     push_query(alloc, message, told)?;
     told.push_str(" ")?;
     push_reply(alloc, message, told)
@@ -233,7 +235,7 @@ fn written<'a>(
     let mut outline = Outline::new(alloc, 7, opcode % 16, false, rcode % 16, false, None);
     add_answers(&mut outline, root, answer)?;
     add_authorities(&mut outline, root, authority)?;
-    Ok(write_reply(alloc, &outline)?)
+    written_twice(alloc, &outline)
 }
 
 /// A reply without question, by its opcode, its RCODE, and the RDATAs of its two sections, TXT

@@ -49,6 +49,21 @@ fn ask(
     }
 }
 
+/// The identifier of the query that asking would send: the question, and a word.
+fn tell_query_id(
+    alloc: Global,
+    table: &Pending,
+    mut words: Words<'_>,
+    told: &mut String,
+) -> Result<(), Fail> {
+    let question = question_in(alloc, &mut words)?;
+    let word = words.word().parse()?;
+    match table.query_id(&question, word) {
+        Some(id) => Ok(write!(told, "{id}")?),
+        None => Ok(told.push_str("none")?),
+    }
+}
+
 /// Whether an entry waits for this reply: its upstream, identifier and question.
 fn tell_found(
     alloc: Global,
@@ -136,6 +151,7 @@ fn tell(
 ) -> Result<(), Fail> {
     match call {
         "ask" => push_asked(told, ask(alloc, table, words)?),
+        "query_id" => tell_query_id(alloc, table, words, told),
         "find" => tell_found(alloc, table, words, told),
         "settle" => settle(table, words, told),
         "due" => tell_due(alloc, table, words, told),
@@ -190,6 +206,24 @@ settle 4660 => none";
     check_calls(&rt, rt.alloc(), &mut table, rows)
 }
 
+#[test]
+fn the_identifier_of_a_query_is_known_before_it_is_asked(rt: HostRuntime) -> Result<(), Fail> {
+    let rows = "
+query_id 0000 1 4660 => 4660
+ask 0000 1 6001 7 100 4660 => send 0 4660
+query_id 0000 1 4660 => none
+query_id 0000 3 9 => none
+ask 0000 1 6002 8 100 9 => joined
+query_id 0001 1 4660 => 4661
+query_id 0001 1 9 => 9
+ask 0001 1 6001 7 100 4660 => send 0 4661
+query_id 0002 1 4660 => 4662
+settle 4660 => 6001/7;6002/8;
+query_id 0000 1 4660 => 4660";
+    let mut table = Pending::new(rt.alloc(), 2);
+    check_calls(&rt, rt.alloc(), &mut table, rows)
+}
+
 /// Asks so many questions, with the greatest word: the identifiers go on behind it from zero.
 fn check_questions(
     rt: &impl Abort,
@@ -208,6 +242,7 @@ fn check_questions(
 #[test]
 fn at_most_256_are_open(rt: HostRuntime) -> Result<(), Fail> {
     let rows = "
+query_id 0256 1 65535 => none
 ask 0256 1 6001 7 100 65535 => Full
 ask 0255 1 6002 7 100 65535 => joined
 due 101 => none

@@ -1,6 +1,7 @@
 //! Tables of what is asked of names, messages and replies, and what they tell.
 
 use crate::captures::{tell_asked, tell_rdata, tell_relayed, tell_rewritten};
+use crate::in_place::tell_in_place;
 use crate::made::{tell_denial, tell_flush, tell_records};
 use crate::messages::{tell_changed, tell_outline, tell_padded, tell_plain, tell_query};
 use crate::names::{
@@ -29,6 +30,7 @@ fn tell(alloc: Global, call: &str, words: Words<'_>, told: &mut String) -> Resul
         "padded" => tell_padded(alloc, words, told),
         "outline" => tell_outline(alloc, words, told),
         "plain" => tell_plain(alloc, words, told),
+        "place" => tell_in_place(alloc, words, told),
         "reply" => tell_rewritten(alloc, words, told),
         "relayed" => tell_relayed(alloc, words, told),
         "asked" => tell_asked(alloc, words, told),

@@ -2,8 +2,15 @@ use Rattle.std.proofs.Common.{arith}
 use Rattle.fleet_observe.specs.declared.observation.kind.Kind.TheVariants.{Flush}
 use Rattle.fleet_cache.specs.Live.{lasts}
 use Rattle.fleet_cache.specs.Best.{referent}
-use Rattle.fleet_cache.proofs.Climbing.{parent_wired, parent_shorter, at_root, one_up}
+use Rattle.fleet_cache.proofs.Climbing.{parent_wired, parent_shorter, above_longer, at_top, at_root, one_up}
 use Rattle.fleet_cache.proofs.lookup.+flush_above.Goals as goal
+
+pub returns-then-not-may_flush_above-clause-best : goal.returns-then-not-may_flush_above-clause-best
+returns-then-not-may_flush_above-clause-best g k c n e =
+    at_top (lasts c.args.moment) Flush c.args.held.now n (referent c.flush_at-here.result)
+    (λ o h of_kind under. above_longer n o.name c.args.name.now e under
+    (c.may_flush_above.ensures.none c.if-not-may_flush_above.true o h of_kind))
+    (c.flush_at-here.ensures.best n e)
 
 pub returns-in_default-clause-best : goal.returns-in_default-clause-best
 returns-in_default-clause-best g k c n e =

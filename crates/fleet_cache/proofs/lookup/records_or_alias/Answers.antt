@@ -6,23 +6,23 @@ use Rattle.fleet_cache.proofs.Best.{best_or, best_same}
 use Rattle.fleet_cache.proofs.lookup.records_or_alias.Goals as goal
 
 pub returns-then-rtype-eq-CNAME : goal.returns-then-rtype-eq-CNAME
-returns-then-rtype-eq-CNAME g c n lives e shows =
+returns-then-rtype-eq-CNAME g c items n lives of shows =
     let q = c.args.rtype in
     best_same (IsOn lives n Positive q) (λ o. IsOn lives n Positive q o ⊎ IsOn lives n Positive CNAME o)
-    c.args.held.now (referent c.look-records.result)
+    items (referent c.look-records.result)
     (λ o h k. inl k)
     (λ o h k. elim k [
       | inl here ↦ here
       | inr alias ↦
           subst (λ v. IsOn lives n Positive v o) (sym c.if-rtype-eq-CNAME.true) alias
     ])
-    (c.look-records.ensures.best n lives e shows)
+    (c.look-records.ensures items n lives of shows)
 
 pub returns : goal.returns
-returns g c n lives e shows =
+returns g c items n lives of shows =
     let q = c.args.rtype in
     subst (IsBest (λ o. IsOn lives n Positive q o ⊎ IsOn lives n Positive CNAME o)
-    c.args.held.now) (sym c.better_of.ensures)
+    items) (sym c.better_of.ensures)
     (best_or (IsOn lives n Positive q) (IsOn lives n Positive CNAME)
-    c.args.held.now _ _ (c.look-records.ensures.best n lives e shows)
-    (c.look.ensures.best n lives e shows))
+    items _ _ (c.look-records.ensures items n lives of shows)
+    (c.look.ensures items n lives of shows))

@@ -4,10 +4,11 @@ use Rattle.std.specs.Ordering.{is_eq}
 use Rattle.std.proofs.lemmas.Result.{on_err_weaker}
 use Rattle.std.proofs.lemmas.Map.Steps.{set_value_same}
 use Rattle.fleet_front.specs.Front.{IsFront as IsFrontOf, IsCovered as IsCoveredBy}
-use Rattle.fleet_observe.specs.Observation.{ObservationData, key_of}
+use Rattle.fleet_observe.specs.Observation.{ObservationData}
 use Rattle.fleet_cache.specs.Packed.{words_of, IsPackable}
-use Rattle.fleet_observe.specs.Preference.{preference, octets_cmp}
+use Rattle.fleet_observe.specs.Preference.{octets_cmp}
 use Rattle.fleet_cache.specs.Dominates.{dominates}
+use Rattle.fleet_cache.specs.Row.{row}
 use Rattle.fleet_cache.specs.Slots.{IsLaid, IsPut}
 use Rattle.fleet_cache.proofs.Slots.{slot_of_key, put_edited, put_entered}
 use Rattle.fleet_cache.proofs.Looked.{none_covers, covered_there}
@@ -17,11 +18,11 @@ use Rattle.fleet_cache.proofs.store.store.Goals as goal
 -- the front that the map had was changed in place
 module _ {K : Type 0} (octets : K → List ℕ) (es new : List (K × List ObservationData))
     (f g : List ObservationData) (x : ObservationData) (q : List ℕ) (same : q ≡ words_of x)
-    (fits : IsPackable (key_of x)) (laid : IsLaid octets es)
+    (fits : IsPackable x.name) (laid : IsLaid octets es)
     (is : new ≡ set_value (λ k. is_eq (octets_cmp q (octets k))) es g)
     (found : Some f ≡ lookup (λ k. is_eq (octets_cmp q (octets k))) es) {E : Type 0} where
   put_in_place : (r : Result Bool E) → ((s : List ObservationData)
-      → IsFrontOf preference dominates s f → OnOk r (IsFrontOf preference dominates (x ∷ s) g))
+      → IsFrontOf row dominates s f → OnOk r (IsFrontOf row dominates (x ∷ s) g))
       → IfOk r (λ kept. (kept ≡ false) ↔ IsCoveredBy dominates f x) → length g ≤ length f + 1
       → IfOk r (IsPut octets es new x)
   put_in_place (Err e) taken told size = told
@@ -44,8 +45,8 @@ returns-in-Some-clause-put g c = put_in_place (λ k. k.items) c.args.fronts.now.
     c.args.observation c.as_slice.result.now (c.as_slice.ensures.value
     ∙ c.words_of_observation-words.ensures.words) c.words_of_observation-words.ensures.packable
     c.requires (c.get_mut.follows.holds c.take.new.self).0 c.in-Some.ensures.value c.take.result
-    (subst (λ v. (s : List ObservationData) → IsFrontOf preference dominates s c.in-Some.front.now
-    → OnOk c.take.result (IsFrontOf preference dominates (v ∷ s) c.take.new.self)) c.new.ensures
+    (subst (λ v. (s : List ObservationData) → IsFrontOf row dominates s c.in-Some.front.now
+    → OnOk c.take.result (IsFrontOf row dominates (v ∷ s) c.take.new.self)) c.new.ensures
     c.take.ensures.taken) (subst (λ v. IfOk c.take.result
     (λ kept. (kept ≡ false) ↔ IsCoveredBy dominates c.in-Some.front.now v)) c.new.ensures
     c.take.ensures.kept) c.take.ensures.size

@@ -1,0 +1,36 @@
+-- The id of the query that asking would send.
+use Rattle.std.specs.Prelude.{◌≡◌, ◌≢◌, ◌⊎◌, ℕ, ◌<◌, ◌≤◌, Option, Some, None, Result, Ok, Err, length}
+use Rattle.fleet_wire.specs.Question.{QuestionData}
+use Rattle.fleet_pending.specs.Waiter.{WaiterData}
+use Rattle.fleet_pending.specs.Asking.{Asks}
+use Rattle.fleet_pending.specs.FreeId.{IsFirstFree}
+use Rattle.fleet_pending.specs.PendingData.{EntryData, PendingData, AsksFor}
+use Rattle.fleet_pending.specs.declared.bounds.TheConstants.{MOST_ENTRIES}
+use Rattle.fleet_name.specs.Places.{At, NoneIs}
+use Rattle.fleet_pending.specs.declared.answer.Asked.{Asked}
+use Rattle.fleet_pending.specs.declared.answer.Asked.TheVariants.{Send}
+use Rattle.fleet_pending.specs.declared.answer.PendingFault.{PendingFault}
+use Rattle.fleet_pending.specs.declared.answer.PendingFault.TheVariants.{OutOfMemory}
+
+-- the question is new and there is room for it: the first id that no entry has; or an entry has the
+-- question, or MOST_ENTRIES are open
+abbrev pub TellsId : PendingData → QuestionData → ℕ → Option ℕ → Type 0
+TellsId o q word (Some id) =
+    NoneIs (AsksFor q) o.entries × (length o.entries < MOST_ENTRIES)
+    × IsFirstFree word o.entries id
+TellsId o q word None =
+    ((i : ℕ) × ((e : EntryData) × At o.entries i e × AsksFor q e))
+    ⊎ (MOST_ENTRIES ≤ length o.entries)
+
+-- with an id, asking sends the query under it to the first upstream, or finds no memory; with none
+-- it sends no query
+abbrev pub IsAskedUnder : Option ℕ → Result Asked PendingFault → Type 0
+IsAskedUnder (Some id) r = (r ≡ Ok (Send 0 id)) ⊎ (r ≡ Err OutOfMemory)
+IsAskedUnder None r = (upstream id : ℕ) → r ≢ Ok (Send upstream id)
+
+-- so it is with the id that is told
+abbrev pub AskedUnderIdTold : Type 0
+AskedUnderIdTold =
+    (o n : PendingData) (w : WaiterData) (moment word : ℕ) (told : Option ℕ)
+    (r : Result Asked PendingFault) → TellsId o w.question word told → Asks o w moment word r n
+    → IsAskedUnder told r
