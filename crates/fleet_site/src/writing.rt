@@ -71,9 +71,9 @@ fn rcode_of<A: Allocator>(answer: &Answer<'_, A>) -> u8
 }
 
 /// Adds the records of an answer: its links, and the records or the SOA that they lead to.
-fn add_answer<'a, A: Allocator + Copy>(
+fn add_answer<'a, 'b: 'a, A: Allocator + Copy>(
     outline: &mut Outline<'a, A>,
-    answer: &Answer<'a, A>,
+    answer: &Answer<'b, A>,
 ) -> Result<(), AllocError>
     requires { HasKinds (answer_data answer.now) }
     ensures { OnOk result (AddsAnswer (answer_data answer.now) outline.old outline.new) }

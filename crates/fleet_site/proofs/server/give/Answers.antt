@@ -6,7 +6,7 @@ pub returns-then-hit : goal.returns-then-hit
 returns-then-hit g c =
     given_hit _ _ c.args.now c.args.word c.args.site.now c.hit.new.self c.args.report.now
     c.send.new.report c.args.from c.args.bytes.now c.hit.new.out.items
-    (c.hit.ensures.replies c.if-hit.true) (rw c.as_slice.ensures at c.send.ensures)
+    (c.hit.ensures.replies c.if-hit.true) (rw c.as_slice.ensures.value at c.send.ensures)
 
 pub returns-else-hit : goal.returns-else-hit
 returns-else-hit g c =
