@@ -1,4 +1,3 @@
-use Rattle.std.proofs.Common.{refl}
 use Rattle.fleet_site.specs.SiteData.{site_data}
 use Rattle.fleet_site.proofs.Following.{hit_follows}
 use Rattle.fleet_site.proofs.site.Site.hit.Goals as goal
