@@ -7,17 +7,18 @@ use Rattle.fleet_pending.specs.declared.waiter.Addr.{Addr}
 use Rattle.fleet_pending.specs.Due.{due_at}
 use Rattle.fleet_pending.specs.PendingData.{PendingData}
 use Rattle.std.specs.declared.alloc.AllocError.{AllocError}
-use Rattle.fleet_site.specs.OutcomeData.{OutcomeData, result_data}
+use Rattle.fleet_site.specs.OutcomeData.{OutcomeData, result_data, packet_to, sends}
 use Rattle.fleet_site.specs.SiteModel.{SiteModel}
 use Rattle.fleet_site.specs.SiteData.{SiteData}
 use Rattle.fleet_site.specs.StandsFor.{StandsFor, Follows}
+use Rattle.fleet_site.specs.Hit.{RepliesOnly}
 use Rattle.fleet_site.specs.Step.{Call, datagram, tick}
 use Rattle.fleet_site.specs.Sweep.{IsSweep}
 use Rattle.fleet_site.specs.Tick.{LeavesFewer}
 use Rattle.fleet_site.specs.PortRecord.{PortCall, Received, NoDatagram, Fault, NotesAll, PortState, Made, one_more}
-use Rattle.fleet_site.specs.Sending.{AreSent, packets_of, count_call, count_calls, count_step, goes_on, sweep_outcome, CarriesOut}
+use Rattle.fleet_site.specs.Sending.{AreSent, packets_of, count_call, count_calls, count_step, goes_on, sweep_outcome, Sends, CarriesOut}
 use Rattle.fleet_site.specs.Turn.{Deal, calling, sweeping, Act, calls_of, count_acts, AllSent, Acts, Acted, ROOM, no_tick, next_tick, IsSweepDue}
-use Rattle.fleet_site.specs.Served.{Turned, Took, Heard, TickedAll, SweptOnce}
+use Rattle.fleet_site.specs.Served.{Turned, Took, GivenOne, Heard, TickedAll, SweptOnce}
 use Rattle.fleet_site.specs.declared.outcome.Outcome.{Outcome}
 use Rattle.fleet_site.specs.declared.outcome.SiteFault.{SiteFault}
 use Rattle.fleet_site.specs.declared.report.Report.{Report}
@@ -94,23 +95,49 @@ took_one old new s t x a r q h c = record {
   report = c.report;
 }
 
-pub heard_one : (old mid new : PortState) (asked t w : ℕ) (s u : SiteData) (r q p : Report)
-    (from : Addr)
+-- a datagram that was given to the site
+pub given_one : (old new : PortState) (t w : ℕ) (s u : SiteData) (r q : Report) (from : Addr)
     (octets : List ℕ) (a : Result OutcomeData SiteFault)
-    → asked ≡ ROOM
+    → Stepped (calling (datagram t from octets w)) a s u → CarriesOut old new u.config.peers a r q
+    → GivenOne old new t from octets w s u r q
+given_one old new t w s u r q from octets a k c = record {
+  act = act_of (calling (datagram t from octets w)) a c.calls;
+  deal = refl;
+  took = took_one old new s u (calling (datagram t from octets w)) a r q k c;
+}
+
+-- one that was answered at once, and whose reply was sent
+pub given_hit : (old new : PortState) (t w : ℕ) (s u : SiteData) (r q : Report) (from : Addr)
+    (octets reply : List ℕ) → RepliesOnly s t from octets reply u
+    → Sends old new (packet_to from reply) r q → GivenOne old new t from octets w s u r q
+given_hit old new t w s u r q from octets reply k c =
+    given_one old new t w s u r q from octets (Ok (sends from reply))
+    (record { step = λ m i. k.step m i w; config = k.config })
+    (record { calls = c.calls; made = c.made; sent = c.sent; report = c.report })
+
+-- one that was none, and was given to the site that it had left as it was
+pub given_other : (old new : PortState) (t w : ℕ) (s same u : SiteData) (r q : Report)
+    (from : Addr) (octets : List ℕ) (a : Result OutcomeData SiteFault) → same ≡ s
+    → Stepped (calling (datagram t from octets w)) a same u
+    → CarriesOut old new u.config.peers a r q → GivenOne old new t from octets w s u r q
+given_other old new t w s same u r q from octets a e k c =
+    given_one old new t w s u r q from octets a
+    (subst (λ (x : SiteData). Stepped (calling (datagram t from octets w)) a x u) e k) c
+
+pub heard_one : (old mid new : PortState) (asked t w : ℕ) (s u : SiteData) (r q p : Report)
+    (from : Addr) (octets : List ℕ) → asked ≡ ROOM
     → NotesAll old.told (Received asked from octets ∷ []) mid.told → mid.failed ≡ old.failed
-    → q ≡ count_call (Received asked from octets) r
-    → Stepped (calling (datagram t from octets w)) a s u → CarriesOut mid new u.config.peers a q p
+    → q ≡ count_call (Received asked from octets) r → GivenOne mid new t from octets w s u q p
     → Heard old new t w s u r p
-heard_one old mid new asked t w s u r q p from octets a m n i e k c = record {
+heard_one old mid new asked t w s u r q p from octets m n i e g = record {
   arrival = Received asked from octets;
   asks = m;
-  acts = act_of (calling (datagram t from octets w)) a c.calls ∷ [];
-  given = (act_of (calling (datagram t from octets w)) a c.calls, refl, refl);
-  acted = acted_one s u (calling (datagram t from octets w)) a c.calls k c.sent;
-  made = rw (append-nil c.calls) (made_both old mid new (Received asked from octets ∷ []) c.calls
-      (record { told = n; failed = i }) c.made);
-  report = c.report ∙ ap (λ (y : Report). count_calls c.calls (count_step a y)) e;
+  acts = g.act ∷ [];
+  given = (g.act, refl, g.deal);
+  acted = g.took.acted;
+  made = made_both old mid new (Received asked from octets ∷ []) (calls_of (g.act ∷ []))
+      (record { told = n; failed = i }) g.took.made;
+  report = g.took.report ∙ ap (count_acts (g.act ∷ [])) e;
 }
 
 pub heard_none : (old new : PortState) (asked t w : ℕ) (s : SiteData) (r q : Report)

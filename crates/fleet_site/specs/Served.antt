@@ -2,12 +2,14 @@
 use Rattle.std.specs.Prelude.{◌≡◌, ℕ, ◌≤◌, false, List, [], ◌∷◌, Option, Some, length}
 use Rattle.rand_core.specs.Stream.{Stream}
 use Rattle.fleet_pending.specs.declared.bounds.TheConstants.{MOST_ENTRIES}
+use Rattle.fleet_pending.specs.declared.waiter.Addr.{Addr}
 use Rattle.fleet_site.specs.SiteData.{SiteData}
 use Rattle.fleet_site.specs.SiteModel.{SiteModel}
 use Rattle.fleet_site.specs.StandsFor.{StandsFor}
 use Rattle.fleet_site.specs.PortRecord.{PortCall, PortState, Made, AsksFor}
 use Rattle.fleet_site.specs.Sending.{count_call}
-use Rattle.fleet_site.specs.Turn.{Act, Acts, Acted, calls_of, count_acts, ROOM, Given, Ticks, SweepsWhenDue, Between, Turn, Turns, start_of}
+use Rattle.fleet_site.specs.Step.{datagram}
+use Rattle.fleet_site.specs.Turn.{Act, calling, Acts, Acted, calls_of, count_acts, ROOM, Given, Ticks, SweepsWhenDue, Between, Turn, Turns, start_of}
 use Rattle.fleet_site.specs.declared.report.Report.{Report}
 
 -- the run of a server: these turns were made, and where the port tells its record, their calls are
@@ -40,6 +42,13 @@ pub record Took (old new : PortState) (site after : SiteData) (r q : Report) (ac
   pub acted : Acted site after acts
   pub made : Made old new (calls_of acts)
   pub report : q ≡ count_acts acts r
+
+-- a datagram was given to the site, and what that gave was carried out and counted
+pub record GivenOne (old new : PortState) (t : ℕ) (from : Addr) (octets : List ℕ) (word : ℕ)
+    (site after : SiteData) (r q : Report) : Type 0 where
+  pub act : Act
+  pub deal : act.deal ≡ calling (datagram t from octets word)
+  pub took : Took old new site after r q (act ∷ [])
 
 -- what was received was given to the site
 pub record Heard (old new : PortState) (t word : ℕ) (site after : SiteData) (r q : Report)

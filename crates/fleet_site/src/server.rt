@@ -6,7 +6,7 @@ ghost use Rattle.fleet_site.specs.Packet.{packet_data};
 ghost use Rattle.fleet_site.specs.OutcomeData.{result_data};
 ghost use Rattle.fleet_site.specs.Sending.{Sends, CarriesOut, to_each, to_peers, sweep_outcome, count_refusal_in, goes_on};
 ghost use Rattle.fleet_site.specs.Turn.{IsSweepDue, IsPast, left_after};
-ghost use Rattle.fleet_site.specs.Served.{Served, FollowsSteps, Turned, Heard, TickedAll, SweptOnce};
+ghost use Rattle.fleet_site.specs.Served.{Served, FollowsSteps, Turned, GivenOne, Heard, TickedAll, SweptOnce};
 
 use crate::outcome::{Outcome, Packet, Refusal, SiteFault};
 use crate::port::{Clock, Port};
@@ -118,6 +118,28 @@ fn carry_out_sweep<P: Port, A: Allocator>(
     }
 }
 
+/// Gives a datagram to the site, and sends what it gives: the reply of a hit out of the buffer.
+fn give<P: Port, A: Allocator + Copy>(
+    port: &mut P,
+    site: &mut Site<A>,
+    now: Moment,
+    from: Addr,
+    bytes: &[u8],
+    word: u16,
+    reply: &mut Vec<u8, A>,
+    report: &mut Report,
+)
+    ensures { GivenOne (P.tells port.old) (P.tells port.new) now from bytes.now word site.old
+        site.new report.old report.new }
+{
+    if site.hit(now, from, bytes, reply) {
+        send(port, from, reply.as_slice(), report);
+    } else {
+        let answer = site.datagram(now, from, bytes, word);
+        carry_out(port, site.peers(), answer, report);
+    }
+}
+
 /// Receives at most one datagram, and gives it to the site.
 fn receive<P: Port, A: Allocator + Copy>(
     port: &mut P,
@@ -125,6 +147,7 @@ fn receive<P: Port, A: Allocator + Copy>(
     buffer: &mut [u8; BUFFER],
     now: Moment,
     word: u16,
+    reply: &mut Vec<u8, A>,
     report: &mut Report,
 )
     ensures { Heard (P.tells port.old) (P.tells port.new) now word site.old site.new report.old
@@ -134,8 +157,7 @@ fn receive<P: Port, A: Allocator + Copy>(
         Ok(None) => {}
         Ok(Some((from, len))) => {
             report.count_received();
-            let answer = site.datagram(now, from, &buffer[..len], word);
-            carry_out(port, site.peers(), answer, report);
+            give(port, site, now, from, &buffer[..len], word, reply, report);
         }
         Err(_) => report.count_faults(),
     }
@@ -197,13 +219,14 @@ fn turn<P: Port, A: Allocator + Copy>(
     word: u16,
     every: u32,
     since: Option<Moment>,
+    reply: &mut Vec<u8, A>,
     report: &mut Report,
 ) -> Moment
     ensures { Turned (P.tells port.old) (P.tells port.new) now word every site.old site.new since
         result report.old report.new }
 {
     report.count_turns();
-    receive(port, site, buffer, now, word, report);
+    receive(port, site, buffer, now, word, reply, report);
     tick_all(port, site, now, report);
     sweep_if_due(port, site, now, since.unwrap_or(now), every, report)
 }
@@ -235,6 +258,7 @@ pub fn serve<P: Port, C: Clock, R: Rng, A: Allocator + Copy>(
 {
     let mut counted = Report::new();
     let mut buffer = [0u8; BUFFER];
+    let mut reply = site.reply_buffer();
     let mut swept = None;
     for _ in 0..turns {
         let now = clock.now();
@@ -247,6 +271,7 @@ pub fn serve<P: Port, C: Clock, R: Rng, A: Allocator + Copy>(
             word,
             sweep_every,
             swept,
+            &mut reply,
             &mut counted,
         ));
     }

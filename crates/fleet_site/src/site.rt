@@ -1,19 +1,22 @@
 //! A site.
 
-ghost use Rattle.std.specs.Prelude.{◌≡◌, ◌≢◌, max, IsTrue, IfOk, IfErr, OnErr, []};
+ghost use Rattle.std.specs.Prelude.{◌≡◌, ◌≢◌, ◌↔◌, max, IsTrue, false, IfOk, IfErr, OnErr, []};
 ghost use Rattle.fleet_site.specs.SiteModel.{SiteModel};
 ghost use Rattle.fleet_site.specs.StandsFor.{StandsFor, Follows, Answers, Gathers, opening};
 ghost use Rattle.fleet_site.specs.Sender.{IsSender};
 ghost use Rattle.fleet_site.specs.SiteData.{IsSiteData};
+ghost use Rattle.fleet_site.specs.Hit.{RepliesOnly};
 ghost use Rattle.fleet_site.specs.Step.{datagram as a_datagram, tick as a_tick, frame as a_frame, learn as a_reply, flush as a_flush};
 ghost use Rattle.fleet_site.specs.Sweep.{IsSweep};
 ghost use Rattle.fleet_site.specs.Tick.{LeavesFewer};
 ghost use Rattle.fleet_site.specs.Verdict.{IsAsking};
+ghost use Rattle.fleet_site.specs.declared.site.Sender.TheVariants.{Other};
 ghost use Rattle.fleet_site.specs.declared.outcome.SiteFault.TheVariants.{OutOfMemory};
 
 use crate::config::{Config, place_of};
 use crate::flush::flush_name;
 use crate::frame::take_frame;
+use crate::hit::write_hit;
 use crate::looked::Looked;
 use crate::outcome::{Outcome, SiteFault};
 use crate::question::{Arrival, take_question};
@@ -25,6 +28,7 @@ use fleet_gossip::sweep;
 use fleet_name::{Name, Octets};
 use fleet_observe::Moment;
 use fleet_pending::{Addr, Pending};
+use fleet_wire::bounds::LONGEST_MESSAGE;
 use std::alloc::{AllocError, Allocator, Global};
 use std::marker::Model;
 
@@ -84,6 +88,17 @@ fn sender_of<A: Allocator>(config: &Config<A>, from: Addr) -> Sender
     match place_of(config.peers(), from) {
         Some(_) => Sender::Peer,
         None => Sender::Other,
+    }
+}
+
+/// Whether what comes from an address is a question: it is neither an upstream's nor a peer's.
+fn is_asker<A: Allocator>(config: &Config<A>, from: Addr) -> bool
+    ensures { IsTrue result ↔ IsSender config.now.upstreams config.now.peers from Other }
+{
+    match sender_of(config, from) {
+        Sender::Upstream(_) => false,
+        Sender::Peer => false,
+        Sender::Other => true,
     }
 }
 
@@ -196,6 +211,40 @@ impl<A: Allocator + Copy> Site<A> {
                 )
             }
         }
+    }
+
+    /// A datagram that the cache answers at once: whether it is a question in full and in lower
+    /// case, from an address that is neither an upstream's nor a peer's, with QR clear, Opcode 0,
+    /// class 1 (IN) and a type that data can have, to which the cache has an answer. The reply is
+    /// then written in place of what `out` holds, and it is all that `datagram` would give,
+    /// whatever the word.
+    ///
+    /// `false`: nothing of the site has changed, `out` holds anything, and the datagram is to be
+    /// given to `datagram`. This is the answer too where there is no memory for the reply. Where
+    /// `out` has room for 512 octets, none is taken for up to four records in a section.
+    pub fn hit(&mut self, now: Moment, from: Addr, bytes: &[u8], out: &mut Vec<u8, A>) -> bool
+        ensures replies { IsTrue result
+            → RepliesOnly self.old now from bytes.now out.new.items self.new }
+        ensures unchanged { result ≡ false → self.new ≡ self.old }
+    {
+        if !is_asker(&self.config, from) {
+            return false;
+        }
+        let clock = later_moment(self.clock, now);
+        if !write_hit(self.alloc, &self.cache, clock, bytes, out) {
+            return false;
+        }
+        self.clock = clock;
+        true
+    }
+
+    /// A vector for the replies of `hit`, with room for a whole one where there is memory for that.
+    pub(crate) fn reply_buffer(&self) -> Vec<u8, A> {
+        let mut out = Vec::new(self.alloc);
+        if let Err(_) = out.reserve(LONGEST_MESSAGE) {
+            return Vec::new(self.alloc);
+        }
+        out
     }
 
     /// Drops what has ended, and then serves the first open question whose time is over: its query

@@ -9,13 +9,13 @@ ghost use Rattle.fleet_cache.specs.AnswerData.{answer_data};
 ghost use Rattle.fleet_site.specs.Carried.{IsAskable, IsAnswered, SaysUnread};
 ghost use Rattle.fleet_site.specs.Verdict.{IsAsking, verdict, IsServedQuestion, DecidesAnswer, DecidesQuestion, Decides};
 
-use crate::writing::{bare_reply, deny, reply_without, tell};
+use crate::writing::{bare_reply, is_miss, reply_without, tell};
 use fleet_cache::{Answer, Cache};
 use fleet_name::Octets;
 use fleet_observe::{Moment, is_data_type};
 use fleet_wire::class::IN;
-use fleet_wire::rcode::{FORMAT_ERROR, NAME_ERROR, NO_ERROR, NOT_IMPLEMENTED};
-use fleet_wire::{Header, Question, ReadFault, read_header, read_query};
+use fleet_wire::rcode::{FORMAT_ERROR, NOT_IMPLEMENTED};
+use fleet_wire::{Header, LentQuestion, Question, ReadFault, read_header, read_query};
 use std::alloc::{AllocError, Allocator};
 
 /// What is made of octets.
@@ -97,7 +97,7 @@ fn decide_question<A: Allocator + Copy>(
         → IfOk result (λ d. DecidesQuestion s clock header question (verdict d)) }
     ensures askable { IfOk result (λ d. IsAskable d) }
 {
-    if !is_served(&question) {
+    if !is_served(&question.lend()) {
         let reply = reply_without(alloc, header, NOT_IMPLEMENTED, &question)?;
         return Ok(Decision::Reply(reply));
     }
@@ -106,10 +106,10 @@ fn decide_question<A: Allocator + Copy>(
 }
 
 /// Whether a question is answered: of class 1, and of a type that data can have.
-fn is_served<A: Allocator>(question: &Question<A>) -> bool
+pub(crate) fn is_served(question: &LentQuestion<'_>) -> bool
     ensures { IsTrue result ↔ IsServedQuestion question.now }
 {
-    question.class == IN && is_data_type(question.rtype)
+    question.class() == IN && is_data_type(question.rtype())
 }
 
 /// What is made of an answer.
@@ -126,19 +126,9 @@ fn decide_answer<A: Allocator + Copy>(
         DecidesAnswer header question (answer_data answer.now) (verdict d)) }
     ensures askable { IfOk result (λ d. IsAskable d) }
 {
-    match answer {
-        Answer::Miss => Ok(Decision::Miss(header, question)),
-        Answer::Found { chain, set } => {
-            let reply = tell(alloc, header, &question, chain, set)?;
-            Ok(Decision::Reply(reply))
-        }
-        Answer::NoData { chain, soa } => {
-            let reply = deny(alloc, header, NO_ERROR, &question, chain, soa)?;
-            Ok(Decision::Reply(reply))
-        }
-        Answer::NxDomain { chain, soa } => {
-            let reply = deny(alloc, header, NAME_ERROR, &question, chain, soa)?;
-            Ok(Decision::Reply(reply))
-        }
+    if is_miss(answer) {
+        return Ok(Decision::Miss(header, question));
     }
+    let reply = tell(alloc, header, &question, answer)?;
+    Ok(Decision::Reply(reply))
 }

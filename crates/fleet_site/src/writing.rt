@@ -1,58 +1,98 @@
 //! Replies that are written: without records, and those of an answer.
 
-ghost use Rattle.std.specs.Prelude.{◌≡◌, ◌<◌, IfOk, OnOk, Some, None, MatchOption};
+ghost use Rattle.std.specs.Prelude.{◌≡◌, ◌≢◌, ◌<◌, ◌↔◌, IsTrue, IfOk, OnOk, Some, None};
 ghost use Rattle.fleet_wire.specs.Outline.{octets_of_outline};
-ghost use Rattle.fleet_cache.specs.Kinds.{IsPositivePart, ArePositiveParts};
+ghost use Rattle.fleet_cache.specs.Answer.{Missed};
+ghost use Rattle.fleet_cache.specs.AnswerData.{answer_data};
+ghost use Rattle.fleet_cache.specs.Kinds.{HasKinds, IsPositivePart, ArePositiveParts};
 ghost use Rattle.fleet_cache.specs.Shown.{shown_parts};
-ghost use Rattle.fleet_site.specs.Rows.{bare_outline, bare_octets, AddsRows, AddsChainRows, AddsSoaRow, IsNegativePart, WritesRecords, WritesDenial};
+ghost use Rattle.fleet_site.specs.Rows.{bare_outline, bare_octets, answer_rcode, AddsRows, AddsChainRows, AddsSoaRow, AddsAnswer, IsNegativePart, Writes};
 
-use fleet_cache::{Chain, Shown};
+use fleet_cache::{Answer, Shown};
 use fleet_name::Octets;
 use fleet_observe::{Rows, add_rows, add_soa};
-use fleet_wire::rcode::NO_ERROR;
-use fleet_wire::{Header, Outline, Question, write_reply};
+use fleet_wire::rcode::{NAME_ERROR, NO_ERROR};
+use fleet_wire::{Header, LentQuestion, Outline, Question, write_reply, write_reply_into};
 use std::alloc::{AllocError, Allocator};
 
-/// Links, and the records that they lead to.
+/// Whether an answer says that nothing is known.
+pub(crate) fn is_miss<A: Allocator>(answer: &Answer<'_, A>) -> bool
+    ensures { IsTrue result ↔ (answer_data answer.now ≡ Missed) }
+{
+    matches!(answer, Answer::Miss)
+}
+
+/// The reply that tells an answer, in memory of its own.
 pub(crate) fn tell<A: Allocator + Copy>(
     alloc: A,
     header: Header,
     question: &Question<A>,
-    chain: &Chain<'_, A>,
-    set: &Shown<'_, A>,
+    answer: &Answer<'_, A>,
 ) -> Result<Octets<A>, AllocError>
     requires opcode { header.opcode < 16 }
-    requires links { ArePositiveParts (shown_parts chain.now.items) }
-    requires positive { IsPositivePart set.now }
-    ensures { IfOk result
-        (WritesRecords header question.now (shown_parts chain.now.items) set.now) }
+    requires known { answer_data answer.now ≢ Missed }
+    requires kinds { HasKinds (answer_data answer.now) }
+    ensures { IfOk result (Writes header question.now (answer_data answer.now)) }
 {
-    let mut outline = begin(alloc, header, NO_ERROR, Some(question));
-    add_chain(&mut outline, chain.as_slice())?;
-    add_set(&mut outline, set)?;
+    let mut outline = begin(alloc, header, rcode_of(answer), Some(question.lend()));
+    add_answer(&mut outline, answer)?;
     finish(alloc, &outline)
 }
 
-/// Links, and the SOA of the denial that they lead to.
-pub(crate) fn deny<A: Allocator + Copy>(
+/// The reply that tells an answer, in place of what `out` holds.
+pub(crate) fn tell_into<'a, A: Allocator + Copy>(
+    out: &mut Vec<u8, A>,
     alloc: A,
     header: Header,
-    rcode: u8,
-    question: &Question<A>,
-    chain: &Chain<'_, A>,
-    soa: &Shown<'_, A>,
-) -> Result<Octets<A>, AllocError>
+    question: LentQuestion<'a>,
+    answer: &Answer<'a, A>,
+) -> Result<(), AllocError>
     requires opcode { header.opcode < 16 }
-    requires rcode { rcode < 16 }
-    requires links { ArePositiveParts (shown_parts chain.now.items) }
-    requires negative { IsNegativePart soa.now }
-    ensures { IfOk result
-        (WritesDenial header rcode question.now (shown_parts chain.now.items) soa.now) }
+    requires known { answer_data answer.now ≢ Missed }
+    requires kinds { HasKinds (answer_data answer.now) }
+    ensures { OnOk result (Writes header question.entry (answer_data answer.now) out.new.items) }
 {
-    let mut outline = begin(alloc, header, rcode, Some(question));
-    add_chain(&mut outline, chain.as_slice())?;
-    add_denial(&mut outline, soa)?;
-    finish(alloc, &outline)
+    let mut outline = begin(alloc, header, rcode_of(answer), Some(question));
+    add_answer(&mut outline, answer)?;
+    write_reply_into(out, &outline)
+}
+
+/// The RCODE of a reply that tells an answer.
+fn rcode_of<A: Allocator>(answer: &Answer<'_, A>) -> u8
+    ensures rcode { result ≡ answer_rcode (answer_data answer.now) }
+    ensures short { result < 16 }
+{
+    match answer {
+        Answer::Miss => NO_ERROR,
+        Answer::Found { .. } => NO_ERROR,
+        Answer::NoData { .. } => NO_ERROR,
+        Answer::NxDomain { .. } => NAME_ERROR,
+    }
+}
+
+/// Adds the records of an answer: its links, and the records or the SOA that they lead to.
+fn add_answer<'a, 'b: 'a, A: Allocator + Copy>(
+    outline: &mut Outline<'a, A>,
+    answer: &Answer<'b, A>,
+) -> Result<(), AllocError>
+    requires { HasKinds (answer_data answer.now) }
+    ensures { OnOk result (AddsAnswer (answer_data answer.now) outline.old outline.new) }
+{
+    match answer {
+        Answer::Miss => Ok(()),
+        Answer::Found { chain, set } => {
+            add_chain(outline, chain.as_slice())?;
+            add_set(outline, set)
+        }
+        Answer::NoData { chain, soa } => {
+            add_chain(outline, chain.as_slice())?;
+            add_denial(outline, soa)
+        }
+        Answer::NxDomain { chain, soa } => {
+            add_chain(outline, chain.as_slice())?;
+            add_denial(outline, soa)
+        }
+    }
 }
 
 /// Adds the records of the links.
@@ -108,14 +148,13 @@ fn begin<'a, A: Allocator + Copy>(
     alloc: A,
     header: Header,
     rcode: u8,
-    question: Option<&'a Question<A>>,
+    question: Option<LentQuestion<'a>>,
 ) -> Outline<'a, A>
     requires opcode { header.opcode < 16 }
     requires rcode { rcode < 16 }
-    ensures { MatchOption question.entry (result ≡ bare_outline header rcode None)
-        (λ q. result ≡ bare_outline header rcode (Some q.now)) }
+    ensures { result ≡ bare_outline header rcode question.entry }
 {
-    Outline::new(
+    Outline::of_lent(
         alloc,
         header.id,
         header.opcode,
@@ -135,7 +174,7 @@ fn finish<A: Allocator + Copy>(alloc: A, outline: &Outline<A>) -> Result<Octets<
 }
 
 /// A reply of a header alone.
-pub(crate) fn bare_reply<'a, A: Allocator + Copy + 'a>(
+pub(crate) fn bare_reply<A: Allocator + Copy>(
     alloc: A,
     header: Header,
     rcode: u8,
@@ -144,8 +183,7 @@ pub(crate) fn bare_reply<'a, A: Allocator + Copy + 'a>(
     requires rcode { rcode < 16 }
     ensures { IfOk result (λ octets. octets ≡ bare_octets header rcode None) }
 {
-    let question: Option<&'a Question<A>> = None;
-    let outline = begin(alloc, header, rcode, question);
+    let outline = begin(alloc, header, rcode, None);
     finish(alloc, &outline)
 }
 
@@ -160,6 +198,6 @@ pub(crate) fn reply_without<A: Allocator + Copy>(
     requires rcode { rcode < 16 }
     ensures { IfOk result (λ octets. octets ≡ bare_octets header rcode (Some question.now)) }
 {
-    let outline = begin(alloc, header, rcode, Some(question));
+    let outline = begin(alloc, header, rcode, Some(question.lend()));
     finish(alloc, &outline)
 }

@@ -1,17 +1,15 @@
 use Rattle.std.proofs.Common.{refl, length, take}
-use Rattle.fleet_site.specs.OutcomeData.{result_data}
-use Rattle.fleet_site.proofs.ServerTurns.{heard_one, heard_none, heard_fault, stepped_call}
+use Rattle.fleet_site.proofs.ServerTurns.{heard_one, heard_none, heard_fault}
 use Rattle.fleet_site.proofs.server.receive.Goals as goal
 
 pub returns-in-Ok-Some : goal.returns-in-Ok-Some
 returns-in-Ok-Some g c =
     heard_one _ _ _ (length c.args.buffer.now) c.args.now c.args.word c.args.site.now
-    c.datagram-answer.new.self c.args.report.now c.count_received.new.self c.carry_out.new.report c.in-Ok-Some.from
-    (take c.in-Ok-Some.len c.recv.new.buffer) (result_data c.datagram-answer.result)
+    c.give.new.site c.args.report.now c.count_received.new.self c.give.new.report
+    c.in-Ok-Some.from (take c.in-Ok-Some.len c.recv.new.buffer)
     c.told-buffer
     (rw c.in-Ok-Some.field-0-is at c.in-Ok-Some.ensures.told) c.in-Ok-Some.ensures.failed
-    c.count_received.ensures (stepped_call _ _ _ _ c.datagram-answer.ensures.follows
-    c.datagram-answer.ensures.config) (rw c.peers.ensures at c.carry_out.ensures.carried)
+    c.count_received.ensures c.give.ensures
 
 pub returns-in-Ok-None : goal.returns-in-Ok-None
 returns-in-Ok-None g c =
