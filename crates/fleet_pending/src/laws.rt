@@ -19,8 +19,8 @@ pub fn waiters_kept()
     ensures { EachAsOften }
 {}
 
-/// Where `query_id` tells an id, asking answers a query under it to the first upstream, or no memory;
-/// where it tells none, asking sends none.
+/// Where `query_id` tells an id, asking sends a query under it to the first upstream, or finds no
+/// memory; where it tells none, asking sends none.
 pub fn queries_have_the_id_told()
     ensures { AskedUnderIdTold }
 {}
