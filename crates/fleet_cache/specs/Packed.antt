@@ -1,15 +1,16 @@
--- The octets of a name, `WORD_OCTETS` to a word, so that the words compare as the octets do.
+-- The octets of a name, `WORD_OCTETS` to a word, zero behind the end, so that the words
+-- of names compare as the octets do.
 use Rattle.std.specs.Prelude.{ℕ, zero, suc, ◌+◌, ◌*◌, ◌<◌, List, [], ◌∷◌, drop}
 use Rattle.std.specs.List.{AllByRecursion}
 use Rattle.fleet_cache.specs.declared.words.TheConstants.{MOST_WORDS, WEIGHTS, WORD_OCTETS}
 use Rattle.fleet_name.specs.Name.{wire, IsName}
 use Rattle.fleet_observe.specs.Observation.{ObservationData}
 
--- a number whose digits are the octets and 1, and 0 where there are no more
+-- a number whose digits are the octets, and 0 where there are no more
 abbrev pub weigh : List ℕ → List ℕ → ℕ
 weigh [] octets = 0
 weigh (w ∷ ws) [] = 0
-weigh (w ∷ ws) (x ∷ octets) = (x + 1) * w + weigh ws octets
+weigh (w ∷ ws) (x ∷ octets) = x * w + weigh ws octets
 
 -- so many words at most
 abbrev pub octet_words_within : ℕ → List ℕ → List ℕ

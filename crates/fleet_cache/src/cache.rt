@@ -30,7 +30,7 @@ pub struct Stopped {
 
 /// The undominated observations of a set that are live at a floor: those of a name in one front, by
 /// kind, then type, then the preferred first, and the fronts in a map by the octets of the names,
-/// seven octets to a word.
+/// eight octets to a word.
 ///
 /// What is held may have ended by the floor, or be withdrawn by a flush that is held: it is shown to
 /// nobody, and a sweep, which goes on at the cursor, drops some of it at each purge. `most` is how

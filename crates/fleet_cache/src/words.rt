@@ -8,24 +8,26 @@ ghost use Rattle.fleet_cache.specs.Packed.{weigh, octet_words};
 use arrayvec::ArrayVec;
 
 /// How many octets a word has at most.
-pub(crate) const WORD_OCTETS: usize = 7;
+pub(crate) const WORD_OCTETS: usize = 8;
 
 /// The most words of a name.
-pub(crate) const MOST_WORDS: usize = 37;
+pub(crate) const MOST_WORDS: usize = 32;
 
-/// The powers of 257 from the sixth one down: an octet and 1 is a digit, and 0 stands where there
-/// are no more octets.
+/// The powers of 256 from the seventh one down: an octet is a digit, and 0 stands where there are
+/// no more octets.
 const WEIGHTS: [u64; WORD_OCTETS] = [
-    288136807515649,
-    1121154893057,
-    4362470401,
-    16974593,
-    66049,
-    257,
+    72057594037927936,
+    281474976710656,
+    1099511627776,
+    4294967296,
+    16777216,
+    65536,
+    256,
     1,
 ];
 
-/// Octets as words, `WORD_OCTETS` to a word, that compare as the octets do.
+/// Octets as words, `WORD_OCTETS` to a word, zero behind the end. Those of names compare as the
+/// names do, since no name is a proper prefix of another.
 pub(crate) fn pack(octets: &[u8]) -> ArrayVec<u64, MOST_WORDS>
     requires { length octets.now ≤ WORD_OCTETS * MOST_WORDS }
     ensures words { result.items ≡ octet_words octets.now }
@@ -33,23 +35,25 @@ pub(crate) fn pack(octets: &[u8]) -> ArrayVec<u64, MOST_WORDS>
 {
     let mut words = ArrayVec::new();
     let mut rest = octets;
-    while !rest.is_empty() {
-        let (first, after) = rest.split_at(rest.len().min(WORD_OCTETS));
-        words.push(word_of(first));
+    while let Some((first, after)) = rest.split_first_chunk::<WORD_OCTETS>() {
+        words.push(u64::from_be_bytes(*first));
         rest = after;
     }
+    if rest.is_empty() {
+        return words;
+    }
+    words.push(word_of(rest));
     words
 }
 
 /// At most `WORD_OCTETS` octets as a word.
 fn word_of(octets: &[u8]) -> u64
     requires { length octets.now ≤ WORD_OCTETS }
-    ensures word { result ≡ weigh WEIGHTS octets.now }
-    ensures bytes { AllByRecursion (λ x. x < 256) octets.now }
+    ensures { result ≡ weigh WEIGHTS octets.now }
 {
     let mut word = 0;
     for (i, octet) in octets.iter().enumerate() {
-        word += (u64::from(*octet) + 1) * WEIGHTS[i];
+        word += u64::from(*octet) * WEIGHTS[i];
     }
     word
 }

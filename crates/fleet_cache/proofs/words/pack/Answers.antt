@@ -1,41 +1,49 @@
-use Rattle.std.proofs.Common.{◌≡◌, ◌<◌, length, refl, ◌∙◌, ap, arith}
+use Rattle.std.proofs.Common.{◌≡◌, ◌<◌, ◌≤◌, ◌-◌, ◌*◌, ◌++◌, length, refl, sym, ap, ◌∙◌, subst, arith}
 use Rattle.std.proofs.lemmas.Bool.Decides.{nat_tests}
-use Rattle.fleet_cache.specs.declared.words.TheConstants.{WEIGHTS}
-use Rattle.fleet_cache.specs.Packed.{weigh}
-use Rattle.fleet_cache.proofs.Packing.{bytes_read, words_so_far, all_packed}
+use Rattle.std.proofs.lemmas.List.{length-take}
+use Rattle.fleet_cache.specs.declared.words.TheConstants.{MOST_WORDS, WORD_OCTETS}
+use Rattle.fleet_cache.specs.Packed.{octet_words_within}
+use Rattle.fleet_cache.proofs.Packing.{bytes_read, first_weighed, words_so_far, all_packed, last_packed}
 use Rattle.fleet_cache.proofs.words.pack.Goals as goal
 
-pub loop-rest-init : goal.loop-rest-init
-loop-rest-init c = rw c.new-words.ensures (refl, omega (arith, c.requires))
+pub loop-first-init : goal.loop-first-init
+loop-first-init c = rw c.new-words.ensures (refl, omega (arith, c.requires))
 
-pub push-requires : goal.push-requires
-push-requires c =
-    let some : 0 < length c.loop-rest.rest.now =
-    grind (arith, nat_tests, c.is_empty.ensures, c.loop-rest-test.true) in
-    (omega arith, omega (arith, some, c.loop-rest.invariant.1))
+pub loop-first-preserved : goal.loop-first-preserved
+loop-first-preserved c =
+    let rest = c.loop-first.rest.now in
+    let new = c.push.new.self.items in
+    let cases = c.in-Some.ensures.cases in
+    let many : 8 ≤ length rest = omega (arith, cases.2) in
+    let eight = ap length cases.0 ∙ length-take 8 rest in
+    let word = first_weighed rest c.from_be_bytes.result c.in-Some.first.now
+    c.from_be_bytes.ensures cases.0 (grind (arith, nat_tests, eight, many)) in
+    subst (λ v. (octet_words_within MOST_WORDS c.args.octets.now
+    ≡ new ++ octet_words_within (MOST_WORDS - length new) v)
+    × (length v ≤ WORD_OCTETS * (MOST_WORDS - length new))) (sym cases.1)
+    (words_so_far c.args.octets.now c.loop-first.words.items new rest c.from_be_bytes.result
+    c.loop-first.invariant.0 c.loop-first.invariant.1 (omega (arith, many)) word
+    c.push.ensures.items)
 
-pub loop-rest-smaller : goal.loop-rest-smaller
-loop-rest-smaller c =
-    let some : 0 < length c.loop-rest.rest.now =
-    grind (arith, nat_tests, c.is_empty.ensures, c.loop-rest-test.true) in
-    omega (arith, some, c.min.ensures, c.split_at.ensures.back_len)
+pub returns-then-is_empty-clause-words : goal.returns-then-is_empty-clause-words
+returns-then-is_empty-clause-words c =
+    let none : length c.loop-first.rest.now ≡ 0 =
+    grind (arith, nat_tests, c.is_empty.ensures, c.if-is_empty.true) in
+    all_packed c.args.octets.now c.loop-first.words.items c.loop-first.rest.now
+    c.loop-first.invariant.0 none
 
-pub loop-rest-preserved : goal.loop-rest-preserved
-loop-rest-preserved c =
-    let some : 0 < length c.loop-rest.rest.now =
-    grind (arith, nat_tests, c.is_empty.ensures, c.loop-rest-test.true) in
-    words_so_far c.args.octets.now c.loop-rest.words.items c.push.new.self.items
-    c.loop-rest.rest.now c.split_at.result.1.now c.word_of.result c.min.result
-    c.loop-rest.invariant.0 c.loop-rest.invariant.1 some c.min.ensures
-    (c.word_of.ensures.word ∙ ap (weigh WEIGHTS) c.split_at.ensures.front) c.split_at.ensures.back
-    c.push.ensures.items
+pub returns-then-is_empty-clause-bytes : goal.returns-then-is_empty-clause-bytes
+returns-then-is_empty-clause-bytes c = bytes_read c.args.octets.now c.type_inv.octets
 
 pub returns-clause-words : goal.returns-clause-words
 returns-clause-words c =
-    let none : length c.loop-rest.rest.now ≡ 0 =
-    grind (arith, nat_tests, c.is_empty.ensures, c.loop-rest-test.false) in
-    all_packed c.args.octets.now c.loop-rest.words.items c.loop-rest.rest.now
-    c.loop-rest.invariant.0 none
+    let rest = c.loop-first.rest.now in
+    let some : 0 < length rest =
+    grind (arith, nat_tests, c.is_empty.ensures, c.if-is_empty.false) in
+    let few : length rest < 8 = c.in_default.ensures.cases in
+    last_packed c.args.octets.now c.loop-first.words.items c.push-2.new.self.items rest
+    c.word_of.result c.loop-first.invariant.0 c.loop-first.invariant.1 some
+    (omega (arith, few)) c.word_of.ensures c.push-2.ensures.items
 
 pub returns-clause-bytes : goal.returns-clause-bytes
 returns-clause-bytes c = bytes_read c.args.octets.now c.type_inv.octets

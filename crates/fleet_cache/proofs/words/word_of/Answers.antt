@@ -1,4 +1,4 @@
-use Rattle.std.proofs.Common.{◌+◌, ◌*◌, ◌<◌, drop, slice_index_or, ap, ◌∙◌, arith, add-one}
+use Rattle.std.proofs.Common.{◌*◌, ◌<◌, drop, slice_index_or, ap, ◌∙◌, arith, add-one}
 use Rattle.std.proofs.lemmas.List.{drop_all}
 use Rattle.fleet_cache.specs.declared.words.TheConstants.{WEIGHTS}
 use Rattle.fleet_cache.specs.Packed.{weigh}
@@ -9,13 +9,13 @@ use Rattle.fleet_cache.proofs.words.word_of.Goals as goal
 pub loop-i-init : goal.loop-i-init
 loop-i-init c = omega arith
 
-pub overflow_add-word-in-loop-i : goal.overflow_add-word-in-loop-i
-overflow_add-word-in-loop-i c =
+pub overflow_add-word : goal.overflow_add-word
+overflow_add-word c =
     let more = weighed_more WEIGHTS c.args.octets.now c.loop-i.i
     (omega (arith, c.requires, c.loop-i-test.true)) c.loop-i-test.true in
-    let digit = ap (λ v. (v + 1) * slice_index_or WEIGHTS c.loop-i.i 0) c.from.ensures in
-    let most : weigh WEIGHTS c.args.octets.now < 74051159531521793 =
-    weigh_below 288136807515649 (drop 1 WEIGHTS) are_weights.0 c.args.octets.now
+    let digit = ap (λ v. v * slice_index_or WEIGHTS c.loop-i.i 0) c.from.ensures in
+    let most : weigh WEIGHTS c.args.octets.now < 18446744073709551616 =
+    weigh_below 72057594037927936 (drop 1 WEIGHTS) are_weights.0 c.args.octets.now
     (bytes_read c.args.octets.now c.type_inv.octets) in
     omega (arith, more, digit, most, c.loop-i.invariant)
 
@@ -23,16 +23,13 @@ pub loop-i-preserved : goal.loop-i-preserved
 loop-i-preserved c =
     let more = weighed_more WEIGHTS c.args.octets.now c.loop-i.i
     (omega (arith, c.requires, c.loop-i-test.true)) c.loop-i-test.true in
-    let digit = ap (λ v. (v + 1) * slice_index_or WEIGHTS c.loop-i.i 0) c.from.ensures in
+    let digit = ap (λ v. v * slice_index_or WEIGHTS c.loop-i.i 0) c.from.ensures in
     let next = ap (λ j. weigh (drop j WEIGHTS) (drop j c.args.octets.now)) (add-one c.loop-i.i) in
     omega (arith, more, digit, next, c.loop-i.invariant)
 
-pub returns-clause-word : goal.returns-clause-word
-returns-clause-word c =
+pub returns : goal.returns
+returns c =
     let none = ap (weigh (drop c.loop-i.i WEIGHTS))
     (drop_all c.loop-i.i c.args.octets.now c.loop-i-test.false)
     ∙ weigh_none (drop c.loop-i.i WEIGHTS) in
     omega (arith, none, c.loop-i.invariant)
-
-pub returns-clause-bytes : goal.returns-clause-bytes
-returns-clause-bytes c = bytes_read c.args.octets.now c.type_inv.octets
