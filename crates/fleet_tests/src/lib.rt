@@ -10,6 +10,8 @@ mod fleets;
 #[cfg(test)]
 mod forged;
 #[cfg(test)]
+mod hits;
+#[cfg(test)]
 mod hostile;
 #[cfg(test)]
 mod messages;

@@ -214,3 +214,19 @@ fn sweeps_go_to_each_peer_in_their_time(rt: HostRuntime) -> Result<(), Fail> {
         "nothing nothing nothing sent 5401 frame-100 sent 5402 frame-100 nothing",
     )
 }
+
+#[test]
+fn a_hit_is_sent(rt: HostRuntime) -> Result<(), Fail> {
+    let mut port = port_with(rt.alloc(), 6001, "question question-8", None)?;
+    let mut site = new_site(rt.alloc(), &[addr(5401)])?;
+    check_rows(&rt, rt.alloc(), &mut site, "100 learn reply => taken 1")?;
+    let mut clock = clock(rt.alloc(), "100 100")?;
+    let report = serve(&mut port, &mut clock, &mut OneWord(0), &mut site, 2, 0);
+    check_report(&rt, rt.alloc(), report, "2 2 2 0 0 0 0")?;
+    check_notes(
+        &rt,
+        rt.alloc(),
+        &port,
+        "received 6001 question sent 6001 relay received 6001 question-8 sent 6001 relay-8",
+    )
+}
