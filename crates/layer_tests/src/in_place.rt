@@ -59,7 +59,13 @@ pub(crate) fn tell_in_place(
     let Some((header, question)) = read_plain_query(message.as_slice()) else {
         return Ok(told.push_str("none")?);
     };
-    write!(told, "{} {} {} ", header.id, question.rtype(), question.class())?;
+    write!(
+        told,
+        "{} {} {} ",
+        header.id,
+        question.rtype(),
+        question.class()
+    )?;
     push_octets(told, question.name())
 }
 
