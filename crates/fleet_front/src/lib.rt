@@ -129,14 +129,17 @@ fn covers<T: Ranked>(items: &[T], value: &T) -> bool
         .any(|held| held.order(value).is_eq() || held.dominates(value))
 }
 
-/// Makes room for one more item; a first one takes just its own place, since most fronts have no
-/// more.
+/// How many items take just their own place.
+const FEW: usize = 4;
+
+/// Makes room for one more item; each of the first `FEW` takes just its own place, since most fronts
+/// have no more.
 fn make_room<T: Ranked, A: Allocator>(items: &mut Vec<T, A>) -> Result<(), AllocError>
     ensures items { items.new.items ≡ items.old.items }
     ensures len { vec_len items.new ≡ vec_len items.old }
     ensures room { OnOk result (vec_len items.new + 1 ≤ vec_capacity items.new) }
 {
-    if items.is_empty() {
+    if items.len() < FEW {
         return items.reserve_exact(1);
     }
     items.reserve(1)
