@@ -99,8 +99,8 @@ const NO_HITS: &str = "\
 110 datagram 6001 0 any => 6001 any-denial
 110 datagram 6001 0 inverse => 6001 inverse-denial
 110 datagram 6001 0 relay => refused Dropped
-110 datagram 6001 0 header => 6001 unread refused Read(QuestionCount)
-110 datagram 6001 4370 asked => 5301 asked-1111
+110 datagram 6001 0 header => 6001 unread refused Read(Truncated)
+110 datagram 6001 4369 asked => 5301 asked-1111
 110 datagram 5301 0 question => refused Dropped
 110 datagram 5401 0 question => refused Frame(BadMagic)
 ";
