@@ -175,8 +175,9 @@ fn check_table<A: Allocator + Copy>(
     Ok(())
 }
 
-/// Serves three turns with a call refused, and says what was counted.
-fn serve_refused(rt: &impl Abort, alloc: Global, call: u64) -> Result<Report, Fail> {
+/// Serves three turns with a call refused, and says what was counted, and whether there was such a
+/// call. Nothing is counted of the buffer for replies, which is done without.
+fn serve_refused(rt: &impl Abort, alloc: Global, call: u64) -> Result<(Report, bool), Fail> {
     let ample = Refusing::after(alloc, 0);
     let refusing = Refusing::after(alloc, call);
     let mut port = port(&refusing, &ample)?;
@@ -186,7 +187,8 @@ fn serve_refused(rt: &impl Abort, alloc: Global, call: u64) -> Result<Report, Fa
     let report = serve(&mut port, &mut clock, &mut words, &mut site, 3, 0);
     let failed = report.lost.saturating_add(report.faults);
     let refused = failed.saturating_add(report.short);
-    assert_eq!(rt; refused, u64::from(refusing.has_refused()), "{report:?}");
+    let is_whole = report == report_of(3, 0, 0, 0);
+    assert!(rt; is_whole || refused == 1, "{report:?}");
     assert_eq!(rt; port.failures(), failed, "{report:?}");
     assert_eq!(rt; port.notes().is_none(), failed > 0, "{report:?}");
     assert!(rt; has_sent(&port, report.sent), "{report:?}");
@@ -196,17 +198,25 @@ fn serve_refused(rt: &impl Abort, alloc: Global, call: u64) -> Result<Report, Fa
     if report.short > 0 {
         check_table(rt, &mut site, report.sent)?;
     }
-    Ok(report)
+    Ok((report, refusing.has_refused()))
 }
 
 #[test]
 fn a_server_counts_what_found_no_memory(rt: HostRuntime) -> Result<(), Fail> {
     let mut met = [false; 5];
+    let mut without_buffer = false;
     for call in 1..MANY {
-        let report = serve_refused(&rt, rt.alloc(), call)?;
-        if report == report_of(3, 0, 0, 0) {
+        let (report, has_refused) = serve_refused(&rt, rt.alloc(), call)?;
+        if !has_refused {
+            assert_eq!(rt; report, report_of(3, 0, 0, 0));
             assert_eq!(rt; met, [true; 5]);
+            assert!(rt; without_buffer);
             return Ok(());
+        }
+        if report == report_of(3, 0, 0, 0) {
+            assert!(rt; !without_buffer);
+            without_buffer = true;
+            continue;
         }
         let place = short_reports().iter().position(|short| *short == report);
         assert!(rt; place.is_some(), "{report:?}");
