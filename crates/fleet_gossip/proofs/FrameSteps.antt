@@ -9,7 +9,7 @@ use Rattle.fleet_gossip.specs.Entry.{octet, entry_octets, IsVersion, IsIn, AreIn
 use Rattle.fleet_gossip.specs.Frame.{entries, SpellsFrame, HasEntries}
 use Rattle.fleet_gossip.specs.declared.frame.TheConstants.{MAGIC}
 use Rattle.fleet_gossip.specs.Faults.{cut, refused, behind, EntryFails, EntriesFail, entry_fails, more_octets, MagicFails, FrameFails}
-use Rattle.fleet_gossip.specs.Steps.{AreMissing, IsOpened, AreEntries, StandEntries}
+use Rattle.fleet_gossip.specs.Steps.{AreMissing, IsOpening, BeginsWithEntries, AreEntryOctets}
 use Rattle.fleet_gossip.specs.declared.fault.FrameFault.{FrameFault}
 use Rattle.fleet_gossip.specs.declared.fault.FrameFault.TheVariants.{BadMagic, BadVersion, Trailing}
 use Rattle.fleet_gossip.specs.declared.bounds.TheConstants.{LONGEST_FRAME}
@@ -35,7 +35,7 @@ module _ (octets left : List ℕ) (n : ℕ) (is : octets ≡ u16_octets n ++ lef
         count_cut f h = behind n left is same (behind v rest stands one (cut h.0 h.1))
 
         pub opening_read : (count : ℕ) (more : List ℕ) → rest ≡ u16_octets count ++ more
-            → IsOpened octets v count more
+            → IsOpening octets v count more
         opening_read count more e = record {
           whole = is ∙ (ap (λ (k : ℕ). u16_octets k ++ left) same
               ∙ ap (λ (x : List ℕ). u16_octets MAGIC ++ x)
@@ -44,7 +44,7 @@ module _ (octets left : List ℕ) (n : ℕ) (is : octets ≡ u16_octets n ++ lef
         }
 
 pub entries_fail : (octets rest : List ℕ) (version count : ℕ) (f : FrameFault)
-    → IsOpened octets version count rest → length octets ≤ LONGEST_FRAME
+    → IsOpening octets version count rest → length octets ≤ LONGEST_FRAME
     → EntriesFail version count rest f → FrameFails octets f
 entries_fail octets rest version count f is fits h = inr (
   fits,
@@ -54,11 +54,11 @@ entries_fail octets rest version count f is fits h = inr (
 
 -- one more entry
 pub entry_more : (octets left rest : List ℕ) (version count : ℕ) (list new : List ObservationData)
-    (o : ObservationData) → AreEntries octets version count list left → IsIn version o
+    (o : ObservationData) → BeginsWithEntries octets version count list left → IsIn version o
     → left ≡ entry_octets o ++ rest → new ≡ list ++ o ∷ []
-    → AreEntries octets version (count + 1) new rest
+    → BeginsWithEntries octets version (count + 1) new rest
 entry_more octets left rest version count list new o are is stands e =
-    subst (λ (x : List ObservationData). AreEntries octets version (count + 1) x rest) (sym e)
+    subst (λ (x : List ObservationData). BeginsWithEntries octets version (count + 1) x rest) (sym e)
     (record {
       whole = are.whole ∙ (ap (λ (x : List ℕ). entries list ++ x) stands
           ∙ (sym (append_assoc (entries list) (entry_octets o) rest)
@@ -68,7 +68,7 @@ entry_more octets left rest version count list new o are is stands e =
     })
 
 pub entry_told : (octets left : List ℕ) (version at count : ℕ) (list : List ObservationData)
-    (f : FrameFault) → AreEntries octets version at list left → at < count
+    (f : FrameFault) → BeginsWithEntries octets version at list left → at < count
     → EntryFails version left f → EntriesFail version count octets f
 entry_told octets left version at count list f are few h = entry_fails list left are.whole
     are.lawful
@@ -76,7 +76,7 @@ entry_told octets left version at count list f are few h = entry_fails list left
 
 -- behind the last entry
 module _ (octets left : List ℕ) (version at : ℕ) (list : List ObservationData)
-    (are : AreEntries octets version at list left) (count : ℕ) (all : at ≡ count) where
+    (are : BeginsWithEntries octets version at list left) (count : ℕ) (all : at ≡ count) where
   some_of : (xs : List ℕ) → (xs ≡ [] → ⊥) → 0 < length xs
   some_of [] unlike = absurd (unlike refl)
   some_of (x ∷ xs) unlike = omega arith
@@ -85,18 +85,18 @@ module _ (octets left : List ℕ) (version at : ℕ) (list : List ObservationDat
   trails unlike = more_octets list left are.whole are.lawful (are.counted ∙ all)
       (some_of left unlike) refl
 
-  pub all_stand : left ≡ [] → StandEntries octets version count
+  pub all_stand : left ≡ [] → AreEntryOctets octets version count
   all_stand none = record {
     list = list;
     are = subst
-        (λ (x : List ℕ). AreEntries octets version count list x) none
-        (subst (λ (n : ℕ). AreEntries octets version n list left) all are);
+        (λ (x : List ℕ). BeginsWithEntries octets version count list x) none
+        (subst (λ (n : ℕ). BeginsWithEntries octets version n list left) all are);
   }
 
 -- the observations of all entries
 module _ (octets rest : List ℕ) (version count : ℕ) (list : List ObservationData)
-    (is : IsOpened octets version count rest) (fits : length octets ≤ LONGEST_FRAME)
-    (are : AreEntries rest version count list []) where
+    (is : IsOpening octets version count rest) (fits : length octets ≤ LONGEST_FRAME)
+    (are : BeginsWithEntries rest version count list []) where
   pub spells_frame : SpellsFrame octets list
   spells_frame = record {
     version = version;
@@ -166,7 +166,7 @@ entries_next octets made new left o copy others e is copied pushed =
 pub all_made : (octets : List ℕ) (made : List ObservationData) (version at count : ℕ)
     (left : List ObservationData) → AreIn version made → octets ≡ entries (made ++ left)
     → length made ≡ at → at + length left ≡ count → count ≤ at
-    → AreEntries octets version count made []
+    → BeginsWithEntries octets version count made []
 all_made octets made version at count left lawful is n all past =
     record {
       whole = is ∙ (ap (λ (x : List ObservationData). entries (made ++ x))

@@ -93,9 +93,9 @@ abbrev pub IsAbove : List (List ℕ) → List ℕ → Type 0
 IsAbove rdatas rdata = (before : List (List ℕ)) (last : List ℕ) → rdatas ≡ before ++ last ∷ []
     → slice_cmp nat_cmp last rdata ≡ Less
 
--- it is the last of them
-abbrev pub EndWith : List (List ℕ) → List ℕ → Type 0
-EndWith rdatas last = (before : List (List ℕ)) × (rdatas ≡ before ++ last ∷ [])
+-- the last of them is this one
+abbrev pub HasLast : List (List ℕ) → List ℕ → Type 0
+HasLast rdatas last = (before : List (List ℕ)) × (rdatas ≡ before ++ last ∷ [])
 
 -- so many RDATAs that those of a type may begin with stand at the front, and the rest behind them;
 -- their body has `long` octets
@@ -118,29 +118,30 @@ pub record IsSoaBody (body : List ℕ) : Type 0 where
   pub named : IsName owner
   pub octets : body ≡ negative_body owner rdata
 
--- the magic, a version and a count of entries stand at the front, the rest behind them
-pub record IsOpened (octets : List ℕ) (version count : ℕ) (rest : List ℕ) : Type 0 where
+-- the opening of a frame, magic, version and count of entries, stands at the front, and the rest
+-- behind it
+pub record IsOpening (octets : List ℕ) (version count : ℕ) (rest : List ℕ) : Type 0 where
   pub whole : octets ≡ u16_octets MAGIC ++ (octet version ++ (u16_octets count ++ rest))
   pub read : IsVersion version
 
--- so many entries of the version stand at the front, and the rest behind them
-pub record AreEntries (octets : List ℕ) (version count : ℕ) (list : List ObservationData)
+-- the octets begin with so many entries of the version, and the rest stands behind them
+pub record BeginsWithEntries (octets : List ℕ) (version count : ℕ) (list : List ObservationData)
     (rest : List ℕ)
     : Type 0 where
   pub whole : octets ≡ entries list ++ rest
   pub lawful : AreIn version list
   pub counted : length list ≡ count
 
--- octets that are just so many lawful entries of the version
-pub record StandEntries (octets : List ℕ) (version count : ℕ) : Type 0 where
+-- octets that are so many entries of the version, and nothing else
+pub record AreEntryOctets (octets : List ℕ) (version count : ℕ) : Type 0 where
   pub list : List ObservationData
-  pub are : AreEntries octets version count list []
+  pub are : BeginsWithEntries octets version count list []
 
--- a frame has so many entries of the version, and these octets are all of them
-pub record AreEntriesOf (frame : List ℕ) (version count : ℕ) (octets : List ℕ) : Type 0 where
-  pub opened : IsOpened frame version count octets
+-- a frame of so many entries of the version, which are these octets
+pub record IsFrameOfEntries (frame : List ℕ) (version count : ℕ) (octets : List ℕ) : Type 0 where
+  pub opened : IsOpening frame version count octets
   pub fits : length frame ≤ LONGEST_FRAME
-  pub stand : StandEntries octets version count
+  pub stand : AreEntryOctets octets version count
 
 -- the frame of these observations has so many octets, which fit
 pub record FitsFrame (list : List ObservationData) (size : ℕ) : Type 0 where

@@ -6,7 +6,7 @@ ghost use Rattle.fleet_observe.specs.Body.{octets_with_length, positive_body, Is
 ghost use Rattle.fleet_observe.specs.declared.bounds.TheConstants.{LONGEST_BODY};
 ghost use Rattle.fleet_gossip.specs.Entry.{AreFirstRdatas, AreBodyOctets};
 ghost use Rattle.fleet_gossip.specs.Faults.{SizedFails, RdatasFail, PositiveFails, NegativeFails, BodyFails};
-ghost use Rattle.fleet_gossip.specs.Steps.{AnyRdata, IsAbove, EndWith, IsPart, IsSizeOf, AreFirstOf, IsOwnerOf};
+ghost use Rattle.fleet_gossip.specs.Steps.{AnyRdata, IsAbove, HasLast, IsPart, IsSizeOf, AreFirstOf, IsOwnerOf};
 
 use crate::fault::FrameFault;
 use crate::name::{is_under, read_name};
@@ -28,7 +28,7 @@ pub(crate) fn read_sized<'a>(reader: &mut Reader<'a>) -> Result<&'a [u8], FrameF
 /// Whether the RDATA stands above the last one, if there is one.
 fn is_above(last: Option<&[u8]>, rdata: &[u8]) -> bool
     ensures { (before : List (List ℕ))
-        → MatchOption last.entry (before ≡ []) (λ r. EndWith before r.now)
+        → MatchOption last.entry (before ≡ []) (λ r. HasLast before r.now)
         → (IsTrue result ↔ IsAbove before rdata.now) }
 {
     match last {
@@ -42,7 +42,7 @@ fn is_above(last: Option<&[u8]>, rdata: &[u8]) -> bool
 fn is_next(rtype: u16, last: Option<&[u8]>, size: usize, rdata: &[u8]) -> bool
     requires { size ≤ LONGEST_BODY }
     ensures { (before : List (List ℕ))
-        → MatchOption last.entry (before ≡ []) (λ r. EndWith before r.now)
+        → MatchOption last.entry (before ≡ []) (λ r. HasLast before r.now)
         → AreFirstRdatas rtype before → size ≡ length (positive_body before)
         → (IsTrue result ↔ AreFirstRdatas rtype (before ++ rdata.now ∷ [])) }
 {

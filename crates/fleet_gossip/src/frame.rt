@@ -6,7 +6,7 @@ ghost use Rattle.fleet_observe.specs.Observation.{ObservationData};
 ghost use Rattle.fleet_gossip.specs.Entry.{IsVersion};
 ghost use Rattle.fleet_gossip.specs.Frame.{frame_octets, SpellsFrame, WritesFrame, HasEntries};
 ghost use Rattle.fleet_gossip.specs.Faults.{EntriesFail, MagicFails, FrameFails, IsTooLong};
-ghost use Rattle.fleet_gossip.specs.Steps.{IsOpened, AreEntries, StandEntries, AreEntriesOf, FitsFrame};
+ghost use Rattle.fleet_gossip.specs.Steps.{IsOpening, BeginsWithEntries, AreEntryOctets, IsFrameOfEntries, FitsFrame};
 ghost use Rattle.fleet_gossip.specs.declared.frame.TheConstants.{VERSION};
 ghost use Rattle.fleet_gossip.specs.declared.bounds.TheConstants.{LONGEST_FRAME};
 ghost use Rattle.fleet_gossip.specs.declared.fault.FrameFault.TheVariants.{TooLong, OutOfMemory};
@@ -92,7 +92,7 @@ pub(crate) struct Opening {
 /// The version of the frame, and how many entries it counts.
 fn read_opening(reader: &mut Reader<'_>) -> Result<Opening, FrameFault>
     ensures { MatchResult result
-        (λ opening. IsOpened reader.old opening.version opening.count reader.new)
+        (λ opening. IsOpening reader.old opening.version opening.count reader.new)
         (MagicFails reader.old) }
 {
     let magic = reader.read_u16()?;
@@ -118,7 +118,7 @@ pub(crate) struct Entries<'a> {
 /// Whether the octets are just so many lawful entries. This takes no memory.
 fn check_entries(entries: &Entries<'_>) -> Result<(), FrameFault>
     ensures { MatchResult result
-        (λ _. StandEntries entries.now.octets.now entries.now.version entries.now.count)
+        (λ _. AreEntryOctets entries.now.octets.now entries.now.version entries.now.count)
         (EntriesFail entries.now.version entries.now.count entries.now.octets.now) }
 {
     let mut reader = Reader::new(entries.octets);
@@ -137,7 +137,7 @@ fn check_entries(entries: &Entries<'_>) -> Result<(), FrameFault>
 /// The entries of a frame, each of them lawful. This takes no memory.
 fn read_frame(octets: &[u8]) -> Result<Entries<'_>, FrameFault>
     ensures { MatchResult result (λ entries.
-        AreEntriesOf octets.now entries.version entries.count entries.octets.now)
+        IsFrameOfEntries octets.now entries.version entries.count entries.octets.now)
         (FrameFails octets.now) }
 {
     if octets.len() > LONGEST_FRAME {
@@ -159,9 +159,9 @@ fn to_observations<A: Allocator + Copy>(
     alloc: A,
     entries: &Entries<'_>,
 ) -> Result<Vec<Observation<A>, A>, AllocError>
-    requires { StandEntries entries.now.octets.now entries.now.version entries.now.count }
+    requires { AreEntryOctets entries.now.octets.now entries.now.version entries.now.count }
     ensures found { IfOk result (λ v.
-        AreEntries entries.now.octets.now entries.now.version entries.now.count v.items []) }
+        BeginsWithEntries entries.now.octets.now entries.now.version entries.now.count v.items []) }
     ensures memory { OnErr result (0 < entries.now.count) }
 {
     let mut reader = Reader::new(entries.octets);

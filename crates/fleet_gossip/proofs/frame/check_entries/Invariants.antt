@@ -1,10 +1,10 @@
 use Rattle.std.proofs.Common.{List}
 use Rattle.fleet_observe.specs.Observation.{ObservationData}
-use Rattle.fleet_gossip.specs.Steps.{AreEntries}
+use Rattle.fleet_gossip.specs.Steps.{BeginsWithEntries}
 use Rattle.fleet_gossip.proofs.frame.check_entries.Given as goal
 
 abbrev pub invariant-loop : goal.invariant-loop
 invariant-loop l = record {
   list : List ObservationData;
-  are : AreEntries l.entries.octets.now l.entries.version l.counter list l.reader;
+  are : BeginsWithEntries l.entries.octets.now l.entries.version l.counter list l.reader;
 }
