@@ -18,6 +18,5 @@ pub mod Slots
 pub mod Noted
 pub mod Keyed
 pub mod Swept
-pub mod Path
 pub mod Laws
 pub mod Rows
