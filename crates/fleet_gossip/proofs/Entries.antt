@@ -1,19 +1,20 @@
 -- Entries tell their observation, whatever stands behind them, and have no fault.
-use Rattle.std.proofs.Common.{◌≡◌, ℕ, inl, inr, List, ◌++◌, refl, sym, ap, ◌∙◌, subst, arith, append_assoc}
+use Rattle.std.proofs.Common.{◌≡◌, ℕ, List, ◌++◌, refl, sym, ap, ◌∙◌, subst, arith, append_assoc}
 use Rattle.fleet_name.specs.Name.{wire, IsName}
 use Rattle.fleet_wire.specs.Number.{u16_octets, u32_octets}
 use Rattle.fleet_observe.specs.Body.{positive_body, negative_body, IsNegativeBody}
 use Rattle.fleet_observe.specs.Checks.{IsRankOf, IsLifeOf, IsTypeOf}
-use Rattle.fleet_observe.specs.Observation.{ObservationData, IsObservation, IsRank, IsDenialRank, IsLife, kind_number}
+use Rattle.fleet_observe.specs.Observation.{ObservationData, IsObservation, IsRank, IsLife, kind_number}
 use Rattle.fleet_observe.specs.declared.bounds.TheConstants.{LONGEST_LIFE}
 use Rattle.fleet_observe.specs.declared.observation.kind.Kind.{Kind}
 use Rattle.fleet_observe.specs.declared.observation.kind.Kind.TheVariants.{NameError, NoData, Positive, Flush}
 use Rattle.fleet_gossip.specs.Entry.{octet, u64_octets, entry_octets, IsKindIn, IsKindNumber, IsMoment, AreBodyOctets}
-use Rattle.fleet_gossip.specs.Faults.{NamedFails, name_fails, behind_name, NegativeFails, BodyFails, TypeFails, LifeFails, StampFails, RankFails, KindFails, EntryFails}
+use Rattle.fleet_gossip.specs.Faults.{name_fails, behind_name, NegativeFails, BodyFails, EntryFails}
 use Rattle.fleet_gossip.specs.declared.fault.FrameFault.{FrameFault}
 use Rattle.fleet_gossip.specs.declared.fault.FrameFault.TheVariants.{BadKind, BadRank, BadMoment, BadLife, BadName}
 use Rattle.fleet_wire.proofs.Lemmas.{u16_exact, u16_long, u32_exact, u32_long}
 use Rattle.fleet_observe.proofs.Lemmas.{any_rank, kind_exact}
+use Rattle.fleet_gossip.proofs.EntryLines.{NamedFails, TypeFails, LifeFails, StampFails, RankFails, KindFails}
 use Rattle.fleet_gossip.proofs.Numbers.{octet_exact, octet_long, u64_exact, u64_long}
 use Rattle.fleet_gossip.proofs.Fields.{field_or_fault, one_field}
 use Rattle.fleet_gossip.proofs.Names.{name_exact, name_or_fault, one_name_fault}

@@ -8,7 +8,7 @@ use Rattle.fleet_observe.specs.Observation.{ObservationData, IsObservation}
 use Rattle.fleet_gossip.specs.Entry.{octet, entry_octets, IsVersion, IsIn, AreIn}
 use Rattle.fleet_gossip.specs.Frame.{entries, SpellsFrame, HasEntries}
 use Rattle.fleet_gossip.specs.declared.frame.TheConstants.{MAGIC}
-use Rattle.fleet_gossip.specs.Faults.{cut, refused, behind, EntryFails, EntriesFail, entry_fails, more_octets, MagicFails, FrameFails}
+use Rattle.fleet_gossip.specs.Faults.{cut, refused, behind, EntryFails, EntriesFail, entry_fails, more_octets, FrameFieldsFail, FrameFails}
 use Rattle.fleet_gossip.specs.Steps.{AreMissing, IsOpening, BeginsWithEntries, AreEntryOctets}
 use Rattle.fleet_gossip.specs.declared.fault.FrameFault.{FrameFault}
 use Rattle.fleet_gossip.specs.declared.fault.FrameFault.TheVariants.{BadMagic, BadVersion, Trailing}
@@ -19,19 +19,19 @@ use Rattle.fleet_gossip.proofs.Packing.{entries_push}
 
 -- Behind a first number of two octets.
 module _ (octets left : List ℕ) (n : ℕ) (is : octets ≡ u16_octets n ++ left) where
-  pub bad_magic : (n ≡ MAGIC → ⊥) → MagicFails octets BadMagic
+  pub bad_magic : (n ≡ MAGIC → ⊥) → FrameFieldsFail octets BadMagic
   bad_magic unlike = refused n left is unlike refl
 
   module _ (same : n ≡ MAGIC) where
-    pub version_cut : (f : FrameFault) → AreMissing 1 left f → MagicFails octets f
+    pub version_cut : (f : FrameFault) → AreMissing 1 left f → FrameFieldsFail octets f
     version_cut f h = behind n left is same (cut h.0 h.1)
 
     module _ (v : ℕ) (rest : List ℕ) (stands : left ≡ octet v ++ rest) where
-      pub bad_version : (IsVersion v → ⊥) → MagicFails octets BadVersion
+      pub bad_version : (IsVersion v → ⊥) → FrameFieldsFail octets BadVersion
       bad_version unlike = behind n left is same (refused v rest stands unlike refl)
 
       module _ (one : IsVersion v) where
-        pub count_cut : (f : FrameFault) → AreMissing 2 rest f → MagicFails octets f
+        pub count_cut : (f : FrameFault) → AreMissing 2 rest f → FrameFieldsFail octets f
         count_cut f h = behind n left is same (behind v rest stands one (cut h.0 h.1))
 
         pub opening_read : (count : ℕ) (more : List ℕ) → rest ≡ u16_octets count ++ more

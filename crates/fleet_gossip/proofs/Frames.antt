@@ -9,7 +9,7 @@ use Rattle.fleet_observe.specs.declared.observation.kind.Kind.TheVariants.{NameE
 use Rattle.fleet_gossip.specs.Entry.{octet, entry_octets, IsVersion, IsKindIn, AreIn}
 use Rattle.fleet_gossip.specs.Frame.{entries, frame_octets, SpellsFrame}
 use Rattle.fleet_gossip.specs.declared.frame.TheConstants.{MAGIC, VERSION}
-use Rattle.fleet_gossip.specs.Faults.{AnyNumber, EntryFails, EntriesFail, entry_fails, more_octets, CountFails, VersionFails, MagicFails, FrameFails}
+use Rattle.fleet_gossip.specs.Faults.{FieldFails, AnyNumber, EntryFails, EntriesFail, entry_fails, more_octets, FrameFieldsFail, FrameFails}
 use Rattle.fleet_gossip.specs.declared.fault.FrameFault.{FrameFault}
 use Rattle.fleet_gossip.specs.declared.fault.FrameFault.TheVariants.{BadMagic, BadVersion, Truncated}
 use Rattle.fleet_wire.proofs.Lemmas.{u16_exact, u16_long}
@@ -127,9 +127,16 @@ pub one_spelling : (list : List ObservationData) (a b : List ℕ) (x : SpellsFra
 one_spelling list a b x y e =
     x.spelled ∙ (ap (λ (v : ℕ). frame_octets v list) e ∙ sym y.spelled)
 
+-- The lines of `FrameFieldsFail` behind the first.
+abbrev CountFails : ℕ → List ℕ → FrameFault → Type 0
+CountFails version = FieldFails u16_octets 2 AnyNumber Truncated (EntriesFail version)
+
+abbrev VersionFails : List ℕ → FrameFault → Type 0
+VersionFails = FieldFails octet 1 IsVersion BadVersion CountFails
+
 magic_or_fault : (version : ℕ) (list : List ObservationData) (octets : List ℕ) (f : FrameFault)
     → IsVersion version → AreIn version list → octets ≡ frame_octets version list
-    → MagicFails octets f → ⊥
+    → FrameFieldsFail octets f → ⊥
 magic_or_fault version list octets f read l e h =
     field_or_fault u16_octets 2 (λ n. n ≡ MAGIC) BadMagic (λ n. VersionFails) u16_long u16_exact
     MAGIC (octet version ++ (u16_octets (length list) ++ entries list)) octets f e refl
@@ -147,7 +154,7 @@ list_or_fault octets list f is (inl h) = omega (arith, h.0, is.fits)
 list_or_fault octets list f is (inr h) = magic_or_fault is.version list octets f is.read is.lawful
     is.spelled h.1
 
-one_magic_fault : (octets : List ℕ) (f g : FrameFault) → MagicFails octets f → MagicFails octets g
+one_magic_fault : (octets : List ℕ) (f g : FrameFault) → FrameFieldsFail octets f → FrameFieldsFail octets g
     → f ≡ g
 one_magic_fault octets f g h h' =
     one_field u16_octets 2 (λ n. n ≡ MAGIC) BadMagic (λ n. VersionFails) u16_long u16_exact

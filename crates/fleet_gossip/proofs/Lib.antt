@@ -1,5 +1,6 @@
 pub mod Numbers
 pub mod Fields
+pub mod EntryLines
 pub mod Rows
 pub mod Names
 pub mod Under

@@ -2,9 +2,10 @@
 use Rattle.std.proofs.Common.{◌≡◌, ℕ, List, sym, ◌∙◌, inl, inr}
 use Rattle.fleet_observe.specs.declared.observation.kind.Kind.{Kind}
 use Rattle.fleet_observe.specs.declared.observation.kind.Kind.TheVariants.{NameError, NoData, Positive, Flush}
-use Rattle.fleet_gossip.specs.Faults.{FieldFails, cut, refused, behind, OctetsFail, cut_octets, refused_octets, FrameNameFails, label_fails, SizedFails, RdatasFail, rdata_fails, NegativeFails, owner_fails, stranger, soa_fails, BodyFails, NamedFails, name_fails, behind_name, EntryFails, EntriesFail, entry_fails, more_octets, FrameFails}
+use Rattle.fleet_gossip.specs.Faults.{FieldFails, cut, refused, behind, OctetsFail, cut_octets, refused_octets, FrameNameFails, label_fails, SizedFails, RdatasFail, rdata_fails, NegativeFails, owner_fails, stranger, soa_fails, BodyFails, name_fails, behind_name, EntryFails, EntriesFail, entry_fails, more_octets, FrameFails}
 use Rattle.fleet_gossip.specs.declared.fault.FrameFault.{FrameFault}
 use Rattle.fleet_gossip.specs.declared.fault.FrameFault.TheVariants.{TooLong, Truncated, BadName, BadBody, Trailing, OutOfMemory}
+use Rattle.fleet_gossip.proofs.EntryLines.{NamedFails}
 
 -- it is another fault than want of memory
 abbrev pub IsOther : FrameFault → Type 0

@@ -107,31 +107,31 @@ BodyFails NoData name rtype = NegativeFails name
 BodyFails NameError name rtype = NegativeFails name
 BodyFails Flush name rtype = λ octets f. ⊥
 
--- The first fault of an entry, from its type on, from its name, life, stamp and rank on, behind the
--- number of its kind, and of the whole.
-abbrev pub TypeFails : Kind → List (List ℕ) → List ℕ → FrameFault → Type 0
-TypeFails kind name = FieldFails u16_octets 2 (IsTypeOf kind) BadKind (BodyFails kind name)
-
-pub data NamedFails (kind : Kind) (octets : List ℕ) (f : FrameFault) : Type 0 where
-  name_fails : FrameNameFails BadName octets f → NamedFails kind octets f
+-- the first fault of a name and of what stands behind it: the name fails, or it is one and what
+-- stands behind it fails
+pub data NameFieldFails (refusal : FrameFault)
+    (Behind : List (List ℕ) → List ℕ → FrameFault → Type 0) (octets : List ℕ) (f : FrameFault)
+    : Type 0 where
+  name_fails : FrameNameFails refusal octets f → NameFieldFails refusal Behind octets f
   behind_name : (name : List (List ℕ)) (rest : List ℕ) → octets ≡ wire name ++ rest → IsName name
-      → TypeFails kind name rest f
-      → NamedFails kind octets f
+      → Behind name rest f
+      → NameFieldFails refusal Behind octets f
 
-abbrev pub LifeFails : Kind → List ℕ → FrameFault → Type 0
-LifeFails kind = FieldFails u32_octets 4 (IsLifeOf kind) BadLife (λ life. NamedFails kind)
+-- the kind of a number, and what fails behind it
+abbrev pub KindOf : (Kind → List ℕ → FrameFault → Type 0) → ℕ → List ℕ → FrameFault → Type 0
+KindOf Behind number octets f = (kind : Kind) × IsKind number kind × Behind kind octets f
 
-abbrev pub StampFails : Kind → List ℕ → FrameFault → Type 0
-StampFails kind = FieldFails u64_octets 8 IsMoment BadMoment (λ stamp. LifeFails kind)
-
-abbrev pub RankFails : Kind → List ℕ → FrameFault → Type 0
-RankFails kind = FieldFails octet 1 (IsRankOf kind) BadRank (λ rank. StampFails kind)
-
-abbrev pub KindFails : ℕ → List ℕ → FrameFault → Type 0
-KindFails number octets f = (kind : Kind) × IsKind number kind × RankFails kind octets f
-
+-- The first fault of an entry. It has a line for each field, in reading order: how it is spelled and
+-- in how many octets, what is lawful, the fault of what is not, and its name for the lines behind.
 abbrev pub EntryFails : ℕ → List ℕ → FrameFault → Type 0
-EntryFails version = FieldFails octet 1 (IsKindNumber version) BadKind KindFails
+EntryFails version =
+    FieldFails octet 1 (IsKindNumber version) BadKind (KindOf (λ kind.
+    FieldFails octet 1 (IsRankOf kind) BadRank (λ rank.
+    FieldFails u64_octets 8 IsMoment BadMoment (λ stamp.
+    FieldFails u32_octets 4 (IsLifeOf kind) BadLife (λ life.
+    NameFieldFails BadName (λ name.
+    FieldFails u16_octets 2 (IsTypeOf kind) BadKind (λ rtype.
+    BodyFails kind name rtype)))))))
 
 -- the first fault of so many entries: behind fewer of them the next fails, or octets stand behind
 -- them all
@@ -145,21 +145,19 @@ pub data EntriesFail (version count : ℕ) (octets : List ℕ) (f : FrameFault) 
       → length list ≡ count → 0 < length rest → f ≡ Trailing
       → EntriesFail version count octets f
 
--- the first fault of a frame from its count on, from its version and from its magic on
-abbrev pub CountFails : ℕ → List ℕ → FrameFault → Type 0
-CountFails version = FieldFails u16_octets 2 AnyNumber Truncated (EntriesFail version)
+-- the first fault of a frame's fields, a line for each as for an entry
+abbrev pub FrameFieldsFail : List ℕ → FrameFault → Type 0
+FrameFieldsFail =
+    FieldFails u16_octets 2 (λ magic. magic ≡ MAGIC) BadMagic (λ magic.
+    FieldFails octet 1 IsVersion BadVersion (λ version.
+    FieldFails u16_octets 2 AnyNumber Truncated (λ count.
+    EntriesFail version count)))
 
-abbrev pub VersionFails : List ℕ → FrameFault → Type 0
-VersionFails = FieldFails octet 1 IsVersion BadVersion CountFails
-
-abbrev pub MagicFails : List ℕ → FrameFault → Type 0
-MagicFails = FieldFails u16_octets 2 (λ n. n ≡ MAGIC) BadMagic (λ n. VersionFails)
-
--- the first fault of a frame
+-- the first fault of a frame: the whole is too long, or a field fails
 abbrev pub FrameFails : List ℕ → FrameFault → Type 0
 FrameFails octets f =
     ((LONGEST_FRAME < length octets) × (f ≡ TooLong))
-    ⊎ ((length octets ≤ LONGEST_FRAME) × MagicFails octets f)
+    ⊎ ((length octets ≤ LONGEST_FRAME) × FrameFieldsFail octets f)
 
 -- these observations would make too long a frame
 abbrev pub IsTooLong : List ObservationData → FrameFault → Type 0

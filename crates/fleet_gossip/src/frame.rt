@@ -5,7 +5,7 @@ ghost use Rattle.fleet_name.specs.Fault.{OrMemory};
 ghost use Rattle.fleet_observe.specs.Observation.{ObservationData};
 ghost use Rattle.fleet_gossip.specs.Entry.{IsVersion};
 ghost use Rattle.fleet_gossip.specs.Frame.{frame_octets, SpellsFrame, WritesFrame, HasEntries};
-ghost use Rattle.fleet_gossip.specs.Faults.{EntriesFail, MagicFails, FrameFails, IsTooLong};
+ghost use Rattle.fleet_gossip.specs.Faults.{EntriesFail, FrameFieldsFail, FrameFails, IsTooLong};
 ghost use Rattle.fleet_gossip.specs.Steps.{IsOpening, BeginsWithEntries, AreEntryOctets, IsFrameOfEntries, FitsFrame};
 ghost use Rattle.fleet_gossip.specs.declared.frame.TheConstants.{VERSION};
 ghost use Rattle.fleet_gossip.specs.declared.bounds.TheConstants.{LONGEST_FRAME};
@@ -93,7 +93,7 @@ pub(crate) struct Opening {
 fn read_opening(reader: &mut Reader<'_>) -> Result<Opening, FrameFault>
     ensures { MatchResult result
         (λ opening. IsOpening reader.old opening.version opening.count reader.new)
-        (MagicFails reader.old) }
+        (FrameFieldsFail reader.old) }
 {
     let magic = reader.read_u16()?;
     if magic != MAGIC {

@@ -2,8 +2,8 @@ use Rattle.std.proofs.lemmas.Result.{err_from_is_err_and}
 use Rattle.fleet_wire.specs.Number.{u32_octets}
 use Rattle.fleet_observe.specs.Checks.{IsRankOf, IsLifeOf}
 use Rattle.fleet_gossip.specs.Entry.{octet, u64_octets, IsKindNumber, IsMoment}
-use Rattle.fleet_gossip.specs.Faults.{NamedFails, LifeFails, StampFails, KindFails}
 use Rattle.fleet_gossip.specs.declared.fault.FrameFault.TheVariants.{BadKind, BadRank, BadMoment, BadLife}
+use Rattle.fleet_gossip.proofs.EntryLines.{NamedFails, LifeFails, StampFails, KindFails}
 use Rattle.fleet_gossip.proofs.Fields.{field_told}
 use Rattle.fleet_gossip.proofs.Heads.{behind_kind, behind_rank, behind_stamp}
 use Rattle.fleet_gossip.proofs.head.read_head.Goals as goal
