@@ -6,9 +6,8 @@ use Rattle.fleet_gossip.specs.Packed.{IsPacked}
 use Rattle.fleet_pending.specs.PendingData.{PendingData}
 use Rattle.fleet_site.specs.Carried.{Carries}
 use Rattle.fleet_site.specs.Flush.{Flushed}
-use Rattle.fleet_site.specs.OutcomeData.{OutcomeData, outcome_data, nothing}
+use Rattle.fleet_site.specs.OutcomeData.{OutcomeData, nothing}
 use Rattle.fleet_site.specs.SiteModel.{Deed}
-use Rattle.fleet_site.specs.declared.outcome.Outcome.{Outcome}
 use Rattle.fleet_site.specs.declared.outcome.SiteFault.TheVariants.{OutOfMemory}
 
 -- what is said of a flush with these frames
@@ -29,7 +28,7 @@ module _ (o : PendingData) (name : List (List ℕ)) (t : ℕ) (s list : List Obs
   flushed : Flushed o name t (flush_deed o name t frames)
   flushed = (frames, subst (λ xs. IsPacked xs frames) is packed, refl)
 
-  pub carries_flush : {A : Type 0} (out : Outcome A) → outcome_data out ≡ says_flush frames
+  pub carries_flush : (out : OutcomeData) → out ≡ says_flush frames
       → IsCached (list ++ s) cache.floor cache.items
       → Carries (Flushed o name t) (Unit {0}) s o (Ok out) cache o
   carries_flush out said cached = (
@@ -40,10 +39,10 @@ module _ (o : PendingData) (name : List (List ℕ)) (t : ℕ) (s list : List Obs
     refl,
   )
 
-  pub stops_flush : (A : Type 0) (taken : ℕ) → taken < length list
+  pub stops_flush : (taken : ℕ) → taken < length list
       → IsCached (take taken list ++ s) cache.floor cache.items
-      → Carries {A = A} (Flushed o name t) (Unit {0}) s o (Err (OutOfMemory taken)) cache o
-  stops_flush A taken within cached = (
+      → Carries (Flushed o name t) (Unit {0}) s o (Err (OutOfMemory taken)) cache o
+  stops_flush taken within cached = (
     refl,
     inr (
       flush_deed o name t frames,

@@ -1,13 +1,11 @@
 -- Lists of calls of a port, and of what is sent.
-use Rattle.std.proofs.Common.{◌≡◌, ℕ, ◌+◌, ◌<◌, List, [], ◌∷◌, ◌++◌, Option, Some, None, Ok, refl, sym, ap, subst, ◌∙◌, append_assoc, length, take, get_or, map, is_some}
-use Rattle.std.proofs.lemmas.List.{append-nil, map-append, take_more}
+use Rattle.std.proofs.Common.{◌≡◌, ℕ, ◌+◌, ◌<◌, List, [], ◌∷◌, ◌++◌, Option, Some, None, Ok, refl, sym, ap, subst, ◌∙◌, append_assoc, length, take, get_or, is_some}
+use Rattle.std.proofs.lemmas.List.{append-nil, take_more}
 use Rattle.fleet_pending.specs.declared.waiter.Addr.{Addr}
 use Rattle.fleet_site.specs.PacketData.{PacketData}
-use Rattle.fleet_site.specs.Packet.{packet_data}
 use Rattle.fleet_site.specs.OutcomeData.{OutcomeData, nothing}
 use Rattle.fleet_site.specs.PortRecord.{PortCall, Received, NoDatagram, Fault, PacketSent, PacketLost, NotesAll, PortState, Made, failures_of, one_more}
 use Rattle.fleet_site.specs.Sending.{AreSent, count_call, count_calls, count_refusal_in, Sends, CarriesOut, to_each, to_peers}
-use Rattle.fleet_site.specs.declared.outcome.Packet.{Packet}
 use Rattle.fleet_site.specs.declared.report.Report.{Report}
 
 pub failures_of-append : (cs ds : List PortCall) (n : ℕ)
@@ -78,12 +76,9 @@ to_peers-append peers (f ∷ fs) gs =
     ap (λ xs. to_each f peers ++ xs) (to_peers-append peers fs gs)
     ∙ sym (append_assoc (to_each f peers) (to_peers peers fs) (to_peers peers gs))
 
-pub packets_more : {A : Type 0} (ps : List (Packet A)) (i : ℕ) (p : Packet A) → i < length ps
-    → p ≡ get_or ps i p → map packet_data (take (i + 1) ps) ≡ map packet_data (take i ps)
-    ++ packet_data p ∷ []
-packets_more ps i p h e =
-    ap (map packet_data) (take_more ps i p h) ∙ map-append packet_data (take i ps)
-    (get_or ps i p ∷ []) ∙ ap (λ x. map packet_data (take i ps) ++ packet_data x ∷ []) (sym e)
+pub packets_more : (ps : List PacketData) (i : ℕ) (p : PacketData) → i < length ps
+    → p ≡ get_or ps i p → take (i + 1) ps ≡ take i ps ++ p ∷ []
+packets_more ps i p h e = take_more ps i p h ∙ ap (λ x. take i ps ++ x ∷ []) (sym e)
 
 pub to_each_more : (frame : List ℕ) (ps : List Addr) (i : ℕ) (d : Addr) → i < length ps
     → to_each frame (take (i + 1) ps) ≡ to_each frame (take i ps)

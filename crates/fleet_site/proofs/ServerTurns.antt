@@ -7,7 +7,7 @@ use Rattle.fleet_pending.specs.declared.waiter.Addr.{Addr}
 use Rattle.fleet_pending.specs.Due.{due_at}
 use Rattle.fleet_pending.specs.PendingData.{PendingData}
 use Rattle.std.specs.declared.alloc.AllocError.{AllocError}
-use Rattle.fleet_site.specs.OutcomeData.{OutcomeData, result_data, packet_to, sends}
+use Rattle.fleet_site.specs.OutcomeData.{OutcomeData, packet_to, sends}
 use Rattle.fleet_site.specs.SiteModel.{SiteModel}
 use Rattle.fleet_site.specs.SiteData.{SiteData}
 use Rattle.fleet_site.specs.StandsFor.{StandsFor, Follows}
@@ -19,7 +19,6 @@ use Rattle.fleet_site.specs.PortRecord.{PortCall, Received, NoDatagram, Fault, N
 use Rattle.fleet_site.specs.Sending.{AreSent, packets_of, count_call, count_calls, count_step, goes_on, sweep_outcome, Sends, CarriesOut}
 use Rattle.fleet_site.specs.Turn.{Deal, calling, sweeping, Act, calls_of, count_acts, AllSent, Acts, Acted, ROOM, no_tick, next_tick, IsSweepDue}
 use Rattle.fleet_site.specs.Served.{Turned, Took, GivenOne, Heard, TickedAll, SweptOnce}
-use Rattle.fleet_site.specs.declared.outcome.Outcome.{Outcome}
 use Rattle.fleet_site.specs.declared.outcome.SiteFault.{SiteFault}
 use Rattle.fleet_site.specs.declared.report.Report.{Report}
 use Rattle.fleet_site.proofs.ServerLists.{made_none, made_both}
@@ -223,17 +222,17 @@ ticking_more old mid new t s u v r q p a k h c e fewer =
     }
 
 -- a tick that says more leaves fewer
-pub fewer_where_more : {A : Type 0} (r : Result (Outcome A) SiteFault) (old new : PendingData)
+pub fewer_where_more : (r : Result OutcomeData SiteFault) (old new : PendingData)
     (t : ℕ)
-    → IfOk r (λ o. IsTrue o.more → LeavesFewer old new t) → goes_on (result_data r) ≡ true
+    → IfOk r (λ o. IsTrue o.more → LeavesFewer old new t) → goes_on r ≡ true
     → LeavesFewer old new t
 fewer_where_more (Ok o) old new t h e = h e
 fewer_where_more (Err f) old new t h e = cc
 
 -- the clauses of a call as a step of a turn
-pub stepped_call : {A : Type 0} (c : Call) (r : Result (Outcome A) SiteFault) (s u : SiteData)
+pub stepped_call : (c : Call) (r : Result OutcomeData SiteFault) (s u : SiteData)
     → ((m : SiteModel) → StandsFor s m → Follows m c r u) → u.config ≡ s.config
-    → Stepped (calling c) (result_data r) s u
+    → Stepped (calling c) r s u
 stepped_call c r s u h e =
     record { step = λ m i. let f = h m i in (f.next, f.step, f.stands); config = e }
 

@@ -5,13 +5,13 @@ use Rattle.fleet_site.specs.OutcomeData.{sends}
 use Rattle.fleet_site.specs.SiteData.{SiteData}
 use Rattle.fleet_site.specs.SiteModel.{SiteModel}
 use Rattle.fleet_site.specs.StandsFor.{StandsFor}
-use Rattle.fleet_site.specs.Step.{datagram, Says}
+use Rattle.fleet_site.specs.Step.{datagram, Step}
 
 -- for each model that the site stood for, and whatever the word, these octets to who asked are all
 -- that the datagram gives, and the site stands for the model afterwards
 pub record RepliesOnly (old : SiteData) (now : ℕ) (from : Addr) (octets reply : List ℕ)
     (new : SiteData) : Type 0 where
   pub step : (m : SiteModel) → StandsFor old m → (word : ℕ)
-      → (n : SiteModel) × Says m (datagram now from octets word) (Ok (sends from reply)) n
+      → (n : SiteModel) × Step m (datagram now from octets word) (Ok (sends from reply)) n
       × StandsFor new n
   pub config : new.config ≡ old.config

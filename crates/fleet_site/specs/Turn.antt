@@ -11,7 +11,7 @@ use Rattle.fleet_site.specs.SiteModel.{SiteModel}
 use Rattle.fleet_site.specs.SiteData.{SiteData}
 use Rattle.fleet_site.specs.StandsFor.{StandsFor}
 use Rattle.fleet_site.specs.Sweep.{IsSweep}
-use Rattle.fleet_site.specs.Step.{Call, datagram, tick, Says}
+use Rattle.fleet_site.specs.Step.{Call, datagram, tick, Step}
 use Rattle.fleet_site.specs.PortRecord.{PortCall, Received, NoDatagram, Fault, PacketSent, PacketLost, AsksFor, one_more}
 use Rattle.fleet_site.specs.Sending.{AreSent, packets_of, count_call, count_calls, count_step, goes_on}
 use Rattle.fleet_site.specs.declared.outcome.SiteFault.{SiteFault}
@@ -31,7 +31,7 @@ SweepSays m (Err (OutOfMemory taken)) n = (taken ≡ 0) × (n ≡ m)
 
 -- from m the step says this and leads to n
 abbrev pub Deals : SiteModel → Deal → Result OutcomeData SiteFault → SiteModel → Type 0
-Deals m (calling c) a n = Says m c a n
+Deals m (calling c) a n = Step m c a n
 Deals m sweeping a n = SweepSays m a n
 
 -- a step, what it said, and the calls of the port that sent what it gave

@@ -1,8 +1,7 @@
 //! What a step of a site gives.
 
 ghost use Rattle.std.specs.Prelude.{◌≡◌, [], ◌∷◌, IfOk, map, length};
-ghost use Rattle.fleet_site.specs.Packet.{packet_data};
-ghost use Rattle.fleet_site.specs.OutcomeData.{outcome_data, nothing, sends};
+ghost use Rattle.fleet_site.specs.OutcomeData.{nothing, sends};
 ghost use Rattle.fleet_site.specs.declared.outcome.SiteFault.TheVariants.{OutOfMemory};
 
 use fleet_gossip::FrameFault;
@@ -23,6 +22,14 @@ pub struct Packet<A: Allocator = Global> {
     pub bytes: Octets<A>,
 }
 
+impl<A: Allocator> Model for Packet<A> {
+    ghost use Rattle.fleet_site.specs.PacketData.{PacketData};
+
+    ghost Value = { PacketData };
+
+    ghost view = { λ p. record { to = p.to; octets = p.bytes } };
+}
+
 /// Packets in order, seen by contracts as the list of what they are.
 #[derive(Drop)]
 pub struct Packets<A: Allocator = Global> {
@@ -30,27 +37,25 @@ pub struct Packets<A: Allocator = Global> {
 }
 
 impl<A: Allocator> Model for Packets<A> {
-    ghost use Rattle.std.specs.Prelude.{List, map};
+    ghost use Rattle.std.specs.Prelude.{List};
     ghost use Rattle.fleet_site.specs.PacketData.{PacketData};
 
     ghost Value = { List PacketData };
 
-    ghost use Rattle.fleet_site.specs.Packet.{packet_data};
-
-    ghost view = { λ p. map packet_data p.items.items };
+    ghost view = { λ p. p.items.items };
 }
 
 impl<A: Allocator> Packets<A> {
     /// The packets of a vector, in its order.
     pub fn new(items: Vec<Packet<A>, A>) -> Packets<A>
-        ensures { result ≡ map packet_data items.items }
+        ensures { result ≡ items.items }
     {
         Packets { items }
     }
 
     /// The packets, in their order.
     pub fn as_slice(&self) -> &[Packet<A>]
-        ensures value { map packet_data result.now ≡ self.now }
+        ensures value { result.now ≡ self.now }
         ensures len { length result.now ≡ length self.now }
     {
         self.items.as_slice()
@@ -142,6 +147,20 @@ pub struct Outcome<A: Allocator = Global> {
     pub more: bool,
 }
 
+impl<A: Allocator> Model for Outcome<A> {
+    ghost use Rattle.fleet_site.specs.OutcomeData.{OutcomeData};
+
+    ghost Value = { OutcomeData };
+
+    ghost view = { λ o. record {
+      packets = o.packets;
+      frames = o.frames;
+      taken = o.taken;
+      refused = o.refused;
+      more = o.more;
+    } };
+}
+
 /// Why a step was stopped.
 #[derive(Clone, Copy, Debug, PartialEq, Eq, Error)]
 pub enum SiteFault {
@@ -165,7 +184,7 @@ impl From<AllocError> for SiteFault {
 impl<A: Allocator + Copy> Outcome<A> {
     /// Nothing is sent.
     pub(crate) fn without_packets(alloc: A, taken: usize, refused: Option<Refusal>) -> Outcome<A>
-        ensures { outcome_data result ≡ record nothing { taken = taken; refused = refused } }
+        ensures { result ≡ record nothing { taken = taken; refused = refused } }
     {
         let packets = Packets::new(Vec::new(alloc));
         Outcome::with_packets(alloc, packets, taken, refused)
@@ -178,7 +197,7 @@ impl<A: Allocator + Copy> Outcome<A> {
         bytes: Octets<A>,
         refused: Option<Refusal>,
     ) -> Result<Outcome<A>, AllocError>
-        ensures { IfOk result (λ o. outcome_data o
+        ensures { IfOk result (λ o. o
             ≡ record (sends to bytes) { refused = refused }) }
     {
         let packets = Packets::of_one(alloc, to, bytes)?;
@@ -192,7 +211,7 @@ impl<A: Allocator + Copy> Outcome<A> {
         taken: usize,
         refused: Option<Refusal>,
     ) -> Outcome<A>
-        ensures { outcome_data result
+        ensures { result
             ≡ record nothing { packets = packets; taken = taken; refused = refused } }
     {
         let frames = Frames::new(Vec::new(alloc));

@@ -7,7 +7,7 @@ ghost use Rattle.fleet_observe.specs.Observation.{ObservationData};
 ghost use Rattle.fleet_cache.specs.Cached.{IsCached};
 ghost use Rattle.fleet_pending.specs.Asking.{Asks, ask_result};
 ghost use Rattle.fleet_site.specs.Carried.{Keeps, IsAskable, IsAnswered, TurnsAway, IsFirstSaid};
-ghost use Rattle.fleet_site.specs.OutcomeData.{outcome_data, sends};
+ghost use Rattle.fleet_site.specs.OutcomeData.{sends};
 ghost use Rattle.fleet_site.specs.Question.{Reacts, Forwards, Questioned, turns_away};
 ghost use Rattle.fleet_site.specs.Table.{IsTableOf, KeepsTable};
 ghost use Rattle.fleet_site.specs.Verdict.{IsAsking, verdict};
@@ -129,7 +129,7 @@ fn first_outcome<A: Allocator + Copy>(
 ) -> Result<Outcome<A>, AllocError>
     requires { IsTableOf upstreams.now pending.now }
     ensures { IfOk result (λ o.
-        IsFirstSaid upstreams.now pending.now word question.now (outcome_data o)) }
+        IsFirstSaid upstreams.now pending.now word question.now o) }
 {
     match pending.query_id(question, word) {
         Some(id) => query_for(alloc, addr_of(upstreams, 0), id, question),
@@ -144,7 +144,7 @@ fn query_for<A: Allocator + Copy>(
     id: u16,
     question: &Question<A>,
 ) -> Result<Outcome<A>, AllocError>
-    ensures { IfOk result (λ o. outcome_data o ≡ sends to (query_octets id question.now)) }
+    ensures { IfOk result (λ o. o ≡ sends to (query_octets id question.now)) }
 {
     let octets = Octets::new(write_query(alloc, id, question)?);
     Outcome::with_packet(alloc, to, octets, None)
@@ -193,7 +193,7 @@ fn say_full<A: Allocator + Copy>(
     question: &Question<A>,
 ) -> Result<Outcome<A>, AllocError>
     requires { header.opcode < 16 }
-    ensures { IfOk result (λ o. outcome_data o ≡ turns_away from header question.now) }
+    ensures { IfOk result (λ o. o ≡ turns_away from header question.now) }
 {
     let octets = reply_without(alloc, header, SERVER_FAILURE, question)?;
     Outcome::with_packet(alloc, from, octets, Some(Refusal::Full))

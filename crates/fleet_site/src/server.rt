@@ -2,8 +2,6 @@
 
 ghost use Rattle.std.specs.Prelude.{◌≡◌, ◌↔◌, IsTrue, ◌<◌, ◌+◌, ◌∷◌, [], map, is_some};
 ghost use Rattle.fleet_site.specs.declared.bounds.TheConstants.{MOST_COUNTED};
-ghost use Rattle.fleet_site.specs.Packet.{packet_data};
-ghost use Rattle.fleet_site.specs.OutcomeData.{result_data};
 ghost use Rattle.fleet_site.specs.Sending.{Sends, CarriesOut, to_each, to_peers, sweep_outcome, count_refusal_in, goes_on};
 ghost use Rattle.fleet_site.specs.Turn.{IsSweepDue, IsPast, left_after};
 ghost use Rattle.fleet_site.specs.Served.{Served, FollowsSteps, Turned, GivenOne, Heard, TickedAll, SweptOnce};
@@ -36,7 +34,7 @@ fn send<P: Port>(port: &mut P, to: Addr, bytes: &[u8], report: &mut Report)
 /// Sends packets in their order.
 fn send_packets<P: Port, A: Allocator>(port: &mut P, packets: &[Packet<A>], report: &mut Report)
     ensures { Sends (P.tells port.old) (P.tells port.new)
-        (map packet_data packets.now) report.old report.new }
+        packets.now report.old report.new }
 {
     for packet in packets {
         send(port, packet.to, packet.bytes.as_slice(), report);
@@ -85,8 +83,8 @@ fn carry_out<P: Port, A: Allocator>(
     report: &mut Report,
 ) -> bool
     ensures carried { CarriesOut (P.tells port.old) (P.tells port.new) peers.now
-        (result_data answer) report.old report.new }
-    ensures more { result ≡ goes_on (result_data answer) }
+        answer report.old report.new }
+    ensures more { result ≡ goes_on answer }
 {
     match answer {
         Ok(outcome) => {

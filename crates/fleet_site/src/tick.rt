@@ -4,7 +4,6 @@ ghost use Rattle.std.specs.Prelude.{◌≡◌, ◌<◌, ◌+◌, IsTrue, IfOk, I
 ghost use Rattle.fleet_pending.specs.Due.{NoneDue, Dues, due_entry};
 ghost use Rattle.fleet_pending.specs.PendingData.{IsEntryData};
 ghost use Rattle.fleet_site.specs.Carried.{Keeps};
-ghost use Rattle.fleet_site.specs.OutcomeData.{outcome_data};
 ghost use Rattle.fleet_site.specs.Serving.{IsPlan, SaysMore};
 ghost use Rattle.fleet_site.specs.Table.{IsTableOf, KeepsTable};
 ghost use Rattle.fleet_site.specs.Tick.{Ticked, LeavesFewer, failure_to};
@@ -157,7 +156,7 @@ pub(crate) fn serve_due<A: Allocator + Copy>(
 
 /// The outcome, which says whether an entry is due.
 fn and_more<A: Allocator>(pending: &Pending<A>, clock: Moment, outcome: Outcome<A>) -> Outcome<A>
-    ensures { SaysMore pending.now clock (outcome_data outcome) (outcome_data result) }
+    ensures { SaysMore pending.now clock outcome result }
 {
     match pending.due(clock) {
         Some(_) => with_more(outcome, true),
@@ -167,7 +166,7 @@ fn and_more<A: Allocator>(pending: &Pending<A>, clock: Moment, outcome: Outcome<
 
 /// The outcome, which says whether there is more.
 fn with_more<A: Allocator>(mut outcome: Outcome<A>, more: bool) -> Outcome<A>
-    ensures { outcome_data result ≡ record (outcome_data outcome) { more = more } }
+    ensures { result ≡ record outcome { more = more } }
 {
     outcome.more = more;
     outcome

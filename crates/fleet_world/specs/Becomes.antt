@@ -4,14 +4,13 @@ use Rattle.fleet_observe.specs.Observation.{ObservationData, AreObservations}
 use Rattle.fleet_name.specs.Places.{At}
 use Rattle.fleet_cache.specs.Cached.{IsCached}
 use Rattle.fleet_site.specs.Choice.{when◌then◌otherwise◌}
-use Rattle.fleet_site.specs.OutcomeData.{nothing, outcome_data}
+use Rattle.fleet_site.specs.OutcomeData.{OutcomeData, nothing}
 use Rattle.fleet_site.specs.Merge.{Merges}
 use Rattle.fleet_site.specs.SiteModel.{SiteModel}
 use Rattle.fleet_site.specs.StandsFor.{opening as site_at_first}
 use Rattle.fleet_site.specs.Step.{Call, datagram, tick, frame, learn, flush}
 use Rattle.fleet_site.specs.Step.{Step as SiteStep}
 use Rattle.fleet_site.specs.Sweep.{IsSweep}
-use Rattle.fleet_site.specs.declared.outcome.Outcome.{Outcome}
 use Rattle.fleet_site.specs.declared.outcome.Refusal.{Refusal}
 use Rattle.fleet_site.specs.declared.outcome.SiteFault.{SiteFault}
 use Rattle.fleet_site.specs.declared.outcome.SiteFault.TheVariants.{OutOfMemory}
@@ -29,7 +28,7 @@ pub record BringsIn (a b : Replica) : Type 0 where
   pub horizon : b.horizon ≡ max a.horizon b.site.floor
 
 -- a call at the site
-pub record Calls {A : Type 0} (c : Call) (r : Result (Outcome A) SiteFault) (a b : Replica)
+pub record Calls (c : Call) (r : Result OutcomeData SiteFault) (a b : Replica)
     : Type 0 where
   pub step : SiteStep a.site c r b.site
   pub joins : BringsIn a b
@@ -39,14 +38,14 @@ abbrev pub with_delivery_unless : Option Refusal → List SentSweep → ℕ → 
 with_delivery_unless None sweeps number a = with_delivery sweeps number a
 with_delivery_unless (Some refusal) sweeps number a = a
 
-abbrev pub with_delivery_by : {A : Type 0} → Result (Outcome A) SiteFault → List SentSweep → ℕ
+abbrev pub with_delivery_by : Result OutcomeData SiteFault → List SentSweep → ℕ
     → Replica → Replica
 with_delivery_by (Ok o) sweeps number a = with_delivery_unless o.refused sweeps number a
 with_delivery_by (Err f) sweeps number a = a
 
 -- the kept frame of this number comes in
-pub record Delivers {A : Type 0} (m : FleetModel) (now number : ℕ)
-    (r : Result (Outcome A) SiteFault) (a b : Replica) : Type 0 where
+pub record Delivers (m : FleetModel) (now number : ℕ)
+    (r : Result OutcomeData SiteFault) (a b : Replica) : Type 0 where
   pub octets : List ℕ
   pub kept : At m.frames number octets
   pub read : Replica
@@ -54,9 +53,9 @@ pub record Delivers {A : Type 0} (m : FleetModel) (now number : ℕ)
   pub delivered : b ≡ with_delivery_by r m.sweeps number read
 
 -- the frames of all that the site holds go out, and nothing else is said
-pub record Sweeps {A : Type 0} (o : Outcome A) (a : Replica) : Type 0 where
+pub record Sweeps (o : OutcomeData) (a : Replica) : Type 0 where
   pub sweep : IsSweep a.site o.frames
-  pub says : outcome_data o ≡ record nothing { frames = o.frames }
+  pub says : o ≡ record nothing { frames = o.frames }
 
 -- the site holds something: a sweep of a site that holds nothing needs no memory
 pub record HoldsSome (a : Replica) : Type 0 where
@@ -86,7 +85,7 @@ site_again s = site_at_first s.upstreams s.peers
 
 -- the event's call is done whole with this outcome, or stopped for want of memory, and this becomes
 -- of its site
-abbrev pub Becomes : {A : Type 0} → FleetModel → Event A → Result (Outcome A) SiteFault → Replica
+abbrev pub Becomes : {A : Type 0} → FleetModel → Event A → Result OutcomeData SiteFault → Replica
     → Replica → Type 0
 Becomes m (Datagram site now from word bytes) r a b = Calls (datagram now from bytes word) r a b
 Becomes m (Tick site now) r a b = Calls (tick now) r a b
@@ -97,10 +96,10 @@ Becomes m (Deliver site now number) r a b = Delivers m now number r a b
 Becomes m (Sweep site) (Ok o) a b = Sweeps o a × (b ≡ a)
 Becomes m (Sweep site) (Err (OutOfMemory count)) a b = (count ≡ 0) × (b ≡ a) × HoldsSome a
 Becomes m (Merge into from) (Ok o) a b =
-    when into ≡ from then (outcome_data o ≡ nothing) × (b ≡ a) otherwise
-    (MergesAll m from o.taken a b × (outcome_data o ≡ record nothing { taken = o.taken }))
+    when into ≡ from then (o ≡ nothing) × (b ≡ a) otherwise
+    (MergesAll m from o.taken a b × (o ≡ record nothing { taken = o.taken }))
 Becomes m (Merge into from) (Err (OutOfMemory count)) a b =
     (into ≢ from) × MergesFirst m from count a b
-Becomes m (Restart site) (Ok o) a b = (outcome_data o ≡ nothing)
+Becomes m (Restart site) (Ok o) a b = (o ≡ nothing)
     × (b ≡ new_replica (site_again a.site))
 Becomes m (Restart site) (Err (OutOfMemory count)) a b = ⊥

@@ -1,7 +1,7 @@
 //! What calls at a site give, as the outcome of an event.
 
 ghost use Rattle.std.specs.Prelude.{◌≡◌};
-ghost use Rattle.fleet_site.specs.OutcomeData.{outcome_data, nothing};
+ghost use Rattle.fleet_site.specs.OutcomeData.{nothing};
 ghost use Rattle.fleet_world.specs.Keeping.{SweepsAs, MergesAs, LooksAs};
 
 use crate::fault::WorldFault;
@@ -11,7 +11,7 @@ use std::alloc::{AllocError, Allocator};
 
 /// So many observations were given, and nothing is sent.
 pub(crate) fn quiet_outcome<A: Allocator + Copy>(alloc: A, taken: usize) -> Outcome<A>
-    ensures { outcome_data result ≡ record nothing { taken = taken } }
+    ensures { result ≡ record nothing { taken = taken } }
 {
     Outcome {
         packets: Packets::new(Vec::new(alloc)),

@@ -18,7 +18,7 @@ returns-in-Ok-clause-flushed g c = λ o s cached.
     (subst (IsPacked c.deref.result.now) (sym c.new-frames.ensures) c.in_ok-pack.ensures.packed) in
     let none : c.new-in-Ok.result ≡ [] = search rules in
     carries_flush o c.args.name.now c.args.clock s list frames is packed c.take_list.new.self
-    {A = g.row.A.Denot} _
+    _
     (ap (λ ps. record nothing { packets = ps; frames = frames; taken = 1 }) none)
     (c.in-Ok.ensures.taken s cached)
 
@@ -34,4 +34,4 @@ returns-in-Err-clause-flushed g c = λ o s cached.
     subst (λ xs. IsPacked xs frames) c.deref.ensures.value
     (subst (IsPacked c.deref.result.now) (sym c.new-frames.ensures) c.in_ok-pack.ensures.packed) in
     stops_flush o c.args.name.now c.args.clock s list frames is packed c.take_list.new.self
-    g.row.A.Denot c.in-Err.stopped.taken c.in-Err.ensures.within (c.in-Err.ensures.stopped s cached)
+    c.in-Err.stopped.taken c.in-Err.ensures.within (c.in-Err.ensures.stopped s cached)

@@ -1,4 +1,3 @@
-use Rattle.fleet_site.specs.OutcomeData.{result_data}
 use Rattle.fleet_site.proofs.ServerTurns.{given_hit, given_other, stepped_call}
 use Rattle.fleet_site.proofs.server.give.Goals as goal
 
@@ -12,7 +11,7 @@ pub returns-else-hit : goal.returns-else-hit
 returns-else-hit g c =
     given_other _ _ c.args.now c.args.word c.args.site.now c.hit.new.self
     c.datagram-answer.new.self c.args.report.now c.carry_out.new.report c.args.from
-    c.args.bytes.now (result_data c.datagram-answer.result)
+    c.args.bytes.now c.datagram-answer.result
     (c.hit.ensures.unchanged c.if-hit.false)
     (stepped_call _ _ _ _ c.datagram-answer.ensures.follows c.datagram-answer.ensures.config)
     (rw c.peers.ensures at c.carry_out.ensures.carried)

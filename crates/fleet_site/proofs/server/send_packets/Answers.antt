@@ -1,5 +1,5 @@
-use Rattle.std.proofs.Common.{ap, sym, ◌∷◌, [], ◌++◌, List, ℕ, take, map, ◌∙◌}
-use Rattle.fleet_site.specs.Packet.{packet_data}
+use Rattle.std.proofs.Common.{ap, sym, ◌∷◌, [], ◌++◌, List, ℕ, take, ◌∙◌}
+use Rattle.fleet_site.specs.PacketData.{PacketData}
 use Rattle.fleet_site.proofs.ServerLists.{sends_more, packets_more}
 use Rattle.fleet_site.proofs.server.send_packets.Goals as goal
 
@@ -8,7 +8,8 @@ loop-packet-preserved g c =
     let e = packets_more c.args.packets.now c.loop-packet.packet-index c.packet-item.result
     c.loop-packet-test.true c.packet-item.is in
     sends_more _ _ _ _ _ _ c.args.report.now c.loop-packet.report c.send.new.report
-    (e ∙ ap (λ (octets : List ℕ). map packet_data
-    (take c.loop-packet.packet-index c.args.packets.now)
-    ++ record { to = c.packet-item.result.to; octets = octets } ∷ []) (sym c.as_slice.ensures))
+    (e ∙ ap (λ (p : PacketData). take c.loop-packet.packet-index c.args.packets.now ++ p ∷ [])
+    (sym c.packet.view_is) ∙ ap (λ (octets : List ℕ).
+    take c.loop-packet.packet-index c.args.packets.now
+    ++ record { to = c.packet.inside.to; octets = octets } ∷ []) (sym c.as_slice.ensures))
     c.loop-packet.invariant c.send.ensures

@@ -1,9 +1,8 @@
-use Rattle.std.proofs.Common.{map, take}
-use Rattle.fleet_site.specs.Packet.{packet_data}
+use Rattle.std.proofs.Common.{take}
 use Rattle.fleet_site.specs.Sending.{Sends}
 use Rattle.fleet_site.proofs.server.send_packets.Given as goal
 
 abbrev pub invariant-loop-packet : goal.invariant-loop-packet
 invariant-loop-packet g l =
     Sends (g.P.Port.tells l.fn.port) (g.P.Port.tells l.port)
-    (map packet_data (take l.packet-index l.packets)) l.fn.report l.report
+    (take l.packet-index l.packets) l.fn.report l.report

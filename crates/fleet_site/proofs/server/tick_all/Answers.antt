@@ -1,4 +1,3 @@
-use Rattle.fleet_site.specs.OutcomeData.{result_data}
 use Rattle.fleet_site.proofs.ServerTurns.{ticking_none, ticking_more, ticks_all, stepped_call, fewer_where_more}
 use Rattle.fleet_site.proofs.server.tick_all.Goals as goal
 
@@ -10,7 +9,7 @@ pub loop-more-preserved : goal.loop-more-preserved
 loop-more-preserved g c =
     rw c.carry_out-more.ensures.more (ticking_more _ _ _ c.args.now c.args.site.now c.loop-more.site
     c.tick-answer.new.self c.args.report.now c.loop-more.report c.carry_out-more.new.report
-    (result_data c.tick-answer.result)
+    c.tick-answer.result
     (rw c.loop-more-test.true at c.loop-more.invariant)
     (stepped_call _ _ _ _ c.tick-answer.ensures.follows c.tick-answer.ensures.config)
     (rw c.peers.ensures at c.carry_out-more.ensures.carried) c.tick-answer.ensures.clock
