@@ -323,11 +323,12 @@ fn a_line_without_memory_is_done_again(rt: HostRuntime) -> Result<(), Fail> {
     let mut met = Met::new();
     for shows in REFUSED {
         let example = example_of(rt.alloc(), shows)?;
-        refuse_each(&rt, rt.alloc(), example.transcript, &mut met)?;
+        let transcript = example.spelled(rt.alloc())?;
+        refuse_each(&rt, rt.alloc(), transcript.as_str(), &mut met)?;
     }
-    let denial = example_of(rt.alloc(), DENIAL)?;
+    let denial = example_of(rt.alloc(), DENIAL)?.spelled(rt.alloc())?;
     for count in 1..5u8 {
-        let text = after_others(rt.alloc(), count, denial.transcript)?;
+        let text = after_others(rt.alloc(), count, denial.as_str())?;
         refuse_each(&rt, rt.alloc(), text.as_str(), &mut met)?;
     }
     assert!(rt; met.short > 0 && met.partly > 0 && met.lost > 0, "{met:?}");

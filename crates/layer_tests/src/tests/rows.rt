@@ -107,14 +107,12 @@ fn message_of(name: &str) -> Result<&'static str, Fail> {
 /// there: `{61*460}` is 460 times `61`; and with a message in place of its name between `<` and `>`.
 pub(crate) fn spelled(alloc: Global, text: &str) -> Result<String, Fail> {
     let mut digits = String::new(alloc);
-    for piece in text.split('<') {
-        match piece.split_once('>') {
-            Some((name, rest)) => {
-                push_spelled(&mut digits, message_of(name)?)?;
-                push_spelled(&mut digits, rest)?;
-            }
-            None => push_spelled(&mut digits, piece)?,
-        }
+    let mut pieces = text.split('<');
+    push_spelled(&mut digits, pieces.next().unwrap_or(""))?;
+    for piece in pieces {
+        let (name, rest) = piece.split_once('>').ok_or("no name")?;
+        push_spelled(&mut digits, message_of(name)?)?;
+        push_spelled(&mut digits, rest)?;
     }
     Ok(digits)
 }

@@ -167,8 +167,8 @@ fn count_lent<A: Allocator + Copy>(
 
 /// Does the lines of the example that shows this.
 fn run_example(rt: &impl Abort, alloc: Global, shows: &str) -> Result<u64, Fail> {
-    let example = example_of(alloc, shows)?;
-    let lines = lines_of(alloc, example.transcript)?;
+    let transcript = example_of(alloc, shows)?.spelled(alloc)?;
+    let lines = lines_of(alloc, transcript.as_str())?;
     let refusing = Refusing::after(alloc, 0);
     count_lent(rt, &refusing, &refusing, &lines)
 }
