@@ -1,22 +1,14 @@
 //! Events of a fleet, and looks at it, as lines of text, each with what it gives.
 
 use crate::tests::octets::{octets, spelt_out, tell_octets};
-use crate::tests::sites::{HOST, addr, tell_looked};
-use fleet_name::Name;
+use crate::tests::sites::{HOST, addr, at, config, name_of, number, tell_looked};
 use fleet_observe::Moment;
 use fleet_pending::Addr;
-use fleet_site::{Config, Looked, Packet, Site};
+use fleet_site::{Packet, Site};
 use fleet_world::{Event, Stepped, World};
 use std::alloc::Global;
 use std::process::Abort;
 use std::test::Fail;
-
-/// The configuration of a site with two upstreams and these peers.
-fn config(alloc: Global, peers: &[Addr]) -> Result<Config, Fail> {
-    let upstreams = Vec::from_slice(alloc, &[addr(5301), addr(5302)])?;
-    let peers = Vec::from_slice(alloc, peers)?;
-    Ok(Config::new(upstreams, peers)?)
-}
 
 /// Sites with two upstreams each, and with these peers.
 pub fn fleet(alloc: Global, count: usize, peers: &[Addr]) -> Result<World, Fail> {
@@ -27,15 +19,10 @@ pub fn fleet(alloc: Global, count: usize, peers: &[Addr]) -> Result<World, Fail>
     Ok(World::new(alloc, configs)?)
 }
 
-/// A moment of so many seconds.
-pub fn at(seconds: u16) -> Result<Moment, Fail> {
-    Ok(Moment::new(u64::from(seconds)).ok_or("no moment")?)
-}
-
 /// The number of 16 bits that is the first of words, and the others.
 fn first_number(words: &str) -> Result<(u16, &str), Fail> {
     let (word, rest) = words.split_once(' ').unwrap_or((words, ""));
-    Ok((word.parse::<u16>()?, rest))
+    Ok((number(word)?, rest))
 }
 
 /// The number of a site or a frame that is the first of words, and the others.
@@ -62,15 +49,6 @@ fn datagram(alloc: Global, site: usize, now: Moment, words: &str) -> Result<Even
 fn deliver(site: usize, now: Moment, words: &str) -> Result<Event, Fail> {
     let (frame, _) = first_place(words)?;
     Ok(Event::Deliver { site, now, frame })
-}
-
-/// The name of labels with dots between them.
-fn name_of(alloc: Global, labels: &str) -> Result<Name, Fail> {
-    let mut name = Name::root(alloc)?;
-    for label in labels.split('.') {
-        name.push(label.as_bytes())?;
-    }
-    Ok(name)
 }
 
 /// An event at a site at a moment.

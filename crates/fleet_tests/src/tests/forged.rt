@@ -1,8 +1,8 @@
 //! Replies that are forged by one who does not know the id of the query.
 
-use crate::tests::fleets::{at, check_rows, fleet, tell_stepped};
+use crate::tests::fleets::{check_rows, fleet, tell_stepped};
 use crate::tests::octets::octets;
-use crate::tests::sites::addr;
+use crate::tests::sites::{addr, at};
 use fleet_name::Octets;
 use fleet_world::{Event, World};
 use std::alloc::Global;
@@ -11,11 +11,12 @@ use std::test::Fail;
 
 /// A message of an id and what follows it, which comes from the first upstream.
 fn forged_event(alloc: Global, id: u16, rest: &[u8]) -> Result<Event, Fail> {
+    let now = at(101)?;
     let mut bytes = id.to_be_bytes().to_vec(alloc)?;
     bytes.extend_from_slice(rest)?;
     Ok(Event::Datagram {
         site: 0,
-        now: at(101)?,
+        now,
         from: addr(5301),
         word: 0,
         bytes: Octets::new(bytes),

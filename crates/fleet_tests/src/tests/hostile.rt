@@ -2,9 +2,9 @@
 //! that octets can come in as: what is refused leaves what a site holds, its open questions and the
 //! kept frames as they were.
 
-use crate::tests::fleets::{at, events_of, fleet};
+use crate::tests::fleets::{events_of, fleet};
 use crate::tests::octets::{octets, parts_of};
-use crate::tests::sites::addr;
+use crate::tests::sites::{addr, at};
 use crate::tests::worked::{FLUSHES, WORKED};
 use fleet_gossip::FrameFault;
 use fleet_name::Octets;

@@ -5,6 +5,7 @@ use fleet_name::{Name, Octets};
 use fleet_observe::Moment;
 use fleet_pending::Addr;
 use fleet_site::{Config, Looked, Outcome, Packet, Site};
+use fleet_wire::bounds::LONGEST_MESSAGE;
 use std::alloc::Global;
 use std::process::Abort;
 use std::test::Fail;
@@ -17,11 +18,16 @@ pub fn addr(port: u16) -> Addr {
     Addr { host: HOST, port }
 }
 
-/// A site with two upstreams and so many peers, of up to two.
-pub fn new_site(alloc: Global, peers: &[Addr]) -> Result<Site, Fail> {
+/// The configuration of a site with two upstreams and these peers.
+pub fn config(alloc: Global, peers: &[Addr]) -> Result<Config, Fail> {
     let upstreams = Vec::from_slice(alloc, &[addr(5301), addr(5302)])?;
     let peers = Vec::from_slice(alloc, peers)?;
-    Ok(Site::new(alloc, Config::new(upstreams, peers)?))
+    Ok(Config::new(upstreams, peers)?)
+}
+
+/// A site with two upstreams and these peers.
+pub fn new_site(alloc: Global, peers: &[Addr]) -> Result<Site, Fail> {
+    Ok(Site::new(alloc, config(alloc, peers)?))
 }
 
 /// A number of 16 bits, as a word.
@@ -29,9 +35,14 @@ pub fn number(word: &str) -> Result<u16, Fail> {
     Ok(word.parse::<u16>()?)
 }
 
+/// A moment of so many seconds.
+pub fn at(seconds: u16) -> Result<Moment, Fail> {
+    Ok(Moment::new(u64::from(seconds)).ok_or("no moment")?)
+}
+
 /// A moment of so many seconds, as a word.
 pub fn moment(word: &str) -> Result<Moment, Fail> {
-    Ok(Moment::new(u64::from(number(word)?)).ok_or("no moment")?)
+    at(number(word)?)
 }
 
 /// Adds a number behind a space.
@@ -107,6 +118,20 @@ fn tell_datagram(told: &mut String, site: &mut Site, now: Moment, words: &str) -
     tell_outcome(told, &site.datagram(now, from, octets.as_slice(), word)?)
 }
 
+/// A datagram that may be a hit comes in, from a port: what is written in place of what a buffer holds,
+/// where it is one, and the clock of the site behind it.
+fn tell_hit(told: &mut String, site: &mut Site, now: Moment, words: &str) -> Result<(), Fail> {
+    let (port, name) = words.split_once(' ').ok_or("no port")?;
+    let from = addr(number(port)?);
+    let octets = octets(*told.allocator(), name)?;
+    let mut out = vec![in *told.allocator(); 255u8; LONGEST_MESSAGE]?;
+    if site.hit(now, from, octets.as_slice(), &mut out) {
+        tell_packet(told, from, out.as_slice())?;
+    }
+    told.push_str(" clock")?;
+    tell_number(told, site.clock().value())
+}
+
 /// A frame comes in.
 fn tell_frame(told: &mut String, site: &mut Site, now: Moment, name: &str) -> Result<(), Fail> {
     let octets = octets(*told.allocator(), name)?;
@@ -126,7 +151,7 @@ fn tell_ask(told: &mut String, site: &mut Site, now: Moment, name: &str) -> Resu
 }
 
 /// The name of labels with dots between them.
-fn name_of(alloc: Global, labels: &str) -> Result<Name, Fail> {
+pub fn name_of(alloc: Global, labels: &str) -> Result<Name, Fail> {
     let mut name = Name::root(alloc)?;
     for label in labels.split('.') {
         name.push(label.as_bytes())?;
@@ -147,6 +172,7 @@ fn tell_call(told: &mut String, site: &mut Site, call: &str) -> Result<(), Fail>
     let now = moment(now)?;
     match call {
         "datagram" => tell_datagram(told, site, now, words),
+        "hit" => tell_hit(told, site, now, words),
         "tick" => tell_outcome(told, &site.tick(now)?),
         "frame" => tell_frame(told, site, now, words),
         "learn" => tell_learn(told, site, now, words),
@@ -179,6 +205,14 @@ pub fn check_rows(rt: &impl Abort, alloc: Global, site: &mut Site, rows: &str) -
 pub fn check_new(rt: &impl Abort, alloc: Global, rows: &str) -> Result<(), Fail> {
     let mut site = new_site(alloc, &[addr(5401)])?;
     check_rows(rt, alloc, &mut site, rows)
+}
+
+/// The same, with each of the parts of rows between which an empty line stands at a site of its own.
+pub fn check_each(rt: &impl Abort, alloc: Global, rows: &str) -> Result<(), Fail> {
+    for rows in rows.split("\n\n") {
+        check_new(rt, alloc, rows)?;
+    }
+    Ok(())
 }
 
 /// Adds the frames of a sweep.

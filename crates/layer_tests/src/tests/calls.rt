@@ -152,7 +152,7 @@ fn take_denial(
     mut words: Words<'_>,
     told: &mut String,
 ) -> Result<(), Fail> {
-    let observation = denial_in(caches.heap, &mut words)?;
+    let observation = denial_in(caches.heap, caches.global, &mut words)?;
     let is_new = caches.ours.take(observation)?;
     Ok(write!(told, "{is_new}")?)
 }

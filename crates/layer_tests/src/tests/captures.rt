@@ -511,16 +511,12 @@ fn returns_whatever_an_octet_is(rt: HostRuntime) -> Result<(), Fail> {
 
 /// A reply with one record of a type, whose RDATA begins at its 42nd octet; its question is for
 /// a.example, which stands at the twelfth.
-fn reply_with(alloc: Global, rtype: u16, rdata: &[u8]) -> Result<Vec<u8>, Fail> {
-    let mut message = octets_of(
-        alloc,
-        "00018180000100010000000001'a'07'example'0000010001c00c",
+fn reply_with(alloc: Global, rtype: u16, rdata: &str) -> Result<Vec<u8>, Fail> {
+    let length = octets_of(alloc, rdata)?.len();
+    let text = format!(in alloc;
+        "00018180000100010000000001'a'07'example'0000010001c00c{rtype:04x}00010000012c{length:04x}{rdata}"
     )?;
-    message.extend_from_slice(&rtype.to_be_bytes())?;
-    message.extend_from_slice(b"\x00\x01\x00\x00\x01\x2c\x00")?;
-    message.push(u8::try_from(rdata.len())?)?;
-    message.extend_from_slice(rdata)?;
-    Ok(message)
+    octets_of(alloc, text.as_str())
 }
 
 /// Adds the RDATA of the first record of a message, or why it is none.
@@ -541,8 +537,7 @@ pub(crate) fn tell_rdata(
     told: &mut String,
 ) -> Result<(), Fail> {
     let rtype = words.word().parse()?;
-    let rdata = words.octets(alloc)?;
-    let message = reply_with(alloc, rtype, rdata.as_slice())?;
+    let message = reply_with(alloc, rtype, words.word())?;
     push_rdata(alloc, message.as_slice(), told)
 }
 
@@ -566,7 +561,7 @@ rdata 33 {ff*6}c00c => {ff*6}01'a'07'example'00
 /// Whether a type's RDATA has names: a pointer alone is not read as it stands.
 fn has_names(alloc: Global, rtype: u16) -> Result<bool, Fail> {
     let pointer = b"\xc0\x0c";
-    let message = reply_with(alloc, rtype, pointer)?;
+    let message = reply_with(alloc, rtype, "c00c")?;
     match read_reply(alloc, &message) {
         Ok(reply) => {
             let record = reply.answer().first().ok_or("no record")?;

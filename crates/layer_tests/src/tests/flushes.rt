@@ -8,10 +8,14 @@ use std::alloc::Global;
 use std::process::Abort;
 use std::test::Fail;
 
-/// Checks what is taken in one order, and then what is there.
-fn check_order(rt: &impl Abort, alloc: Global, taken: &str, left: &str) -> Result<(), Fail> {
-    let rows = format!(in alloc; "{taken}{left}")?;
-    check_calls(rt, alloc, rows.as_str())
+/// Checks what is taken in each of some orders, with an empty line between them, and then what is
+/// there.
+fn check_orders(rt: &impl Abort, alloc: Global, orders: &str, left: &str) -> Result<(), Fail> {
+    for taken in orders.split("\n\n") {
+        let rows = format!(in alloc; "{taken}{left}")?;
+        check_calls(rt, alloc, rows.as_str())?;
+    }
+    Ok(())
 }
 
 /// What is left where the flush lies between the two: it, and what was stamped later.
@@ -24,40 +28,36 @@ purge 86520 => 0 empty";
 
 #[test]
 fn a_flush_withdraws_what_was_stamped_before(rt: HostRuntime) -> Result<(), Fail> {
-    let flush_last = "
+    let orders = "
 take example.com 1 3 100 300 c0000201 => true
 take example.com 1 1 150 100 c0000202 => true
-flush com 120 => true";
-    check_order(&rt, rt.alloc(), flush_last, BETWEEN)?;
-    let flush_between = "
+flush com 120 => true
+
 take example.com 1 3 100 300 c0000201 => true
 flush com 120 => true
-take example.com 1 1 150 100 c0000202 => true";
-    check_order(&rt, rt.alloc(), flush_between, BETWEEN)?;
-    let flush_first = "
+take example.com 1 1 150 100 c0000202 => true
+
 flush com 120 => true
 take example.com 1 3 100 300 c0000201 => false
 take example.com 1 1 150 100 c0000202 => true";
-    check_order(&rt, rt.alloc(), flush_first, BETWEEN)
+    check_orders(&rt, rt.alloc(), orders, BETWEEN)
 }
 
 #[test]
 fn a_flush_withdraws_in_the_other_order_too(rt: HostRuntime) -> Result<(), Fail> {
-    let flush_last = "
+    let orders = "
 take example.com 1 1 150 100 c0000202 => true
 take example.com 1 3 100 300 c0000201 => true
-flush com 120 => true";
-    check_order(&rt, rt.alloc(), flush_last, BETWEEN)?;
-    let flush_between = "
+flush com 120 => true
+
 take example.com 1 1 150 100 c0000202 => true
 flush com 120 => true
-take example.com 1 3 100 300 c0000201 => false";
-    check_order(&rt, rt.alloc(), flush_between, BETWEEN)?;
-    let flush_first = "
+take example.com 1 3 100 300 c0000201 => false
+
 flush com 120 => true
 take example.com 1 1 150 100 c0000202 => true
 take example.com 1 3 100 300 c0000201 => false";
-    check_order(&rt, rt.alloc(), flush_first, BETWEEN)
+    check_orders(&rt, rt.alloc(), orders, BETWEEN)
 }
 
 /// What is left where the flush has the stamp of the second: it alone.
@@ -67,40 +67,36 @@ answer example.com 1 200 => Miss";
 
 #[test]
 fn a_flush_withdraws_what_was_stamped_in_its_second(rt: HostRuntime) -> Result<(), Fail> {
-    let flush_last = "
+    let orders = "
 take example.com 1 3 100 300 c0000201 => true
 take example.com 1 1 150 100 c0000202 => true
-flush com 150 => true";
-    check_order(&rt, rt.alloc(), flush_last, AFTER)?;
-    let flush_between = "
+flush com 150 => true
+
 take example.com 1 3 100 300 c0000201 => true
 flush com 150 => true
-take example.com 1 1 150 100 c0000202 => false";
-    check_order(&rt, rt.alloc(), flush_between, AFTER)?;
-    let flush_first = "
+take example.com 1 1 150 100 c0000202 => false
+
 flush com 150 => true
 take example.com 1 3 100 300 c0000201 => false
 take example.com 1 1 150 100 c0000202 => false";
-    check_order(&rt, rt.alloc(), flush_first, AFTER)
+    check_orders(&rt, rt.alloc(), orders, AFTER)
 }
 
 #[test]
 fn a_flush_in_that_second_in_the_other_order(rt: HostRuntime) -> Result<(), Fail> {
-    let flush_last = "
+    let orders = "
 take example.com 1 1 150 100 c0000202 => true
 take example.com 1 3 100 300 c0000201 => true
-flush com 150 => true";
-    check_order(&rt, rt.alloc(), flush_last, AFTER)?;
-    let flush_between = "
+flush com 150 => true
+
 take example.com 1 1 150 100 c0000202 => true
 flush com 150 => true
-take example.com 1 3 100 300 c0000201 => false";
-    check_order(&rt, rt.alloc(), flush_between, AFTER)?;
-    let flush_first = "
+take example.com 1 3 100 300 c0000201 => false
+
 flush com 150 => true
 take example.com 1 1 150 100 c0000202 => false
 take example.com 1 3 100 300 c0000201 => false";
-    check_order(&rt, rt.alloc(), flush_first, AFTER)
+    check_orders(&rt, rt.alloc(), orders, AFTER)
 }
 
 /// What is left where the flush is of a name below: all.
@@ -110,40 +106,36 @@ answer example.com 1 200 => Found 0 200 1";
 
 #[test]
 fn a_flush_below_a_name_withdraws_nothing_of_it(rt: HostRuntime) -> Result<(), Fail> {
-    let flush_last = "
+    let orders = "
 take example.com 1 3 100 300 c0000201 => true
 take example.com 1 1 150 100 c0000202 => true
-flush a.example.com 150 => true";
-    check_order(&rt, rt.alloc(), flush_last, BELOW)?;
-    let flush_between = "
+flush a.example.com 150 => true
+
 take example.com 1 3 100 300 c0000201 => true
 flush a.example.com 150 => true
-take example.com 1 1 150 100 c0000202 => true";
-    check_order(&rt, rt.alloc(), flush_between, BELOW)?;
-    let flush_first = "
+take example.com 1 1 150 100 c0000202 => true
+
 flush a.example.com 150 => true
 take example.com 1 3 100 300 c0000201 => true
 take example.com 1 1 150 100 c0000202 => true";
-    check_order(&rt, rt.alloc(), flush_first, BELOW)
+    check_orders(&rt, rt.alloc(), orders, BELOW)
 }
 
 #[test]
 fn a_flush_below_a_name_in_the_other_order(rt: HostRuntime) -> Result<(), Fail> {
-    let flush_last = "
+    let orders = "
 take example.com 1 1 150 100 c0000202 => true
 take example.com 1 3 100 300 c0000201 => true
-flush a.example.com 150 => true";
-    check_order(&rt, rt.alloc(), flush_last, BELOW)?;
-    let flush_between = "
+flush a.example.com 150 => true
+
 take example.com 1 1 150 100 c0000202 => true
 flush a.example.com 150 => true
-take example.com 1 3 100 300 c0000201 => true";
-    check_order(&rt, rt.alloc(), flush_between, BELOW)?;
-    let flush_first = "
+take example.com 1 3 100 300 c0000201 => true
+
 flush a.example.com 150 => true
 take example.com 1 1 150 100 c0000202 => true
 take example.com 1 3 100 300 c0000201 => true";
-    check_order(&rt, rt.alloc(), flush_first, BELOW)
+    check_orders(&rt, rt.alloc(), orders, BELOW)
 }
 
 #[test]

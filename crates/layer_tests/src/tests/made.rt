@@ -1,10 +1,9 @@
 //! Observations that are made, written and copied.
 
-use crate::tests::observations::{Said, flush_in, name_of, push_observation, record_in, said_in};
+use crate::tests::observations::{denial_in, flush_in, push_observation, record_in};
 use crate::tests::rows::Words;
 use crate::tests::tables::check_rows;
-use fleet_name::Octets;
-use fleet_observe::{Observation, Soa};
+use fleet_observe::Observation;
 use std::alloc::Global;
 use std::test::Fail;
 
@@ -33,16 +32,6 @@ pub(crate) fn tell_flush(
     push_copy(alloc, told, &flush_in(alloc, &mut words)?)
 }
 
-/// The SOA of an owner, its TTL and its RDATA.
-fn soa_in(alloc: Global, words: &mut Words<'_>) -> Result<Soa, Fail> {
-    let word = words.word();
-    let ttl = words.word().parse()?;
-    let octets = words.octets(alloc)?;
-    let rdata = Octets::copy_of(alloc, octets.as_slice())?;
-    let owner = name_of(alloc, word)?;
-    Ok(Soa { owner, ttl, rdata })
-}
-
 /// A copy of a denial: its name, type or 0, rank, stamp, life, and the owner, TTL and RDATA of its
 /// SOA.
 pub(crate) fn tell_denial(
@@ -50,18 +39,7 @@ pub(crate) fn tell_denial(
     mut words: Words<'_>,
     told: &mut String,
 ) -> Result<(), Fail> {
-    let word = words.word();
-    let Said {
-        rtype,
-        rank,
-        stamp,
-        life,
-    } = said_in(&mut words)?;
-    let soa = soa_in(alloc, &mut words)?;
-    let name = name_of(alloc, word)?;
-    let denied = if rtype == 0 { None } else { Some(rtype) };
-    let denial = Observation::negative(name, denied, rank, stamp, life, soa)?;
-    push_copy(alloc, told, &denial)
+    push_copy(alloc, told, &denial_in(alloc, alloc, &mut words)?)
 }
 
 #[test]

@@ -1,5 +1,6 @@
 //! Names and octets made with ample memory.
 
+use crate::tests::observations::push_name;
 use crate::tests::rows::{Words, octets_of, push_octets};
 use crate::tests::tables::check_rows;
 use fleet_name::{Name, NameFault, Octets, is_lower, suffix_in};
@@ -32,13 +33,6 @@ fn copy_of(alloc: Global, name: &Name) -> Result<Name, Fail> {
     Ok(copy.try_clone()?)
 }
 
-/// Adds a text.
-pub(crate) fn push_text(alloc: Global, told: &mut String, name: &Name) -> Result<(), Fail> {
-    let text = name.write_text(alloc)?;
-    told.push_str(text.as_str())?;
-    Ok(())
-}
-
 /// Adds how a name compares with another one.
 fn push_order(told: &mut String, one: &Name, other: &Name) -> Result<(), Fail> {
     let order = one.cmp(other);
@@ -58,7 +52,7 @@ pub(crate) fn tell_name(
     let name = name_of(alloc, words.word())?;
     push_octets(told, name.octets())?;
     told.push_str(" ")?;
-    push_text(alloc, told, &name)?;
+    push_name(alloc, told, &name)?;
     let copy = copy_of(alloc, &name)?;
     let labels = copy.labels();
     write!(told, " {labels} ")?;

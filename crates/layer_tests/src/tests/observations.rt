@@ -2,7 +2,7 @@
 
 use crate::tests::rows::{Words, octets_of, push_octets};
 use fleet_name::{Name, Octets};
-use fleet_observe::{Kind, Moment, Observation, Soa};
+use fleet_observe::{Moment, Observation, Soa};
 use fleet_wire::{Question, read_query};
 use linked_list_allocator::LocalHeap;
 use std::alloc::{Allocator, Global};
@@ -58,15 +58,15 @@ pub(crate) fn question_of(
 
 /// What a row says of an observation beside its name and body.
 #[derive(Clone, Copy)]
-pub(crate) struct Said {
-    pub(crate) rtype: u16,
-    pub(crate) rank: u8,
-    pub(crate) stamp: Moment,
-    pub(crate) life: u32,
+struct Said {
+    rtype: u16,
+    rank: u8,
+    stamp: Moment,
+    life: u32,
 }
 
 /// Reads a type, a rank, a stamp and a life.
-pub(crate) fn said_in(words: &mut Words<'_>) -> Result<Said, Fail> {
+fn said_in(words: &mut Words<'_>) -> Result<Said, Fail> {
     let rtype = words.word().parse()?;
     let rank = words.word().parse()?;
     let stamp = moment_of(words.word())?;
@@ -107,16 +107,38 @@ pub(crate) fn record_in<A: Allocator + Copy>(
 }
 
 /// The SOA of an owner.
-fn soa_of<A: Allocator + Copy>(alloc: A, word: &str, ttl: u32) -> Result<Soa<A>, Fail> {
-    let rdata = Octets::copy_of(alloc, SOA)?;
+fn soa_of<A: Allocator + Copy>(
+    alloc: A,
+    word: &str,
+    ttl: u32,
+    octets: &[u8],
+) -> Result<Soa<A>, Fail> {
+    let rdata = Octets::copy_of(alloc, octets)?;
     let owner = name_of(alloc, word)?;
     Ok(Soa { owner, ttl, rdata })
 }
 
-/// A denial: its name, type, 0 for that of the name, rank, stamp and life, and the owner of its
-/// SOA.
+/// The SOA of an owner, its TTL and its RDATA; where these are not said, it lasts so long, and has
+/// the RDATA of `SOA`.
+fn soa_in<A: Allocator + Copy>(
+    alloc: A,
+    global: Global,
+    words: &mut Words<'_>,
+    life: u32,
+) -> Result<Soa<A>, Fail> {
+    let word = words.word();
+    if words.is_empty() {
+        return soa_of(alloc, word, life, SOA);
+    }
+    let ttl = words.word().parse()?;
+    let octets = words.octets(global)?;
+    soa_of(alloc, word, ttl, octets.as_slice())
+}
+
+/// A denial: its name, type, 0 for that of the name, rank, stamp and life, and its SOA.
 pub(crate) fn denial_in<A: Allocator + Copy>(
     alloc: A,
+    global: Global,
     words: &mut Words<'_>,
 ) -> Result<Observation<A>, Fail> {
     let word = words.word();
@@ -127,7 +149,7 @@ pub(crate) fn denial_in<A: Allocator + Copy>(
         life,
     } = said_in(words)?;
     let denied = if rtype == 0 { None } else { Some(rtype) };
-    let soa = soa_of(alloc, words.word(), life)?;
+    let soa = soa_in(alloc, global, words, life)?;
     let name = name_of(alloc, word)?;
     Ok(Observation::negative(name, denied, rank, stamp, life, soa)?)
 }
@@ -160,24 +182,13 @@ pub(crate) fn push_name<A: Allocator>(
     Ok(told.push_str(text.as_str())?)
 }
 
-/// The word for a kind.
-fn kind_text(kind: Kind) -> &'static str {
-    match kind {
-        Kind::Positive => "Positive",
-        Kind::NoData => "NoData",
-        Kind::NameError => "NameError",
-        Kind::Flush => "Flush",
-    }
-}
-
 /// Adds an observation's kind and name.
 fn push_kind<A: Allocator>(
     global: Global,
     told: &mut String,
     observation: &Observation<A>,
 ) -> Result<(), Fail> {
-    told.push_str(kind_text(observation.kind()))?;
-    told.push_str(" ")?;
+    write!(told, "{:?} ", observation.kind())?;
     push_name(global, told, observation.name())
 }
 

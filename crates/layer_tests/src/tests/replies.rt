@@ -1,7 +1,6 @@
 //! Replies as octets, and what they tell.
 
-use crate::tests::names::push_text;
-use crate::tests::observations::push_observation;
+use crate::tests::observations::{push_name, push_observation};
 use crate::tests::rows::{Words, push_octets};
 use crate::tests::tables::check_rows;
 use fleet_observe::{Digest, End, Moment, digest, observations, relay};
@@ -86,7 +85,7 @@ fn push_end(told: &mut String, end: &End) -> Result<(), Fail> {
 fn push_digest(alloc: Global, told: &mut String, digest: &Digest) -> Result<(), Fail> {
     push_end(told, digest.end())?;
     told.push_str(" ")?;
-    push_text(alloc, told, digest.name())?;
+    push_name(alloc, told, digest.name())?;
     let aa = if digest.aa() { "aa " } else { "" };
     let (links, sets) = (digest.chain().len(), digest.ns().len());
     write!(told, " {} {aa}{links} {sets}", digest.rtype())?;
