@@ -114,26 +114,59 @@ fn answer_query(rt: &impl Abort, alloc: Global, stub: &UdpSocket, site: Addr) ->
     send(stub, site, &reply)
 }
 
-#[test]
-fn serves_what_a_peer_learnt(rt: HostRuntime) -> Result<(), Fail> {
-    let (client, _) = open(&rt)?;
-    let (stub, upstream) = open(&rt)?;
-    let (mut first, mut second) = open_sites(&rt, upstream)?;
-    send(&client, first.port.address(), QUESTION)?;
-    first.serve(&rt, 1);
-    answer_query(&rt, rt.alloc(), &stub, first.port.address())?;
-    first.serve(&rt, 2);
-    assert_eq!(rt; receive(rt.alloc(), &client)?.as_slice(), RELAY);
-    second.serve(&rt, 0);
-    send(&client, second.port.address(), QUESTION)?;
-    second.serve(&rt, 1);
-    let answer = receive(rt.alloc(), &client)?;
+/// A site learns the answer from its upstream, and tells it its peer.
+fn check_first<R: Abort + time::Clock>(
+    rt: &R,
+    alloc: Global,
+    client: &UdpSocket,
+    stub: &UdpSocket,
+    first: &mut Served<'_>,
+) -> Result<(), Fail> {
+    send(client, first.port.address(), QUESTION)?;
+    first.serve(rt, 1);
+    answer_query(rt, alloc, stub, first.port.address())?;
+    first.serve(rt, 2);
+    assert_eq!(rt; receive(alloc, client)?.as_slice(), RELAY);
+    Ok(())
+}
+
+/// The peer takes in what it was told, and answers from it; the upstream is sent nothing more.
+fn check_second<R: Abort + time::Clock>(
+    rt: &R,
+    alloc: Global,
+    client: &UdpSocket,
+    stub: &UdpSocket,
+    second: &mut Served<'_>,
+) -> Result<(), Fail> {
+    second.serve(rt, 0);
+    send(client, second.port.address(), QUESTION)?;
+    second.serve(rt, 1);
+    let answer = receive(alloc, client)?;
     assert!(rt; shows_record(&answer));
-    // The upstream was sent nothing more.
     let mut buffer = [0u8; 600];
     stub.set_nonblocking(true)?;
     assert!(rt; stub.recv_from(&mut buffer).is_err());
     Ok(())
+}
+
+/// One site after the other.
+fn check_sites<R: Abort + time::Clock>(
+    rt: &R,
+    alloc: Global,
+    stub: &UdpSocket,
+    client: &UdpSocket,
+    sites: &mut (Served<'_>, Served<'_>),
+) -> Result<(), Fail> {
+    check_first(rt, alloc, client, stub, &mut sites.0)?;
+    check_second(rt, alloc, client, stub, &mut sites.1)
+}
+
+#[test]
+fn serves_what_a_peer_learnt(rt: HostRuntime) -> Result<(), Fail> {
+    let (client, _) = open(&rt)?;
+    let (stub, upstream) = open(&rt)?;
+    let mut sites = open_sites(&rt, upstream)?;
+    check_sites(&rt, rt.alloc(), &stub, &client, &mut sites)
 }
 
 /// Whether an answer has the record, with a TTL of 295 to 300 seconds, since a test may take some.

@@ -26,6 +26,10 @@ pub const RELAY: &[u8] =
 pub const ALIASES_REPLY: &[u8] =
     b"\x00\x02\x81\x83\x00\x01\x00\x02\x00\x01\x00\x00\x03www\x07example\x00\x00\x01\x00\x01\xc0\x0c\x00\x05\x00\x01\x00\x00\x00\x3c\x00\x04\x01a\xc0\x10\xc0\x29\x00\x05\x00\x01\x00\x00\x00\x3c\x00\x04\x01b\xc0\x10\xc0\x10\x00\x06\x00\x01\x00\x00\x0e\x10\x00\x1a\x02ns\xc0\x10\x00\x00\x00\x00\x01\x00\x00\x0e\x10\x00\x00\x02\x58\x00\x01\x51\x80\x00\x00\x01\x2c";
 
+/// frame 1: positive rank 1 at 200 for 10: example.com. A 192.0.2.2
+pub const FIRST_NEWER: &[u8] =
+    b"\x44\x47\x01\x00\x01\x03\x01\x00\x00\x00\x00\x00\x00\x00\xc8\x00\x00\x00\x0a\x07example\x03com\x00\x00\x01\x00\x01\x00\x04\xc0\x00\x02\x02";
+
 /// Each other name, and behind it its octets in hexadecimal digits; `{61*460}` stands for 460 times
 /// `61`. The line above says what they are: of a message the id, the flags, the code, the question and
 /// the records of each section; of a frame its version, and of each observation the kind, the rank, the
@@ -78,8 +82,6 @@ aliases-cname-relay 00078180000100010000000003777777076578616d706c65000005000103
 first-older 4447010001030100000000000000640000012c076578616d706c6503636f6d00000100010004c0000201
 # frame 1: positive rank 1 at 150 for 100: example.com. A 192.0.2.2
 first-after 44470100010301000000000000009600000064076578616d706c6503636f6d00000100010004c0000202
-# frame 1: positive rank 1 at 200 for 10: example.com. A 192.0.2.2
-first-newer 4447010001030100000000000000c80000000a076578616d706c6503636f6d00000100010004c0000202
 # frame 1: positive rank 1 at 200 for 300: example.com. A 192.0.2.2
 first-200 4447010001030100000000000000c80000012c076578616d706c6503636f6d00000100010004c0000202
 # frame 1: positive rank 3 at 100 for 300: example.com. A 192.0.2.1
@@ -117,6 +119,7 @@ pub fn add_message(text: &mut String, name: &str) -> Result<(), Fail> {
         "failure" => add_octets(text, FAILURE),
         "relay" => add_octets(text, RELAY),
         "aliases-reply" => add_octets(text, ALIASES_REPLY),
+        "first-newer" => add_octets(text, FIRST_NEWER),
         name => add_repeats(text, digits_of(name)?),
     }
 }

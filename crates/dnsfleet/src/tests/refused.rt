@@ -242,6 +242,33 @@ fn run_refused<A: Allocator + Copy>(
     Ok(ended)
 }
 
+/// Does lines on a new fleet, as `run_lines` says.
+fn run_on<A: Allocator + Copy>(
+    rt: &impl Abort,
+    ample: A,
+    alloc: A,
+    refusing: &Refusing<Global>,
+    fleet: &mut Fleet<A>,
+    lines: &[Line<'_>],
+    call: u64,
+    parts: &mut [Option<Part<A>>],
+    met: &mut Met,
+) -> Result<bool, Fail> {
+    let first = lines.first().ok_or("no line")?.text;
+    refusing.refuse(call);
+    begin_refused(rt, fleet, refusing, first)?;
+    let mut has_refused = refusing.has_refused();
+    for place in 0..lines.len() {
+        refusing.refuse(call);
+        let ended = run_refused(rt, ample, refusing, fleet, &lines[place])?;
+        has_refused = has_refused || refusing.has_refused();
+        let done = &lines[..=place];
+        let known = parts.get_mut(place).ok_or("no such line")?;
+        check_last(rt, ample, alloc, fleet, done, ended, known, met)?;
+    }
+    Ok(has_refused)
+}
+
 /// Does lines with the call of this number refused at each, where it makes as many, and says
 /// whether there was one.
 fn run_lines<A: Allocator + Copy>(
@@ -255,19 +282,9 @@ fn run_lines<A: Allocator + Copy>(
     met: &mut Met,
 ) -> Result<bool, Fail> {
     let mut fleet = Fleet::new(alloc);
-    let first = lines.first().ok_or("no line")?.text;
-    refusing.refuse(call);
-    begin_refused(rt, &mut fleet, refusing, first)?;
-    let mut has_refused = refusing.has_refused();
-    for place in 0..lines.len() {
-        refusing.refuse(call);
-        let ended = run_refused(rt, ample, refusing, &mut fleet, &lines[place])?;
-        has_refused = has_refused || refusing.has_refused();
-        let done = &lines[..=place];
-        let known = parts.get_mut(place).ok_or("no such line")?;
-        check_last(rt, ample, alloc, &mut fleet, done, ended, known, met)?;
-    }
-    Ok(has_refused)
+    run_on(
+        rt, ample, alloc, refusing, &mut fleet, lines, call, parts, met,
+    )
 }
 
 /// Does lines with the first call refused at each, then with the second at each, and so on, until

@@ -101,23 +101,28 @@ fn rest_of(global: Global, heap: &LocalHeap) -> Result<Vec<Vec<u8, &LocalHeap>>,
     Ok(all)
 }
 
-/// A site over a heap, that learnt the reply at 100.
-fn heap_site<'a>(global: Global, heap: &'a LocalHeap) -> Result<Site<&'a LocalHeap>, Fail> {
+/// A site over a heap.
+fn heap_site(heap: &LocalHeap) -> Result<Site<&LocalHeap>, Fail> {
     let upstreams = Vec::from_slice(heap, &[addr(5301)])?;
-    let mut site = Site::new(heap, Config::new(upstreams, Vec::new(heap))?);
-    let learnt = octets(global, "reply")?;
-    let _ = site.learn(moment("100")?, learnt.as_slice())?;
-    Ok(site)
+    Ok(Site::new(heap, Config::new(upstreams, Vec::new(heap))?))
+}
+
+/// The site learns the reply at 100.
+fn learn(global: Global, site: &mut Site<&LocalHeap>) -> Result<(), Fail> {
+    let now = moment("100")?;
+    let reply = octets(global, "reply")?;
+    let _ = site.learn(now, reply.as_slice())?;
+    Ok(())
 }
 
 /// A hit goes into a buffer that has room, and not into one that has none; nor can the datagram then be
 /// answered in another way.
-fn check_full(
+fn check_full<'a>(
     rt: &impl Abort,
     global: Global,
-    heap: &LocalHeap,
-    site: &mut Site<&LocalHeap>,
-    out: &mut Vec<u8, &LocalHeap>,
+    heap: &'a LocalHeap,
+    site: &mut Site<&'a LocalHeap>,
+    out: &mut Vec<u8, &'a LocalHeap>,
 ) -> Result<(), Fail> {
     let (now, from) = (moment("110")?, addr(6001));
     let asked = octets(global, "question")?;
@@ -128,17 +133,28 @@ fn check_full(
     Ok(())
 }
 
-/// Nothing is left of the heap where a hit comes in.
-fn check_heap(rt: &impl Abort, global: Global, heap: &LocalHeap) -> Result<(), Fail> {
-    let mut site = heap_site(global, heap)?;
+/// A site learns the reply, and then nothing is left of its heap.
+fn check_heap<'a>(
+    rt: &impl Abort,
+    global: Global,
+    heap: &'a LocalHeap,
+    site: &mut Site<&'a LocalHeap>,
+) -> Result<(), Fail> {
+    learn(global, site)?;
     let mut out = Vec::with_capacity(heap, LONGEST_MESSAGE)?;
     let rest = rest_of(global, heap)?;
     assert!(rt; !rest.is_empty());
-    check_full(rt, global, heap, &mut site, &mut out)
+    check_full(rt, global, heap, site, &mut out)
+}
+
+/// The same, of a site over this heap.
+fn check_site(rt: &impl Abort, global: Global, heap: &LocalHeap) -> Result<(), Fail> {
+    let mut site = heap_site(heap)?;
+    check_heap(rt, global, heap, &mut site)
 }
 
 #[test]
 fn a_hit_takes_no_memory(rt: HostRuntime) -> Result<(), Fail> {
     let heap = LocalHeap::new(rt.alloc(), 1 << 14)?;
-    check_heap(&rt, rt.alloc(), &heap)
+    check_site(&rt, rt.alloc(), &heap)
 }

@@ -65,12 +65,24 @@ fn port_with(
     Ok(MemoryPort::new(alloc, arrivals, fail_at))
 }
 
+/// So many turns of a site, whose clock tells these moments, with a sweep each so many seconds.
+fn serve_turns(
+    alloc: Global,
+    port: &mut MemoryPort,
+    site: &mut Site,
+    seconds: &str,
+    turns: u32,
+    sweep: u32,
+) -> Result<Report, Fail> {
+    let mut clock = clock(alloc, seconds)?;
+    let mut words = OneWord(0xabcd_1234);
+    Ok(serve(port, &mut clock, &mut words, site, turns, sweep))
+}
+
 /// So many turns from the moment 100 on, two seconds each, without sweeps.
 fn run(alloc: Global, port: &mut MemoryPort, turns: u32) -> Result<Report, Fail> {
-    let mut clock = clock(alloc, "100 102 104")?;
     let mut site = new_site(alloc, &[addr(5401), addr(5402)])?;
-    let mut words = OneWord(0xabcd_1234);
-    Ok(serve(port, &mut clock, &mut words, &mut site, turns, 0))
+    serve_turns(alloc, port, &mut site, "100 102 104", turns, 0)
 }
 
 /// Compares a report with its counts: turns, datagrams received, packets sent, packets lost,
@@ -123,22 +135,33 @@ fn check_notes(
 }
 
 /// A question goes to each upstream in so many turns, and fails.
-fn check_turns(rt: &impl Abort, alloc: Global, turns: u32, counts: &str) -> Result<(), Fail> {
-    let mut port = port_with(alloc, 6001, "question", None)?;
-    check_report(rt, alloc, run(alloc, &mut port, turns)?, counts)?;
+fn check_turns(
+    rt: &impl Abort,
+    alloc: Global,
+    port: &mut MemoryPort,
+    turns: u32,
+    counts: &str,
+) -> Result<(), Fail> {
+    check_report(rt, alloc, run(alloc, port, turns)?, counts)?;
     assert_eq!(rt; port.failures(), 0);
     check_notes(
         rt,
         alloc,
-        &port,
+        port,
         "received 6001 question sent 5301 query nothing sent 5302 query nothing sent 6001 failure",
     )
 }
 
+/// The same, at a port of its own.
+fn check_port(rt: &impl Abort, alloc: Global, turns: u32, counts: &str) -> Result<(), Fail> {
+    let mut port = port_with(alloc, 6001, "question", None)?;
+    check_turns(rt, alloc, &mut port, turns, counts)
+}
+
 #[test]
 fn a_question_goes_to_each_upstream_and_fails(rt: HostRuntime) -> Result<(), Fail> {
-    check_turns(&rt, rt.alloc(), 3, "3 1 3 0 0 0 0")?;
-    check_turns(&rt, rt.alloc(), 300, "300 1 3 0 0 0 0")
+    check_port(&rt, rt.alloc(), 3, "3 1 3 0 0 0 0")?;
+    check_port(&rt, rt.alloc(), 300, "300 1 3 0 0 0 0")
 }
 
 /// The call that fails, of three turns in which a question goes to each upstream, the counts of
@@ -177,41 +200,67 @@ fn a_call_that_fails_is_lost_or_a_fault(rt: HostRuntime) -> Result<(), Fail> {
     Ok(())
 }
 
-#[test]
-fn the_longest_frame_is_taken_and_a_longer_one_refused(rt: HostRuntime) -> Result<(), Fail> {
-    let mut port = port_with(rt.alloc(), 5401, "longest-frame two-octets-more", None)?;
-    let mut site = new_site(rt.alloc(), &[addr(5401)])?;
-    let mut clock = clock(rt.alloc(), "100")?;
-    let report = serve(&mut port, &mut clock, &mut OneWord(0), &mut site, 2, 0);
-    check_report(&rt, rt.alloc(), report, "2 2 0 0 0 1 0")?;
+/// The longest frame is taken, and a longer one refused.
+fn check_longest(
+    rt: &impl Abort,
+    alloc: Global,
+    port: &mut MemoryPort,
+    site: &mut Site,
+) -> Result<(), Fail> {
+    let report = serve_turns(alloc, port, site, "100", 2, 0)?;
+    check_report(rt, alloc, report, "2 2 0 0 0 1 0")?;
     assert_eq!(rt; site.cache().len(), 2);
     Ok(())
 }
 
-/// Four turns of a site, with a sweep every 30 seconds.
-fn sweep_turns(alloc: Global, port: &mut MemoryPort, site: &mut Site) -> Result<Report, Fail> {
-    let mut clock = clock(alloc, "100 129 130 159")?;
-    Ok(serve(port, &mut clock, &mut OneWord(0), site, 4, 30))
+#[test]
+fn the_longest_frame_is_taken_and_a_longer_one_refused(rt: HostRuntime) -> Result<(), Fail> {
+    let mut port = port_with(rt.alloc(), 5401, "longest-frame two-octets-more", None)?;
+    let mut site = new_site(rt.alloc(), &[addr(5401)])?;
+    check_longest(&rt, rt.alloc(), &mut port, &mut site)
 }
 
-/// The same, of a site that holds the observation of a frame.
-fn run_with_sweeps(rt: &impl Abort, alloc: Global, port: &mut MemoryPort) -> Result<Report, Fail> {
-    let mut site = new_site(alloc, &[addr(5401), addr(5402)])?;
-    check_rows(rt, alloc, &mut site, "100 frame frame-100 => taken 1")?;
-    sweep_turns(alloc, port, &mut site)
+/// Four turns of a site that holds the observation of a frame, with a sweep every 30 seconds.
+fn check_sweeps(
+    rt: &impl Abort,
+    alloc: Global,
+    port: &mut MemoryPort,
+    site: &mut Site,
+) -> Result<(), Fail> {
+    check_rows(rt, alloc, site, "100 frame frame-100 => taken 1")?;
+    let report = serve_turns(alloc, port, site, "100 129 130 159", 4, 30)?;
+    check_report(rt, alloc, report, "4 0 2 0 0 0 0")?;
+    check_notes(
+        rt,
+        alloc,
+        port,
+        "nothing nothing nothing sent 5401 frame-100 sent 5402 frame-100 nothing",
+    )
 }
 
 #[test]
 fn sweeps_go_to_each_peer_in_their_time(rt: HostRuntime) -> Result<(), Fail> {
     let alloc = rt.alloc();
     let mut port = MemoryPort::new(alloc, Vec::new(alloc), None);
-    let report = run_with_sweeps(&rt, alloc, &mut port)?;
-    check_report(&rt, alloc, report, "4 0 2 0 0 0 0")?;
+    let mut site = new_site(alloc, &[addr(5401), addr(5402)])?;
+    check_sweeps(&rt, alloc, &mut port, &mut site)
+}
+
+/// A site that learnt the reply answers at once.
+fn check_hits(
+    rt: &impl Abort,
+    alloc: Global,
+    port: &mut MemoryPort,
+    site: &mut Site,
+) -> Result<(), Fail> {
+    check_rows(rt, alloc, site, "100 learn reply => taken 1")?;
+    let report = serve_turns(alloc, port, site, "100 100", 2, 0)?;
+    check_report(rt, alloc, report, "2 2 2 0 0 0 0")?;
     check_notes(
-        &rt,
+        rt,
         alloc,
-        &port,
-        "nothing nothing nothing sent 5401 frame-100 sent 5402 frame-100 nothing",
+        port,
+        "received 6001 question sent 6001 relay received 6001 question-8 sent 6001 relay-8",
     )
 }
 
@@ -219,14 +268,5 @@ fn sweeps_go_to_each_peer_in_their_time(rt: HostRuntime) -> Result<(), Fail> {
 fn a_hit_is_sent(rt: HostRuntime) -> Result<(), Fail> {
     let mut port = port_with(rt.alloc(), 6001, "question question-8", None)?;
     let mut site = new_site(rt.alloc(), &[addr(5401)])?;
-    check_rows(&rt, rt.alloc(), &mut site, "100 learn reply => taken 1")?;
-    let mut clock = clock(rt.alloc(), "100 100")?;
-    let report = serve(&mut port, &mut clock, &mut OneWord(0), &mut site, 2, 0);
-    check_report(&rt, rt.alloc(), report, "2 2 2 0 0 0 0")?;
-    check_notes(
-        &rt,
-        rt.alloc(),
-        &port,
-        "received 6001 question sent 6001 relay received 6001 question-8 sent 6001 relay-8",
-    )
+    check_hits(&rt, rt.alloc(), &mut port, &mut site)
 }

@@ -11,6 +11,13 @@ use std::alloc::Global;
 use std::process::Abort;
 use std::test::Fail;
 
+/// Reads a question.
+fn question_in(alloc: Global, words: &mut Words<'_>) -> Result<Question, Fail> {
+    let name = words.word();
+    let class = words.word().parse()?;
+    question_of(alloc, name, 1, class)
+}
+
 /// Adds how a question is asked, or why not.
 fn push_asked(told: &mut String, asked: Result<Asked, PendingFault>) -> Result<(), Fail> {
     match asked {
@@ -27,14 +34,15 @@ fn ask(
     table: &mut Pending,
     mut words: Words<'_>,
 ) -> Result<Result<Asked, PendingFault>, Fail> {
-    let (name, class) = (words.word(), words.word().parse()?);
+    let question = question_in(alloc, &mut words)?;
     let port = words.word().parse()?;
     let id = words.word().parse()?;
     let moment = moment_of(words.word())?;
     let word = words.word().parse()?;
-    let host = 0x7f00_0001;
-    let from = Addr { host, port };
-    let question = question_of(alloc, name, 1, class)?;
+    let from = Addr {
+        host: 0x7f00_0001,
+        port,
+    };
     match table.ask(Waiter { from, id, question }, moment, word) {
         Ok(asked) => Ok(Ok(asked)),
         Err(unasked) => Ok(Err(unasked.fault)),
@@ -48,9 +56,8 @@ fn tell_query_id(
     mut words: Words<'_>,
     told: &mut String,
 ) -> Result<(), Fail> {
-    let (name, class) = (words.word(), words.word().parse()?);
+    let question = question_in(alloc, &mut words)?;
     let word = words.word().parse()?;
-    let question = question_of(alloc, name, 1, class)?;
     match table.query_id(&question, word) {
         Some(id) => Ok(write!(told, "{id}")?),
         None => Ok(told.push_str("none")?),
@@ -66,8 +73,7 @@ fn tell_found(
 ) -> Result<(), Fail> {
     let upstream = words.word().parse()?;
     let id = words.word().parse()?;
-    let (name, class) = (words.word(), words.word().parse()?);
-    let question = question_of(alloc, name, 1, class)?;
+    let question = question_in(alloc, &mut words)?;
     let is_found = table.find(upstream, id, &question).is_some();
     Ok(write!(told, "{is_found}")?)
 }

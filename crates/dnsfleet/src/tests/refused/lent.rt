@@ -147,6 +147,24 @@ fn run_lent<A: Allocator + Copy>(
     Ok(true)
 }
 
+/// Does the lines of an example on a new fleet, and says how many are questions.
+fn count_on<A: Allocator + Copy>(
+    rt: &impl Abort,
+    alloc: A,
+    refusing: &Refusing<Global>,
+    fleet: &mut Fleet<A>,
+    lines: &[Line<'_>],
+) -> Result<u64, Fail> {
+    begin(fleet, lines.first().ok_or("no line")?.text)?;
+    let mut count = 0u64;
+    for line in lines {
+        if run_lent(rt, alloc, refusing, fleet.world()?, line)? {
+            count = count.saturating_add(1);
+        }
+    }
+    Ok(count)
+}
+
 /// Does the lines of an example, and says how many are questions.
 fn count_lent<A: Allocator + Copy>(
     rt: &impl Abort,
@@ -155,14 +173,7 @@ fn count_lent<A: Allocator + Copy>(
     lines: &[Line<'_>],
 ) -> Result<u64, Fail> {
     let mut fleet = Fleet::new(alloc);
-    begin(&mut fleet, lines.first().ok_or("no line")?.text)?;
-    let mut count = 0u64;
-    for line in lines {
-        if run_lent(rt, alloc, refusing, fleet.world()?, line)? {
-            count = count.saturating_add(1);
-        }
-    }
-    Ok(count)
+    count_on(rt, alloc, refusing, &mut fleet, lines)
 }
 
 /// Does the lines of the example that shows this.
