@@ -6,6 +6,7 @@ mod datagrams;
 mod examples;
 mod frames;
 mod loopback;
+mod messages;
 mod questions;
 mod readers;
 mod refused;
@@ -16,6 +17,7 @@ mod told;
 
 use crate::{ScriptFault, What, end_script, run_script};
 use examples::{Example, all_examples, example_of};
+use messages::message_of;
 use readers::{Failing, Full, Slow};
 use std::alloc::Global;
 use std::io::Read;
@@ -69,14 +71,6 @@ fn check_lines(rt: &impl Abort, alloc: Global, lines: &str, wanted: &str) {
     check_reader(rt, alloc, &mut lines.as_bytes(), wanted, "lines");
 }
 
-/// A reply with two aliases and a denial, in hexadecimal digits.
-const REPLY: &str =
-    "00028183000100020001000003777777076578616d706c650000010001c00c000500010000003c00040161c010c029000500010000003c00040162c010c0100006000100000e10001a026e73c010000000000100000e1000000258000151800000012c";
-
-/// A frame of one address, in hexadecimal digits.
-const FRAME: &str =
-    "4447010001030300000000000000640000012c076578616d706c6503636f6d00000100010004c0000201";
-
 /// Adds a line for each part of octets that begins with them and lacks some of their end.
 fn add_prefixes(lines: &mut String, event: &str, octets: &str) -> Result<(), Fail> {
     let mut prefix = String::new(*lines.allocator());
@@ -95,14 +89,16 @@ fn add_prefixes(lines: &mut String, event: &str, octets: &str) -> Result<(), Fai
 fn tells_where_octets_end_early(rt: HostRuntime) -> Result<(), Fail> {
     let mut lines = String::new(rt.alloc());
     let mut wanted = String::new(rt.alloc());
-    add_prefixes(&mut lines, "learn 0 100", REPLY)?;
+    let reply = message_of(rt.alloc(), "aliases-reply")?;
+    add_prefixes(&mut lines, "learn 0 100", reply.as_str())?;
     for _ in 0..12 {
         wanted.push_str("refused read TooShort\n")?;
     }
     for _ in 12..99 {
         wanted.push_str("refused read Truncated\n")?;
     }
-    add_prefixes(&mut lines, "frame 0 100", FRAME)?;
+    let frame = message_of(rt.alloc(), "first-100")?;
+    add_prefixes(&mut lines, "frame 0 100", frame.as_str())?;
     for _ in 0..42 {
         wanted.push_str("refused frame Truncated\n")?;
     }

@@ -56,38 +56,57 @@ fn handed_on<C: time::Clock, A: Allocator + Copy>(
 
 /// Messages come before the frames that wait, each kind in its order of arrival; so do those that
 /// come while frames wait.
-#[test]
-fn hands_messages_on_before_frames(rt: HostRuntime) -> Result<(), Fail> {
-    let mut port = UdpPort::bind(&rt, &rt, rt.alloc(), loopback(0))?;
-    let (client, from) = open(&rt)?;
-    send_marked(rt.alloc(), &client, port.address(), "12a3b4")?;
+fn check_order(
+    rt: &impl Abort,
+    alloc: Global,
+    port: &mut UdpPort<'_, HostRuntime>,
+    client: &UdpSocket,
+    from: Addr,
+) -> Result<(), Fail> {
+    send_marked(alloc, client, port.address(), "12a3b4")?;
     let mut buffer: Buffer = [0; FRAME + 1];
     assert!(rt; matches!(port.recv(&mut buffer), Ok(Some(got)) if got == (from, 20)));
     assert_eq!(rt; buffer[0], b'a');
-    send_marked(rt.alloc(), &client, port.address(), "5c")?;
-    assert_eq!(rt; handed_on(rt.alloc(), &mut port)?.as_str(), "bc12345");
+    send_marked(alloc, client, port.address(), "5c")?;
+    assert_eq!(rt; handed_on(alloc, port)?.as_str(), "bc12345");
     assert_eq!(rt; port.failures(), 0);
     Ok(())
 }
 
-/// Sends as many frames as a socket holds, so many times, and takes one of them out each time.
 #[test]
-fn loses_no_frame_that_has_room(rt: HostRuntime) -> Result<(), Fail> {
+fn hands_messages_on_before_frames(rt: HostRuntime) -> Result<(), Fail> {
+    let (client, from) = open(&rt)?;
     let mut port = UdpPort::bind(&rt, &rt, rt.alloc(), loopback(0))?;
-    let (client, _) = open(&rt)?;
+    check_order(&rt, rt.alloc(), &mut port, &client, from)
+}
+
+/// Sends as many frames as a socket holds, so many times, and takes one of them out each time.
+fn check_bursts(
+    rt: &impl Abort,
+    alloc: Global,
+    port: &mut UdpPort<'_, HostRuntime>,
+    client: &UdpSocket,
+) -> Result<(), Fail> {
     let mut buffer: Buffer = [0; FRAME + 1];
     for _ in 0..5u32 {
         for _ in 0..10u32 {
-            send_marked(rt.alloc(), &client, port.address(), "0123456789")?;
+            send_marked(alloc, client, port.address(), "0123456789")?;
         }
         assert!(rt; matches!(port.recv(&mut buffer), Ok(Some((_, FRAME)))));
     }
     // The first ones of the first burst were taken out.
-    let marks = handed_on(rt.alloc(), &mut port)?;
+    let marks = handed_on(alloc, port)?;
     assert_eq!(rt; marks.len(), 495);
     assert!(rt; marks.starts_with("56789012345678901234"));
     assert!(rt; marks.ends_with("01234567890123456789"));
     Ok(())
+}
+
+#[test]
+fn loses_no_frame_that_has_room(rt: HostRuntime) -> Result<(), Fail> {
+    let (client, _) = open(&rt)?;
+    let mut port = UdpPort::bind(&rt, &rt, rt.alloc(), loopback(0))?;
+    check_bursts(&rt, rt.alloc(), &mut port, &client)
 }
 
 /// What waits is bounded: what comes beyond is dropped, of each kind by itself.
@@ -150,25 +169,35 @@ fn count_arrived(socket: &UdpSocket) -> Result<usize, Fail> {
 }
 
 /// A frame goes out while the port receives, a message at once; and what is left at the end.
-#[test]
-fn sends_frames_while_it_receives(rt: HostRuntime) -> Result<(), Fail> {
-    let mut port = UdpPort::bind(&rt, &rt, rt.alloc(), loopback(0))?;
-    let (client, to) = open(&rt)?;
-    let frame = marked(rt.alloc(), b'f', FRAME)?;
+fn check_sends(
+    rt: &impl Abort,
+    alloc: Global,
+    port: &mut UdpPort<'_, HostRuntime>,
+    client: &UdpSocket,
+    to: Addr,
+) -> Result<(), Fail> {
+    let frame = marked(alloc, b'f', FRAME)?;
     for _ in 0..20u32 {
         port.send(to, &frame)?;
     }
     port.send(to, b"m")?;
-    assert_eq!(rt; receive(rt.alloc(), &client)?.as_slice(), b"m".as_slice());
-    assert_eq!(rt; count_arrived(&client)?, 0);
+    assert_eq!(rt; receive(alloc, client)?.as_slice(), b"m".as_slice());
+    assert_eq!(rt; count_arrived(client)?, 0);
     let mut buffer: Buffer = [0; FRAME + 1];
-    send(&client, port.address(), b"q")?;
+    send(client, port.address(), b"q")?;
     assert!(rt; matches!(port.recv(&mut buffer), Ok(Some((_, 1)))));
-    assert_eq!(rt; count_arrived(&client)?, 2);
+    assert_eq!(rt; count_arrived(client)?, 2);
     port.finish();
-    assert_eq!(rt; count_arrived(&client)?, 18);
+    assert_eq!(rt; count_arrived(client)?, 18);
     assert_eq!(rt; port.failures(), 0);
     Ok(())
+}
+
+#[test]
+fn sends_frames_while_it_receives(rt: HostRuntime) -> Result<(), Fail> {
+    let (client, to) = open(&rt)?;
+    let mut port = UdpPort::bind(&rt, &rt, rt.alloc(), loopback(0))?;
+    check_sends(&rt, rt.alloc(), &mut port, &client, to)
 }
 
 /// Where a frame that waited can't be sent, the receive fails, and the next one goes on.

@@ -2,6 +2,7 @@
 
 use super::datagrams::DATAGRAMS;
 use super::frames::FRAMES;
+use super::messages::add_message;
 use super::questions::QUESTIONS;
 use std::alloc::{AllocError, Global};
 use std::test::Fail;
@@ -11,28 +12,58 @@ use std::test::Fail;
 pub struct Example {
     /// What it shows.
     pub shows: &'static str,
-    /// Its lines, each behind `> `, and below each what it prints. `{61*460}` stands for 460 times
-    /// `61`.
+    /// Its lines, each behind `> `, and below each what it prints, as `spelled` reads them.
     pub transcript: &'static str,
 }
 
 impl Example {
-    /// The lines of the script, and what they print.
-    pub fn parts(&self, alloc: Global) -> Result<(String, String), Fail> {
-        let mut lines = String::new(alloc);
-        let mut printed = String::new(alloc);
+    /// The transcript, with a message in place of its name between `<` and `>`, with 460 times `61` in
+    /// place of `{61*460}`, and without the lines that begin with `;`, which say what messages below
+    /// them are.
+    pub fn spelled(&self, alloc: Global) -> Result<String, Fail> {
+        let mut text = String::new(alloc);
         for line in self.transcript.lines() {
-            match line.strip_prefix("> ") {
-                Some(line) => add_line(&mut lines, line)?,
-                None => add_line(&mut printed, line)?,
+            if !line.starts_with(';') {
+                add_spelled(&mut text, line)?;
+                text.push_str("\n")?;
             }
         }
-        Ok((lines, printed))
+        Ok(text)
+    }
+
+    /// The lines of the script, and what they print.
+    pub fn parts(&self, alloc: Global) -> Result<(String, String), Fail> {
+        parts_of(alloc, self.spelled(alloc)?.as_str())
     }
 }
 
-/// Adds a line, each repetition in it written out.
-fn add_line(text: &mut String, line: &str) -> Result<(), Fail> {
+/// The lines of a script, and what they print, of its transcript.
+pub fn parts_of(alloc: Global, transcript: &str) -> Result<(String, String), Fail> {
+    let mut lines = String::new(alloc);
+    let mut printed = String::new(alloc);
+    for line in transcript.lines() {
+        match line.strip_prefix("> ") {
+            Some(line) => writeln!(lines, "{line}")?,
+            None => writeln!(printed, "{line}")?,
+        }
+    }
+    Ok((lines, printed))
+}
+
+/// Adds a line, each message and repetition in it written out.
+fn add_spelled(text: &mut String, line: &str) -> Result<(), Fail> {
+    let mut pieces = line.split('<');
+    add_repeats(text, pieces.next().unwrap_or(""))?;
+    for piece in pieces {
+        let (name, rest) = piece.split_once('>').ok_or("no name")?;
+        add_message(text, name)?;
+        add_repeats(text, rest)?;
+    }
+    Ok(())
+}
+
+/// Adds a text, each repetition in it written out.
+pub fn add_repeats(text: &mut String, line: &str) -> Result<(), Fail> {
     for piece in line.split('{') {
         match piece.split_once('}') {
             Some((repeated, rest)) => {
@@ -42,7 +73,6 @@ fn add_line(text: &mut String, line: &str) -> Result<(), Fail> {
             None => text.push_str(piece)?,
         }
     }
-    text.push_str("\n")?;
     Ok(())
 }
 

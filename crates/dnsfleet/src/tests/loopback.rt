@@ -1,5 +1,6 @@
 //! Sites over sockets of this machine, and the system's clock.
 
+use super::messages::{QUESTION, RELAY};
 use super::settings::loopback;
 use crate::{SystemClock, UdpPort};
 use fleet_observe::Moment;
@@ -16,22 +17,11 @@ use std::test::Fail;
 use std::time::Duration;
 use std::{io, time};
 
-/// A question for the address of example.com.
-pub const QUESTION: &[u8] =
-    b"\x00\x07\x01\x00\x00\x01\x00\x00\x00\x00\x00\x00\x07example\x03com\x00\x00\x01\x00\x01";
-
-/// The record of a reply behind that question: 192.0.2.1, for 300 seconds.
+/// The record of a reply behind the question: example.com. 300 IN A 192.0.2.1
 const RECORD: &[u8] = b"\xc0\x0c\x00\x01\x00\x01\x00\x00\x01\x2c\x00\x04\xc0\x00\x02\x01";
 
-/// The answer to it, with the name in full.
-const ANSWER: &[u8] =
-    b"\x00\x07\x81\x80\x00\x01\x00\x01\x00\x00\x00\x00\x07example\x03com\x00\x00\x01\x00\x01\x07example\x03com\x00\x00\x01\x00\x01\x00\x00\x01\x2c\x00\x04\xc0\x00\x02\x01";
-
-/// The same up to the last octet of the TTL, and behind that octet.
-const BEFORE_SECONDS: &[u8] =
-    b"\x00\x07\x81\x80\x00\x01\x00\x01\x00\x00\x00\x00\x07example\x03com\x00\x00\x01\x00\x01\x07example\x03com\x00\x00\x01\x00\x01\x00\x00\x01";
-
-const BEHIND_SECONDS: &[u8] = b"\x00\x04\xc0\x00\x02\x01";
+/// Where the last octet of the TTL stands in the answer to it, which tells the name in full.
+const SECONDS: usize = 49;
 
 /// A socket of a test, which waits for a second at most, and where it is.
 pub fn open(rt: &HostRuntime) -> Result<(UdpSocket, Addr), Fail> {
@@ -124,37 +114,68 @@ fn answer_query(rt: &impl Abort, alloc: Global, stub: &UdpSocket, site: Addr) ->
     send(stub, site, &reply)
 }
 
-#[test]
-fn serves_what_a_peer_learnt(rt: HostRuntime) -> Result<(), Fail> {
-    let (client, _) = open(&rt)?;
-    let (stub, upstream) = open(&rt)?;
-    let (mut first, mut second) = open_sites(&rt, upstream)?;
-    send(&client, first.port.address(), QUESTION)?;
-    first.serve(&rt, 1);
-    answer_query(&rt, rt.alloc(), &stub, first.port.address())?;
-    first.serve(&rt, 2);
-    assert_eq!(rt; receive(rt.alloc(), &client)?.as_slice(), ANSWER);
-    second.serve(&rt, 0);
-    send(&client, second.port.address(), QUESTION)?;
-    second.serve(&rt, 1);
-    let answer = receive(rt.alloc(), &client)?;
+/// A site learns the answer from its upstream, and tells it its peer.
+fn check_first<R: Abort + time::Clock>(
+    rt: &R,
+    alloc: Global,
+    client: &UdpSocket,
+    stub: &UdpSocket,
+    first: &mut Served<'_>,
+) -> Result<(), Fail> {
+    send(client, first.port.address(), QUESTION)?;
+    first.serve(rt, 1);
+    answer_query(rt, alloc, stub, first.port.address())?;
+    first.serve(rt, 2);
+    assert_eq!(rt; receive(alloc, client)?.as_slice(), RELAY);
+    Ok(())
+}
+
+/// The peer takes in what it was told, and answers from it; the upstream is sent nothing more.
+fn check_second<R: Abort + time::Clock>(
+    rt: &R,
+    alloc: Global,
+    client: &UdpSocket,
+    stub: &UdpSocket,
+    second: &mut Served<'_>,
+) -> Result<(), Fail> {
+    second.serve(rt, 0);
+    send(client, second.port.address(), QUESTION)?;
+    second.serve(rt, 1);
+    let answer = receive(alloc, client)?;
     assert!(rt; shows_record(&answer));
-    // The upstream was sent nothing more.
     let mut buffer = [0u8; 600];
     stub.set_nonblocking(true)?;
     assert!(rt; stub.recv_from(&mut buffer).is_err());
     Ok(())
 }
 
+/// One site after the other.
+fn check_sites<R: Abort + time::Clock>(
+    rt: &R,
+    alloc: Global,
+    stub: &UdpSocket,
+    client: &UdpSocket,
+    sites: &mut (Served<'_>, Served<'_>),
+) -> Result<(), Fail> {
+    check_first(rt, alloc, client, stub, &mut sites.0)?;
+    check_second(rt, alloc, client, stub, &mut sites.1)
+}
+
+#[test]
+fn serves_what_a_peer_learnt(rt: HostRuntime) -> Result<(), Fail> {
+    let (client, _) = open(&rt)?;
+    let (stub, upstream) = open(&rt)?;
+    let mut sites = open_sites(&rt, upstream)?;
+    check_sites(&rt, rt.alloc(), &stub, &client, &mut sites)
+}
+
 /// Whether an answer has the record, with a TTL of 295 to 300 seconds, since a test may take some.
 fn shows_record(answer: &[u8]) -> bool {
-    let Some(rest) = answer.strip_prefix(BEFORE_SECONDS) else {
-        return false;
-    };
-    let Some((seconds, behind)) = rest.split_first() else {
-        return false;
-    };
-    (39..=44).contains(seconds) && behind == BEHIND_SECONDS
+    answer.get(..SECONDS) == RELAY.get(..SECONDS)
+        && answer
+            .get(SECONDS)
+            .is_some_and(|seconds| (39..=44).contains(seconds))
+        && answer.get(SECONDS + 1..) == RELAY.get(SECONDS + 1..)
 }
 
 /// Two sends of a port fail and are counted; a receive that finds nothing is not.

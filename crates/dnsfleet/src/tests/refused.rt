@@ -242,6 +242,33 @@ fn run_refused<A: Allocator + Copy>(
     Ok(ended)
 }
 
+/// Does lines on a new fleet, as `run_lines` says.
+fn run_on<A: Allocator + Copy>(
+    rt: &impl Abort,
+    ample: A,
+    alloc: A,
+    refusing: &Refusing<Global>,
+    fleet: &mut Fleet<A>,
+    lines: &[Line<'_>],
+    call: u64,
+    parts: &mut [Option<Part<A>>],
+    met: &mut Met,
+) -> Result<bool, Fail> {
+    let first = lines.first().ok_or("no line")?.text;
+    refusing.refuse(call);
+    begin_refused(rt, fleet, refusing, first)?;
+    let mut has_refused = refusing.has_refused();
+    for place in 0..lines.len() {
+        refusing.refuse(call);
+        let ended = run_refused(rt, ample, refusing, fleet, &lines[place])?;
+        has_refused = has_refused || refusing.has_refused();
+        let done = &lines[..=place];
+        let known = parts.get_mut(place).ok_or("no such line")?;
+        check_last(rt, ample, alloc, fleet, done, ended, known, met)?;
+    }
+    Ok(has_refused)
+}
+
 /// Does lines with the call of this number refused at each, where it makes as many, and says
 /// whether there was one.
 fn run_lines<A: Allocator + Copy>(
@@ -255,19 +282,9 @@ fn run_lines<A: Allocator + Copy>(
     met: &mut Met,
 ) -> Result<bool, Fail> {
     let mut fleet = Fleet::new(alloc);
-    let first = lines.first().ok_or("no line")?.text;
-    refusing.refuse(call);
-    begin_refused(rt, &mut fleet, refusing, first)?;
-    let mut has_refused = refusing.has_refused();
-    for place in 0..lines.len() {
-        refusing.refuse(call);
-        let ended = run_refused(rt, ample, refusing, &mut fleet, &lines[place])?;
-        has_refused = has_refused || refusing.has_refused();
-        let done = &lines[..=place];
-        let known = parts.get_mut(place).ok_or("no such line")?;
-        check_last(rt, ample, alloc, &mut fleet, done, ended, known, met)?;
-    }
-    Ok(has_refused)
+    run_on(
+        rt, ample, alloc, refusing, &mut fleet, lines, call, parts, met,
+    )
 }
 
 /// Does lines with the first call refused at each, then with the second at each, and so on, until
@@ -323,11 +340,12 @@ fn a_line_without_memory_is_done_again(rt: HostRuntime) -> Result<(), Fail> {
     let mut met = Met::new();
     for shows in REFUSED {
         let example = example_of(rt.alloc(), shows)?;
-        refuse_each(&rt, rt.alloc(), example.transcript, &mut met)?;
+        let transcript = example.spelled(rt.alloc())?;
+        refuse_each(&rt, rt.alloc(), transcript.as_str(), &mut met)?;
     }
-    let denial = example_of(rt.alloc(), DENIAL)?;
+    let denial = example_of(rt.alloc(), DENIAL)?.spelled(rt.alloc())?;
     for count in 1..5u8 {
-        let text = after_others(rt.alloc(), count, denial.transcript)?;
+        let text = after_others(rt.alloc(), count, denial.as_str())?;
         refuse_each(&rt, rt.alloc(), text.as_str(), &mut met)?;
     }
     assert!(rt; met.short > 0 && met.partly > 0 && met.lost > 0, "{met:?}");

@@ -147,15 +147,15 @@ fn run_lent<A: Allocator + Copy>(
     Ok(true)
 }
 
-/// Does the lines of an example, and says how many are questions.
-fn count_lent<A: Allocator + Copy>(
+/// Does the lines of an example on a new fleet, and says how many are questions.
+fn count_on<A: Allocator + Copy>(
     rt: &impl Abort,
     alloc: A,
     refusing: &Refusing<Global>,
+    fleet: &mut Fleet<A>,
     lines: &[Line<'_>],
 ) -> Result<u64, Fail> {
-    let mut fleet = Fleet::new(alloc);
-    begin(&mut fleet, lines.first().ok_or("no line")?.text)?;
+    begin(fleet, lines.first().ok_or("no line")?.text)?;
     let mut count = 0u64;
     for line in lines {
         if run_lent(rt, alloc, refusing, fleet.world()?, line)? {
@@ -165,10 +165,21 @@ fn count_lent<A: Allocator + Copy>(
     Ok(count)
 }
 
+/// Does the lines of an example, and says how many are questions.
+fn count_lent<A: Allocator + Copy>(
+    rt: &impl Abort,
+    alloc: A,
+    refusing: &Refusing<Global>,
+    lines: &[Line<'_>],
+) -> Result<u64, Fail> {
+    let mut fleet = Fleet::new(alloc);
+    count_on(rt, alloc, refusing, &mut fleet, lines)
+}
+
 /// Does the lines of the example that shows this.
 fn run_example(rt: &impl Abort, alloc: Global, shows: &str) -> Result<u64, Fail> {
-    let example = example_of(alloc, shows)?;
-    let lines = lines_of(alloc, example.transcript)?;
+    let transcript = example_of(alloc, shows)?.spelled(alloc)?;
+    let lines = lines_of(alloc, transcript.as_str())?;
     let refusing = Refusing::after(alloc, 0);
     count_lent(rt, &refusing, &refusing, &lines)
 }

@@ -182,6 +182,20 @@ pub fn run_part<A: Allocator + Copy>(
     Ok(())
 }
 
+/// Makes the sites of a fleet, as the first line may say, and does lines.
+fn run_all<A: Allocator + Copy>(
+    fleet: &mut Fleet<A>,
+    alloc: A,
+    first: &str,
+    lines: &[Line<'_>],
+) -> Result<(), Fail> {
+    begin(fleet, first)?;
+    for line in lines {
+        run_line(fleet.world()?, alloc, line.text)?;
+    }
+    Ok(())
+}
+
 /// A fleet that did these lines, the first of which may say how many sites it has.
 pub fn fleet_after<A: Allocator + Copy>(
     alloc: A,
@@ -189,10 +203,7 @@ pub fn fleet_after<A: Allocator + Copy>(
     lines: &[Line<'_>],
 ) -> Result<Fleet<A>, Fail> {
     let mut fleet = Fleet::new(alloc);
-    begin(&mut fleet, first)?;
-    for line in lines {
-        run_line(fleet.world()?, alloc, line.text)?;
-    }
+    run_all(&mut fleet, alloc, first, lines)?;
     Ok(fleet)
 }
 

@@ -1,5 +1,7 @@
 //! The first observations of lines that bring several, as frames.
 
+use crate::tests::messages::FIRST_NEWER;
+
 /// A line that brings several observations, and a frame of the first of them: so many.
 struct Part {
     line: &'static str,
@@ -38,22 +40,22 @@ const PARTS: [Part; 9] = [
     Part {
         line: "deliver 1 200 1",
         taken: 1,
-        frame: NEWER,
+        frame: FIRST_NEWER,
     },
     Part {
         line: "deliver 2 200 2",
         taken: 1,
-        frame: NEWER,
+        frame: FIRST_NEWER,
     },
     Part {
         line: "merge 1 0",
         taken: 1,
-        frame: NEWER,
+        frame: FIRST_NEWER,
     },
     Part {
         line: "merge 0 1",
         taken: 1,
-        frame: NEWER,
+        frame: FIRST_NEWER,
     },
 ];
 
@@ -79,10 +81,6 @@ const ONE_ALIAS: &[u8] =
 /// The same, and a.example. is one of b.example.
 const TWO_ALIASES: &[u8] =
     b"\x44\x47\x01\x00\x02\x03\x01\x00\x00\x00\x00\x00\x00\x00\x64\x00\x00\x00\x3c\x03www\x07example\x00\x00\x05\x00\x01\x00\x0b\x01a\x07example\x00\x03\x01\x00\x00\x00\x00\x00\x00\x00\x64\x00\x00\x00\x3c\x01a\x07example\x00\x00\x05\x00\x01\x00\x0b\x01b\x07example\x00";
-
-/// example.com. has the address 192.0.2.2, with rank 1, stamp 200 and life 10.
-const NEWER: &[u8] =
-    b"\x44\x47\x01\x00\x01\x03\x01\x00\x00\x00\x00\x00\x00\x00\xc8\x00\x00\x00\x0a\x07example\x03com\x00\x00\x01\x00\x01\x00\x04\xc0\x00\x02\x02";
 
 /// A frame of the first observations that a line brings: so many.
 pub fn part_of(line: &str, taken: usize) -> Option<&'static [u8]> {

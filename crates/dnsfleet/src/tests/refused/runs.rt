@@ -171,8 +171,8 @@ fn refuse_each(rt: &impl Abort, alloc: Global, lines: &[Line<'_>]) -> Result<(),
 #[test]
 fn a_run_without_memory_goes_on_where_it_halted(rt: HostRuntime) -> Result<(), Fail> {
     for shows in REFUSED {
-        let example = example_of(rt.alloc(), shows)?;
-        let lines = lines_of(rt.alloc(), example.transcript)?;
+        let transcript = example_of(rt.alloc(), shows)?.spelled(rt.alloc())?;
+        let lines = lines_of(rt.alloc(), transcript.as_str())?;
         refuse_each(&rt, rt.alloc(), &lines)?;
     }
     Ok(())

@@ -1,6 +1,6 @@
 //! Scripts with one call for memory refused.
 
-use crate::tests::examples::{Example, all_examples};
+use crate::tests::examples::{all_examples, parts_of};
 use crate::tests::refused::MANY;
 use crate::tests::refused::lines::{Line, lines_of};
 use crate::tests::refusing::Refusing;
@@ -23,11 +23,11 @@ fn end_before(lines: &[Line<'_>], number: u64) -> usize {
     end
 }
 
-/// Runs an example with a call refused, and says whether that call was made.
+/// Runs the lines of a transcript with a call refused, and says whether that call was made.
 fn run_refused(
     rt: &impl Abort,
     alloc: Global,
-    example: &Example,
+    transcript: &str,
     text: &str,
     call: u64,
 ) -> Result<bool, Fail> {
@@ -39,22 +39,19 @@ fn run_refused(
         return Ok(false);
     };
     assert_eq!(rt; fault.what, What::OutOfMemory);
-    let lines = lines_of(alloc, example.transcript)?;
+    let lines = lines_of(alloc, transcript)?;
     let end = end_before(&lines, fault.line);
-    let before = Example {
-        shows: example.shows,
-        transcript: example.transcript.get(..end).ok_or("no such line")?,
-    };
-    let (_, wanted) = before.parts(alloc)?;
+    let before = transcript.get(..end).ok_or("no such line")?;
+    let (_, wanted) = parts_of(alloc, before)?;
     assert_eq!(rt; printed.as_slice(), wanted.as_bytes());
     Ok(true)
 }
 
-/// Runs an example with each call refused in turn, until one is not made.
-fn refuse_each(rt: &impl Abort, alloc: Global, example: &Example) -> Result<(), Fail> {
-    let (text, _) = example.parts(alloc)?;
+/// Runs the lines of a transcript with each call refused in turn, until one is not made.
+fn refuse_each(rt: &impl Abort, alloc: Global, transcript: &str) -> Result<(), Fail> {
+    let (text, _) = parts_of(alloc, transcript)?;
     for call in 1..MANY {
-        if !run_refused(rt, alloc, example, text.as_str(), call)? {
+        if !run_refused(rt, alloc, transcript, text.as_str(), call)? {
             return Ok(());
         }
     }
@@ -64,7 +61,8 @@ fn refuse_each(rt: &impl Abort, alloc: Global, example: &Example) -> Result<(), 
 #[test]
 fn a_script_ends_where_a_call_is_refused(rt: HostRuntime) -> Result<(), Fail> {
     for example in &all_examples(rt.alloc())? {
-        refuse_each(&rt, rt.alloc(), example)?;
+        let transcript = example.spelled(rt.alloc())?;
+        refuse_each(&rt, rt.alloc(), transcript.as_str())?;
     }
     Ok(())
 }

@@ -2,6 +2,7 @@
 
 ghost use Rattle.rand_core.specs.Steps.{stream_of, steps_u32};
 
+use crate::tests::messages::{FAILURE, QUERY, QUESTION};
 use crate::tests::refused::MANY;
 use crate::tests::refusing::Refusing;
 use fleet_name::Octets;
@@ -41,18 +42,6 @@ impl Rng for OneWord {
         utils::fill_bytes_via_u32(self, dst)
     }
 }
-
-/// The question for example.com., type A.
-const QUESTION: &[u8] =
-    b"\x00\x07\x01\x00\x00\x01\x00\x00\x00\x00\x00\x00\x07example\x03com\x00\x00\x01\x00\x01";
-
-/// Its query, under the identifier 1234 (hexadecimal).
-const QUERY: &[u8] =
-    b"\x12\x34\x01\x00\x00\x01\x00\x00\x00\x00\x00\x00\x07example\x03com\x00\x00\x01\x00\x01";
-
-/// That no upstream answered it.
-const FAILURE: &[u8] =
-    b"\x00\x07\x81\x82\x00\x01\x00\x00\x00\x00\x00\x00\x07example\x03com\x00\x00\x01\x00\x01";
 
 /// What is sent, in order.
 const SENDS: [(u16, &[u8]); 3] = [(5301, QUERY), (5302, QUERY), (6001, FAILURE)];

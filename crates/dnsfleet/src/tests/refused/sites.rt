@@ -1,5 +1,6 @@
 //! What a site holds where one call for memory was refused.
 
+use crate::tests::messages::ALIASES_REPLY;
 use crate::tests::refused::MANY;
 use crate::tests::refusing::Refusing;
 use fleet_observe::Moment;
@@ -9,10 +10,6 @@ use std::alloc::{Allocator, Global};
 use std::process::Abort;
 use std::test::Fail;
 
-/// The reply with two aliases and a denial.
-const REPLY: &[u8] =
-    b"\x00\x02\x81\x83\x00\x01\x00\x02\x00\x01\x00\x00\x03www\x07example\x00\x00\x01\x00\x01\xc0\x0c\x00\x05\x00\x01\x00\x00\x00\x3c\x00\x04\x01a\xc0\x10\xc0\x29\x00\x05\x00\x01\x00\x00\x00\x3c\x00\x04\x01b\xc0\x10\xc0\x10\x00\x06\x00\x01\x00\x00\x0e\x10\x00\x1a\x02ns\xc0\x10\x00\x00\x00\x00\x01\x00\x00\x0e\x10\x00\x00\x02\x58\x00\x01\x51\x80\x00\x00\x01\x2c";
-
 /// A site that asks one upstream.
 fn site<A: Allocator + Copy>(alloc: A, ample: A) -> Result<Site<A>, Fail> {
     let host = 0x7f00_0001;
@@ -21,9 +18,9 @@ fn site<A: Allocator + Copy>(alloc: A, ample: A) -> Result<Site<A>, Fail> {
     Ok(Site::new(alloc, Config::new(upstreams, Vec::new(ample))?))
 }
 
-/// The site learns the reply: how many observations it took, and whether that was all.
+/// The site learns the reply with two aliases and a denial: how many observations it took, and whether that was all.
 fn learn<A: Allocator + Copy>(site: &mut Site<A>, now: Moment) -> (usize, bool) {
-    match site.learn(now, REPLY) {
+    match site.learn(now, ALIASES_REPLY) {
         Ok(outcome) => (outcome.taken, true),
         Err(SiteFault::OutOfMemory { taken }) => (taken, false),
     }

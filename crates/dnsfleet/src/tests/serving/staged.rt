@@ -3,7 +3,7 @@
 
 use super::{check_end, end, free_port, settings_for};
 use crate::serve::serve_settings;
-use crate::tests::loopback::QUESTION;
+use crate::tests::messages::QUESTION;
 use crate::tests::told::Told;
 use std::alloc::Global;
 use std::cell::Cell;

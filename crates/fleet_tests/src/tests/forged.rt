@@ -1,0 +1,75 @@
+//! Replies that are forged by one who does not know the id of the query.
+
+use crate::tests::fleets::{check_rows, fleet, tell_stepped};
+use crate::tests::octets::octets;
+use crate::tests::sites::{addr, at};
+use fleet_name::Octets;
+use fleet_world::{Event, World};
+use std::alloc::Global;
+use std::process::Abort;
+use std::test::Fail;
+
+/// A message of an id and what follows it, which comes from the first upstream.
+fn forged_event(alloc: Global, id: u16, rest: &[u8]) -> Result<Event, Fail> {
+    let now = at(101)?;
+    let mut bytes = id.to_be_bytes().to_vec(alloc)?;
+    bytes.extend_from_slice(rest)?;
+    Ok(Event::Datagram {
+        site: 0,
+        now,
+        from: addr(5301),
+        word: 0,
+        bytes: Octets::new(bytes),
+    })
+}
+
+/// The message is for no question under this id, and nothing comes of it.
+fn check_id(
+    rt: &impl Abort,
+    alloc: Global,
+    world: &mut World,
+    id: u16,
+    rest: &[u8],
+) -> Result<(), Fail> {
+    let mut told = String::new(alloc);
+    let event = forged_event(alloc, id, rest)?;
+    tell_stepped(&mut told, &world.step(&event)?)?;
+    assert_eq!(rt; told.as_str(), " refused Unmatched", "{id}");
+    Ok(())
+}
+
+/// The reply is for no question under each id but the right one.
+fn check_ids(rt: &impl Abort, alloc: Global, world: &mut World) -> Result<(), Fail> {
+    let reply = octets(alloc, "reply")?;
+    let rest = reply.as_slice().get(2..).ok_or("no id")?;
+    for id in 0..=u16::MAX {
+        if id != 0x1234 {
+            check_id(rt, alloc, world, id, rest)?;
+        }
+    }
+    Ok(())
+}
+
+#[test]
+fn a_reply_under_each_other_id_is_for_no_question(rt: HostRuntime) -> Result<(), Fail> {
+    let mut world = fleet(rt.alloc(), 1, &[])?;
+    check_rows(
+        &rt,
+        rt.alloc(),
+        &mut world,
+        "datagram 0 100 6001 4660 question => send 5301 query",
+    )?;
+    check_ids(&rt, rt.alloc(), &mut world)?;
+    check_rows(
+        &rt,
+        rt.alloc(),
+        &mut world,
+        "\
+datagram 0 101 5301 0 other-type => refused Unmatched
+kept 0 => none
+datagram 0 101 5301 0 reply => send 6001 relay frame 0 taken 1
+kept 0 => frame-101
+kept 1 => none
+",
+    )
+}

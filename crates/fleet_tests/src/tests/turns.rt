@@ -1,0 +1,272 @@
+//! Runs of a server over a port in memory.
+
+ghost use Rattle.rand_core.specs.Steps.{stream_of, steps_u32};
+
+use crate::tests::octets::{octets, spelt_out};
+use crate::tests::sites::{addr, check_rows, moment, new_site, number, tell_packet};
+use fleet_name::Octets;
+use fleet_pending::Addr;
+use fleet_site::{ListClock, MemoryPort, Note, Port, Report, Site, serve};
+use rand_core::utils::NextWord;
+use rand_core::{Rng, utils};
+use std::alloc::Global;
+use std::marker::Model;
+use std::process::Abort;
+use std::test::Fail;
+
+/// Gives one word, again and again.
+#[derive(Drop)]
+struct OneWord(u32);
+
+impl NextWord<u32> for OneWord {
+    ghost step = { λ s. (s.0, s) };
+
+    fn next_word(&mut self) -> u32 {
+        self.0
+    }
+}
+
+impl Rng for OneWord {
+    ghost stream = { stream_of (steps_u32 (λ s. (s.0, s))) };
+
+    fn next_u32(&mut self) -> u32 {
+        self.next_word()
+    }
+
+    fn next_u64(&mut self) -> u64 {
+        utils::next_u64_via_u32(self)
+    }
+
+    fn fill_bytes(&mut self, dst: &mut [u8]) {
+        utils::fill_bytes_via_u32(self, dst)
+    }
+}
+
+/// A clock that tells these moments.
+fn clock(alloc: Global, seconds: &str) -> Result<ListClock, Fail> {
+    let mut moments = Vec::new(alloc);
+    for second in seconds.split(' ') {
+        moments.push(moment(second)?)?;
+    }
+    Ok(ListClock::new(moments))
+}
+
+/// A port at which the octets of these names arrive from another port, and which fails at one call.
+fn port_with(
+    alloc: Global,
+    from: u16,
+    names: &str,
+    fail_at: Option<u64>,
+) -> Result<MemoryPort, Fail> {
+    let mut arrivals = Vec::new(alloc);
+    for name in names.split(' ') {
+        arrivals.push(Some((addr(from), octets(alloc, name)?)))?;
+    }
+    Ok(MemoryPort::new(alloc, arrivals, fail_at))
+}
+
+/// So many turns of a site, whose clock tells these moments, with a sweep each so many seconds.
+fn serve_turns(
+    alloc: Global,
+    port: &mut MemoryPort,
+    site: &mut Site,
+    seconds: &str,
+    turns: u32,
+    sweep: u32,
+) -> Result<Report, Fail> {
+    let mut clock = clock(alloc, seconds)?;
+    let mut words = OneWord(0xabcd_1234);
+    Ok(serve(port, &mut clock, &mut words, site, turns, sweep))
+}
+
+/// So many turns from the moment 100 on, two seconds each, without sweeps.
+fn run(alloc: Global, port: &mut MemoryPort, turns: u32) -> Result<Report, Fail> {
+    let mut site = new_site(alloc, &[addr(5401), addr(5402)])?;
+    serve_turns(alloc, port, &mut site, "100 102 104", turns, 0)
+}
+
+/// Compares a report with its counts: turns, datagrams received, packets sent, packets lost,
+/// receives that failed, refusals, and steps that found no memory.
+fn check_report(rt: &impl Abort, alloc: Global, report: Report, counts: &str) -> Result<(), Fail> {
+    let Report {
+        turns,
+        received,
+        sent,
+        lost,
+        faults,
+        refused,
+        short,
+    } = report;
+    let told = format!(in alloc; "{turns} {received} {sent} {lost} {faults} {refused} {short}")?;
+    assert_eq!(rt; told.as_str(), counts);
+    Ok(())
+}
+
+/// Adds how a call of a port ended, with where a packet came from or went, and its octets.
+fn tell_moved(told: &mut String, end: &str, addr: Addr, octets: &Octets) -> Result<(), Fail> {
+    told.push_str(end)?;
+    tell_packet(told, addr, octets.as_slice())
+}
+
+/// Adds a call of a port, and how it ended.
+fn tell_note(told: &mut String, note: &Note) -> Result<(), Fail> {
+    match note {
+        Note::Received(_, from, octets) => tell_moved(told, " received", *from, octets),
+        Note::NoDatagram(_) => Ok(told.push_str(" nothing")?),
+        Note::Fault(_) => Ok(told.push_str(" fault")?),
+        Note::Sent(to, octets) => tell_moved(told, " sent", *to, octets),
+        Note::Lost(to, octets) => tell_moved(told, " lost", *to, octets),
+    }
+}
+
+/// Compares the first six calls of a port, and how they ended.
+fn check_notes(
+    rt: &impl Abort,
+    alloc: Global,
+    port: &MemoryPort,
+    wanted: &str,
+) -> Result<(), Fail> {
+    let mut told = String::new(alloc);
+    for note in port.notes().unwrap_or(&[]).iter().take(6) {
+        tell_note(&mut told, note)?;
+    }
+    assert_eq!(rt; told.as_str(), spelt_out(alloc, wanted)?.as_str());
+    Ok(())
+}
+
+/// A question goes to each upstream in so many turns, and fails.
+fn check_turns(
+    rt: &impl Abort,
+    alloc: Global,
+    port: &mut MemoryPort,
+    turns: u32,
+    counts: &str,
+) -> Result<(), Fail> {
+    check_report(rt, alloc, run(alloc, port, turns)?, counts)?;
+    assert_eq!(rt; port.failures(), 0);
+    check_notes(
+        rt,
+        alloc,
+        port,
+        "received 6001 question sent 5301 query nothing sent 5302 query nothing sent 6001 failure",
+    )
+}
+
+/// The same, at a port of its own.
+fn check_port(rt: &impl Abort, alloc: Global, turns: u32, counts: &str) -> Result<(), Fail> {
+    let mut port = port_with(alloc, 6001, "question", None)?;
+    check_turns(rt, alloc, &mut port, turns, counts)
+}
+
+#[test]
+fn a_question_goes_to_each_upstream_and_fails(rt: HostRuntime) -> Result<(), Fail> {
+    check_port(&rt, rt.alloc(), 3, "3 1 3 0 0 0 0")?;
+    check_port(&rt, rt.alloc(), 300, "300 1 3 0 0 0 0")
+}
+
+/// The call that fails, of three turns in which a question goes to each upstream, the counts of
+/// their report, and the record of the port.
+const FAILURES: &str = "\
+1 => 3 1 2 0 1 0 0 : fault received 6001 question sent 5301 query nothing sent 5302 query
+2 => 3 1 2 1 0 0 0 : received 6001 question lost 5301 query nothing sent 5302 query nothing sent 6001 failure
+3 => 3 1 3 0 1 0 0 : received 6001 question sent 5301 query fault sent 5302 query nothing sent 6001 failure
+4 => 3 1 2 1 0 0 0 : received 6001 question sent 5301 query nothing lost 5302 query nothing sent 6001 failure
+5 => 3 1 3 0 1 0 0 : received 6001 question sent 5301 query nothing sent 5302 query fault sent 6001 failure
+6 => 3 1 2 1 0 0 0 : received 6001 question sent 5301 query nothing sent 5302 query nothing lost 6001 failure
+7 => 3 1 3 0 0 0 0 : received 6001 question sent 5301 query nothing sent 5302 query nothing sent 6001 failure
+";
+
+/// Compares the report of three turns where a call fails, and the record.
+fn check_failure(rt: &impl Abort, alloc: Global, row: &str) -> Result<(), Fail> {
+    let (fail_at, row) = row.split_once(" => ").ok_or("no counts")?;
+    let (counts, notes) = row.split_once(" : ").ok_or("no record")?;
+    let fail_at = u64::from(number(fail_at)?);
+    let mut port = port_with(alloc, 6001, "question", Some(fail_at))?;
+    let report = run(alloc, &mut port, 3)?;
+    assert_eq!(rt;
+        port.failures(),
+        report.lost.saturating_add(report.faults),
+        "{row}"
+    );
+    check_report(rt, alloc, report, counts)?;
+    check_notes(rt, alloc, &port, notes)
+}
+
+#[test]
+fn a_call_that_fails_is_lost_or_a_fault(rt: HostRuntime) -> Result<(), Fail> {
+    for row in FAILURES.lines() {
+        check_failure(&rt, rt.alloc(), row)?;
+    }
+    Ok(())
+}
+
+/// The longest frame is taken, and a longer one refused.
+fn check_longest(
+    rt: &impl Abort,
+    alloc: Global,
+    port: &mut MemoryPort,
+    site: &mut Site,
+) -> Result<(), Fail> {
+    let report = serve_turns(alloc, port, site, "100", 2, 0)?;
+    check_report(rt, alloc, report, "2 2 0 0 0 1 0")?;
+    assert_eq!(rt; site.cache().len(), 2);
+    Ok(())
+}
+
+#[test]
+fn the_longest_frame_is_taken_and_a_longer_one_refused(rt: HostRuntime) -> Result<(), Fail> {
+    let mut port = port_with(rt.alloc(), 5401, "longest-frame two-octets-more", None)?;
+    let mut site = new_site(rt.alloc(), &[addr(5401)])?;
+    check_longest(&rt, rt.alloc(), &mut port, &mut site)
+}
+
+/// Four turns of a site that holds the observation of a frame, with a sweep every 30 seconds.
+fn check_sweeps(
+    rt: &impl Abort,
+    alloc: Global,
+    port: &mut MemoryPort,
+    site: &mut Site,
+) -> Result<(), Fail> {
+    check_rows(rt, alloc, site, "100 frame frame-100 => taken 1")?;
+    let report = serve_turns(alloc, port, site, "100 129 130 159", 4, 30)?;
+    check_report(rt, alloc, report, "4 0 2 0 0 0 0")?;
+    check_notes(
+        rt,
+        alloc,
+        port,
+        "nothing nothing nothing sent 5401 frame-100 sent 5402 frame-100 nothing",
+    )
+}
+
+#[test]
+fn sweeps_go_to_each_peer_in_their_time(rt: HostRuntime) -> Result<(), Fail> {
+    let alloc = rt.alloc();
+    let mut port = MemoryPort::new(alloc, Vec::new(alloc), None);
+    let mut site = new_site(alloc, &[addr(5401), addr(5402)])?;
+    check_sweeps(&rt, alloc, &mut port, &mut site)
+}
+
+/// A site that learnt the reply answers at once.
+fn check_hits(
+    rt: &impl Abort,
+    alloc: Global,
+    port: &mut MemoryPort,
+    site: &mut Site,
+) -> Result<(), Fail> {
+    check_rows(rt, alloc, site, "100 learn reply => taken 1")?;
+    let report = serve_turns(alloc, port, site, "100 100", 2, 0)?;
+    check_report(rt, alloc, report, "2 2 2 0 0 0 0")?;
+    check_notes(
+        rt,
+        alloc,
+        port,
+        "received 6001 question sent 6001 relay received 6001 question-8 sent 6001 relay-8",
+    )
+}
+
+#[test]
+fn a_hit_is_sent(rt: HostRuntime) -> Result<(), Fail> {
+    let mut port = port_with(rt.alloc(), 6001, "question question-8", None)?;
+    let mut site = new_site(rt.alloc(), &[addr(5401)])?;
+    check_hits(&rt, rt.alloc(), &mut port, &mut site)
+}

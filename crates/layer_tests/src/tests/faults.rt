@@ -1,0 +1,312 @@
+//! Messages that are cut off, or say what is not so, and replies that are written in each way.
+
+use crate::tests::in_place::{check_in_place, written_twice};
+use crate::tests::rows::{Words, octets_of, push_octets};
+use crate::tests::tables::check_rows;
+use fleet_name::Name;
+use fleet_wire::{Message, Outline, ReadFault, plain_rdata, read_query, read_reply};
+use std::alloc::Global;
+use std::process::Abort;
+use std::test::Fail;
+
+/// www.example is an alias of a.example, which is one of b.example, which does not exist.
+const ALIASES: &str = "<aliases-reply>";
+
+/// Adds why there is no message.
+pub(crate) fn push_fault(told: &mut String, fault: ReadFault) -> Result<(), Fail> {
+    write!(told, "{fault:?}")?;
+    Ok(())
+}
+
+/// Adds whether a reply was cut off, its counts, and how many records its sections have.
+fn push_sections(told: &mut String, reply: &Message) -> Result<(), Fail> {
+    let header = reply.header();
+    told.push_str(if header.tc { "cut off " } else { "" })?;
+    let counts = header.counts;
+    let (answer, authority) = (reply.answer().len(), reply.authority().len());
+    write!(told, "{counts:?} {answer} {authority}")?;
+    Ok(())
+}
+
+/// Adds what a reply has, or why it is none.
+fn push_reply(alloc: Global, message: &[u8], told: &mut String) -> Result<(), Fail> {
+    match read_reply(alloc, message) {
+        Ok(reply) => push_sections(told, &reply),
+        Err(fault) => push_fault(told, fault),
+    }
+}
+
+/// Adds the type that is asked for, or why there is no question.
+fn push_query(alloc: Global, message: &[u8], told: &mut String) -> Result<(), Fail> {
+    match read_query(alloc, message) {
+        Ok((_, question)) => Ok(write!(told, "{}", question.rtype)?),
+        Err(fault) => push_fault(told, fault),
+    }
+}
+
+/// Adds what a message asks for, and what it has as a reply.
+pub(crate) fn push_both(alloc: Global, message: &[u8], told: &mut String) -> Result<(), Fail> {
+    check_in_place(alloc, message)?;
+    push_query(alloc, message, told)?;
+    told.push_str(" ")?;
+    push_reply(alloc, message, told)
+}
+
+/// The type that a message asks for.
+pub(crate) fn tell_query(
+    alloc: Global,
+    mut words: Words<'_>,
+    told: &mut String,
+) -> Result<(), Fail> {
+    let message = words.octets(alloc)?;
+    push_query(alloc, message.as_slice(), told)
+}
+
+/// Checks what a part of a message tells as a question and as a reply.
+fn check_prefix(rt: &impl Abort, alloc: Global, prefix: &[u8], wanted: &str) -> Result<(), Fail> {
+    let mut told = String::new(alloc);
+    push_both(alloc, prefix, &mut told)?;
+    assert_eq!(rt; told.as_str(), wanted);
+    Ok(())
+}
+
+/// What so many octets of `ALIASES` tell: the question, for type 1, ends with the 29th.
+fn wanted_of(count: usize) -> &'static str {
+    match count {
+        0..=11 => "TooShort TooShort",
+        12..=28 => "Truncated Truncated",
+        _ => "1 Truncated",
+    }
+}
+
+#[test]
+fn a_prefix_is_short_or_cut_off(rt: HostRuntime) -> Result<(), Fail> {
+    let message = octets_of(rt.alloc(), ALIASES)?;
+    assert_eq!(rt; message.len(), 99);
+    for count in 0..message.len() {
+        check_prefix(&rt, rt.alloc(), &message[..count], wanted_of(count))?;
+    }
+    check_prefix(&rt, rt.alloc(), &message, "1 [1, 2, 1, 0] 2 1")
+}
+
+/// So many octets of `ALIASES`, with others at a place.
+fn changed(alloc: Global, count: usize, at: usize, octets: &[u8]) -> Result<Vec<u8>, Fail> {
+    let mut message = octets_of(alloc, ALIASES)?;
+    message.truncate(count);
+    for (place, octet) in message.iter_mut().skip(at).zip(octets) {
+        *place = *octet;
+    }
+    Ok(message)
+}
+
+/// What the first octets of a message have as a reply, with others at a place of it.
+pub(crate) fn tell_changed(
+    alloc: Global,
+    mut words: Words<'_>,
+    told: &mut String,
+) -> Result<(), Fail> {
+    let count = words.word().parse()?;
+    let at = words.word().parse()?;
+    let octets = words.octets(alloc)?;
+    let message = changed(alloc, count, at, octets.as_slice())?;
+    push_reply(alloc, message.as_slice(), told)
+}
+
+/// How many octets of `ALIASES` there are, what stands at a place of it in place of its own octets,
+/// and the fault that it makes or what is read.
+#[test]
+fn what_is_not_so_is_refused(rt: HostRuntime) -> Result<(), Fail> {
+    let rows = "
+changed 99 0 - => [1, 2, 1, 0] 2 1
+# The first RDATA points to itself, and into a label.
+changed 99 43 c029 => BadPointer
+changed 99 43 c011 => BadLabel
+# Its length is one octet too small, and one too great; it is none; it passes the end.
+changed 99 39 0003 => BadRdata
+changed 99 39 0005 => BadRdata
+changed 99 39 0000 => BadRdata
+changed 99 39 ffff => Truncated
+# More answer records than there are, and more authority records.
+changed 99 6 0003 => Truncated
+changed 99 6 ffff => Truncated
+changed 99 8 0002 => Truncated
+# The owner of the second record is no label, points to itself, and passes the end.
+changed 99 45 80 => BadLabel
+changed 99 45 c02d => BadPointer
+changed 99 45 3f => Truncated
+# The SOA has one octet more than its RDATA says, and so has one of another class.
+changed 99 71 0019 => BadRdata
+changed 99 65 000300000e100019 => BadRdata
+# No question.
+changed 99 4 0000 => QuestionCount
+# Numbers of an SOA that pass the end are missing, though its RDATA ends within the message.
+changed 99 71 0010 => BadRdata
+changed 90 71 0010 => Truncated
+# With one answer record the second one is the authority section, and the SOA isn't read.
+changed 99 6 0001 => [1, 1, 1, 0] 1 1";
+    check_rows(&rt, rt.alloc(), rows)
+}
+
+#[test]
+fn of_a_reply_that_was_cut_off_no_section_is_read(rt: HostRuntime) -> Result<(), Fail> {
+    let rows = "
+changed 29 2 83 => cut off [1, 2, 1, 0] 0 0";
+    check_rows(&rt, rt.alloc(), rows)
+}
+
+/// What a message asks for and has, with zero octets behind it, so many octets in all.
+pub(crate) fn tell_padded(
+    alloc: Global,
+    mut words: Words<'_>,
+    told: &mut String,
+) -> Result<(), Fail> {
+    let count = words.word().parse()?;
+    let mut message = words.octets(alloc)?;
+    message.resize(count, 0)?;
+    push_both(alloc, message.as_slice(), told)
+}
+
+#[test]
+fn a_message_has_at_most_512_octets(rt: HostRuntime) -> Result<(), Fail> {
+    let rows = "
+padded 512 <aliases-reply> => 1 [1, 2, 1, 0] 2 1
+padded 513 <aliases-reply> => TooLong TooLong
+# That is told before the number of its questions.
+padded 513 000281830000 => TooLong TooLong
+padded 512 000281830000 => QuestionCount QuestionCount";
+    check_rows(&rt, rt.alloc(), rows)
+}
+
+/// Names of three labels of 63 octets, and then a length: with the zero octet a fourth label has
+/// 61 octets at most.
+#[test]
+fn a_long_name_is_told_before_its_end(rt: HostRuntime) -> Result<(), Fail> {
+    let rows = "
+# id 2 qr rd ra NXDOMAIN; name passes the end
+query 0002818300010002000100003f{61*63}3f{61*63}3f{61*63}3e => LongName
+# id 2 qr rd ra NXDOMAIN; name passes the end
+query 0002818300010002000100003f{61*63}3f{61*63}3f{61*63}3d => Truncated";
+    check_rows(&rt, rt.alloc(), rows)
+}
+
+/// Lists of octets, with a comma between them.
+fn list_of(alloc: Global, word: &str) -> Result<Vec<Vec<u8>>, Fail> {
+    let mut all = Vec::new(alloc);
+    for part in word.split_terminator(',') {
+        all.push(octets_of(alloc, part)?)?;
+    }
+    Ok(all)
+}
+
+/// Adds TXT records of the root to the answer section.
+fn add_answers<'a>(
+    outline: &mut Outline<'a>,
+    root: &'a Name,
+    texts: &'a [Vec<u8>],
+) -> Result<(), Fail> {
+    for rdata in texts {
+        outline.answer(root, 16, 300, rdata)?;
+    }
+    Ok(())
+}
+
+/// Adds TXT records of the root to the authority section.
+fn add_authorities<'a>(
+    outline: &mut Outline<'a>,
+    root: &'a Name,
+    texts: &'a [Vec<u8>],
+) -> Result<(), Fail> {
+    for rdata in texts {
+        outline.authority(root, 16, 300, rdata)?;
+    }
+    Ok(())
+}
+
+/// A reply with the identifier 7 and TXT records of the root.
+fn written<'a>(
+    alloc: Global,
+    root: &'a Name,
+    codes: [u8; 2],
+    answer: &'a [Vec<u8>],
+    authority: &'a [Vec<u8>],
+) -> Result<Vec<u8>, Fail> {
+    let [opcode, rcode] = codes;
+    let mut outline = Outline::new(alloc, 7, opcode % 16, false, rcode % 16, false, None);
+    add_answers(&mut outline, root, answer)?;
+    add_authorities(&mut outline, root, authority)?;
+    written_twice(alloc, &outline)
+}
+
+/// A reply without question, by its opcode, its RCODE, and the RDATAs of its two sections, TXT
+/// records of the root.
+pub(crate) fn tell_outline(
+    alloc: Global,
+    mut words: Words<'_>,
+    told: &mut String,
+) -> Result<(), Fail> {
+    let codes = [words.word().parse()?, words.word().parse()?];
+    let root = Name::root(alloc)?;
+    let answer = list_of(alloc, words.word())?;
+    let authority = list_of(alloc, words.word())?;
+    let octets = written(alloc, &root, codes, &answer, &authority)?;
+    push_octets(told, octets.as_slice())
+}
+
+/// Opcode 2 is not implemented (RFC 1035 4.1.1).
+#[test]
+fn writes_a_reply_without_question(rt: HostRuntime) -> Result<(), Fail> {
+    let rows = "
+# => id 7 qr ra opcode 2 NOTIMP, QDCOUNT 0
+outline 2 4 => 000790840000000000000000";
+    check_rows(&rt, rt.alloc(), rows)
+}
+
+/// The header, the root, ten octets and 489 fill a message; a record more has eleven octets.
+#[test]
+fn what_passes_512_octets_is_cut_off(rt: HostRuntime) -> Result<(), Fail> {
+    let rows = "
+# => id 7 qr ra NOERROR, QDCOUNT 0: . IN TXT; answer . 3909091328 CLASS11265 A \\# 0 ; 484 octets
+# =>   more
+outline 0 0 {00*489} => 00078080000000010000000000001000010000012c01e9{00*489}
+# => id 7 qr tc ra NOERROR, QDCOUNT 0
+outline 0 0 {00*489} -, => 000782800000000000000000";
+    check_rows(&rt, rt.alloc(), rows)
+}
+
+/// More lines than take no memory.
+#[test]
+fn lines_stand_in_their_order(rt: HostRuntime) -> Result<(), Fail> {
+    let rows = "
+# => id 7 qr ra NOERROR, QDCOUNT 0: . IN TXT; RDATA passes the end
+outline 0 0 61,62,63,64,65,66 => 000780800000000600000000\
+    00001000010000012c000161\
+    00001000010000012c000162\
+    00001000010000012c000163\
+    00001000010000012c000164\
+    00001000010000012c000165\
+    00001000010000012c000166";
+    check_rows(&rt, rt.alloc(), rows)
+}
+
+/// Whether RDATA of a type is plain.
+pub(crate) fn tell_plain(
+    alloc: Global,
+    mut words: Words<'_>,
+    told: &mut String,
+) -> Result<(), Fail> {
+    let rtype = words.word().parse()?;
+    let rdata = words.octets(alloc)?;
+    write!(told, "{}", plain_rdata(rtype, rdata.as_slice()))?;
+    Ok(())
+}
+
+/// A number that is cut off, a name that is, and one with a label that is none.
+#[test]
+fn rdata_that_is_not_plain(rt: HostRuntime) -> Result<(), Fail> {
+    let rows = "
+plain 15 00 => false
+plain 15 000a04'mai' => false
+plain 2 40 => false
+plain 2 00 => true";
+    check_rows(&rt, rt.alloc(), rows)
+}

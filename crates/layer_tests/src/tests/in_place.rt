@@ -1,0 +1,92 @@
+//! Questions that are read in place, and replies that are written into a buffer.
+
+use crate::tests::rows::{Words, push_octets};
+use crate::tests::tables::check_rows;
+use fleet_wire::{Outline, read_plain_query, read_query, write_reply, write_reply_into};
+use std::alloc::Global;
+use std::process::Abort;
+use std::test::Fail;
+
+/// Whether a question that is read in place is the one that is read otherwise: the message has one,
+/// whose name stands in full and in lower case behind the header.
+pub(crate) fn check_in_place(alloc: Global, message: &[u8]) -> Result<(), Fail> {
+    match (read_plain_query(message), read_query(alloc, message)) {
+        (None, Err(_)) => Ok(()),
+        (Some((header, plain)), Ok((other, question))) => {
+            let lent = question.lend();
+            let is_same = header == other
+                && plain.name() == question.spelled.as_slice()
+                && plain.name() == lent.name()
+                && (plain.rtype(), plain.class()) == (lent.rtype(), lent.class());
+            if is_same {
+                Ok(())
+            } else {
+                Err("another question".into())
+            }
+        }
+        (None, Ok((_, question))) => {
+            let name = question.name.octets();
+            let is_plain = message[12..].starts_with(name);
+            if is_plain {
+                Err("a plain question was not read".into())
+            } else {
+                Ok(())
+            }
+        }
+        (Some(_), Err(_)) => Err("what is no question was read".into()),
+    }
+}
+
+/// A reply, written for itself and into a buffer that holds other octets.
+pub(crate) fn written_twice(alloc: Global, outline: &Outline) -> Result<Vec<u8>, Fail> {
+    let octets = write_reply(alloc, outline)?;
+    let mut buffer = vec![in alloc; 1, 2, 3]?;
+    write_reply_into(&mut buffer, outline)?;
+    if buffer == octets {
+        Ok(octets)
+    } else {
+        Err("two replies".into())
+    }
+}
+
+/// The identifier, the type, the class and the name of a question that is read in place, if it is.
+pub(crate) fn tell_in_place(
+    alloc: Global,
+    mut words: Words<'_>,
+    told: &mut String,
+) -> Result<(), Fail> {
+    let message = words.octets(alloc)?;
+    let Some((header, question)) = read_plain_query(message.as_slice()) else {
+        return Ok(told.push_str("none")?);
+    };
+    write!(
+        told,
+        "{} {} {} ",
+        header.id,
+        question.rtype(),
+        question.class()
+    )?;
+    push_octets(told, question.name())
+}
+
+/// The last but one has a capital letter, and the last a pointer.
+#[test]
+fn plain_questions_are_read_in_place(rt: HostRuntime) -> Result<(), Fail> {
+    let rows = "\
+# id 9 rd ad: www. IN AAAA
+place 00090120000100000000000003'www'00001c0001 => 9 28 1 03'www'00
+# id 9 rd ad: . CH NS; 1 octets more
+place 0009012000010000000000000000020003ff => 9 2 3 00
+# id 9 rd ad; question passes the end
+place 00090120000100000000000003'www'00001c00 => none
+# id 9 rd ad; question passes the end
+place 00090120000100000000000003'www'00001c => none
+# id 9 rd ad; name passes the end
+place 00090120000100000000000003'www' => none
+# id 9 rd ad, QDCOUNT 2: . IN A; 1 octets more
+place 000901200002000000000000000001000100 => none
+place <mixed-question> => none
+# id 9 rd ad: www. IN AAAA
+place 00090120000100000000000003'www'c00a001c0001 => none";
+    check_rows(&rt, rt.alloc(), rows)
+}

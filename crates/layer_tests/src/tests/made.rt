@@ -1,0 +1,69 @@
+//! Observations that are made, written and copied.
+
+use crate::tests::observations::{denial_in, flush_in, push_observation, record_in};
+use crate::tests::rows::Words;
+use crate::tests::tables::check_rows;
+use fleet_observe::Observation;
+use std::alloc::Global;
+use std::test::Fail;
+
+/// Adds what a copy of an observation says, and whether it is equal.
+fn push_copy(alloc: Global, told: &mut String, made: &Observation) -> Result<(), Fail> {
+    let copy = made.try_clone()?;
+    push_observation(alloc, told, &copy)?;
+    Ok(told.push_str(if copy == *made { "equal" } else { "another" })?)
+}
+
+/// A copy of an observation of one record: its name, type, rank, stamp, life and RDATA.
+pub(crate) fn tell_records(
+    alloc: Global,
+    mut words: Words<'_>,
+    told: &mut String,
+) -> Result<(), Fail> {
+    push_copy(alloc, told, &record_in(alloc, alloc, &mut words)?)
+}
+
+/// A copy of a flush: its name and stamp.
+pub(crate) fn tell_flush(
+    alloc: Global,
+    mut words: Words<'_>,
+    told: &mut String,
+) -> Result<(), Fail> {
+    push_copy(alloc, told, &flush_in(alloc, &mut words)?)
+}
+
+/// A copy of a denial: its name, type or 0, rank, stamp, life, and the owner, TTL and RDATA of its
+/// SOA.
+pub(crate) fn tell_denial(
+    alloc: Global,
+    mut words: Words<'_>,
+    told: &mut String,
+) -> Result<(), Fail> {
+    push_copy(alloc, told, &denial_in(alloc, alloc, &mut words)?)
+}
+
+#[test]
+fn writes_and_copies_an_address(rt: HostRuntime) -> Result<(), Fail> {
+    let rows = "
+records example.com 1 3 100 300 c0000201 => \
+    Positive example.com. 1 3 100 300 00010004c0000201;equal";
+    check_rows(&rt, rt.alloc(), rows)
+}
+
+#[test]
+fn writes_and_copies_a_denial(rt: HostRuntime) -> Result<(), Fail> {
+    let rows = "
+denial b.example 0 1 100 300 example 3600 02'ns'07'example'0000\
+    0000000100000e1000000258000151800000012c => \
+    NameError b.example. 0 1 100 300 07'example'00002102'ns'07'example'0000\
+    0000000100000e1000000258000151800000012c;equal";
+    check_rows(&rt, rt.alloc(), rows)
+}
+
+#[test]
+fn makes_and_copies_a_flush(rt: HostRuntime) -> Result<(), Fail> {
+    let rows = "
+flush com 120 => Flush com. 0 3 120 86400 -;equal
+flush . 0 => Flush . 0 3 0 86400 -;equal";
+    check_rows(&rt, rt.alloc(), rows)
+}

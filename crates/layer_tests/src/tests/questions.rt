@@ -1,0 +1,337 @@
+//! Open questions: rows of calls with their answers.
+//!
+//! A question is spelled by its name and its class, and is for type 1 (A). One who asks is at
+//! 127.0.0.1, and is spelled by a port and an identifier.
+
+use crate::tests::observations::{moment_of, push_name, question_of};
+use crate::tests::rows::{Row, Words, check_told, is_row, read_row};
+use fleet_pending::{Addr, Asked, Due, Entry, Pending, PendingFault, Waiter, Waiters};
+use fleet_wire::Question;
+use std::alloc::Global;
+use std::process::Abort;
+use std::test::Fail;
+
+/// Reads a question.
+fn question_in(alloc: Global, words: &mut Words<'_>) -> Result<Question, Fail> {
+    let name = words.word();
+    let class = words.word().parse()?;
+    question_of(alloc, name, 1, class)
+}
+
+/// Adds how a question is asked, or why not.
+fn push_asked(told: &mut String, asked: Result<Asked, PendingFault>) -> Result<(), Fail> {
+    match asked {
+        Ok(Asked::Send { upstream, id }) => Ok(write!(told, "send {upstream} {id}")?),
+        Ok(Asked::Joined) => Ok(told.push_str("joined")?),
+        Ok(Asked::Again) => Ok(told.push_str("again")?),
+        Err(fault) => Ok(write!(told, "{fault:?}")?),
+    }
+}
+
+/// How a question is asked: it, the port and the identifier of its asker, the moment, and a word.
+fn ask(
+    alloc: Global,
+    table: &mut Pending,
+    mut words: Words<'_>,
+) -> Result<Result<Asked, PendingFault>, Fail> {
+    let question = question_in(alloc, &mut words)?;
+    let port = words.word().parse()?;
+    let id = words.word().parse()?;
+    let moment = moment_of(words.word())?;
+    let word = words.word().parse()?;
+    let from = Addr {
+        host: 0x7f00_0001,
+        port,
+    };
+    match table.ask(Waiter { from, id, question }, moment, word) {
+        Ok(asked) => Ok(Ok(asked)),
+        Err(unasked) => Ok(Err(unasked.fault)),
+    }
+}
+
+/// The identifier of the query that asking would send: the question, and a word.
+fn tell_query_id(
+    alloc: Global,
+    table: &Pending,
+    mut words: Words<'_>,
+    told: &mut String,
+) -> Result<(), Fail> {
+    let question = question_in(alloc, &mut words)?;
+    let word = words.word().parse()?;
+    match table.query_id(&question, word) {
+        Some(id) => Ok(write!(told, "{id}")?),
+        None => Ok(told.push_str("none")?),
+    }
+}
+
+/// Whether an entry waits for this reply: its upstream, identifier and question.
+fn tell_found(
+    alloc: Global,
+    table: &Pending,
+    mut words: Words<'_>,
+    told: &mut String,
+) -> Result<(), Fail> {
+    let upstream = words.word().parse()?;
+    let id = words.word().parse()?;
+    let question = question_in(alloc, &mut words)?;
+    let is_found = table.find(upstream, id, &question).is_some();
+    Ok(write!(told, "{is_found}")?)
+}
+
+/// Adds the port and the identifier of each who waits.
+fn push_waiters(told: &mut String, waiters: &Waiters) -> Result<(), Fail> {
+    for waiter in waiters.as_slice() {
+        let (port, id) = (waiter.from.port, waiter.id);
+        write!(told, "{port}/{id};")?;
+    }
+    Ok(())
+}
+
+/// Who waited for the reply with an identifier.
+fn settle(table: &mut Pending, mut words: Words<'_>, told: &mut String) -> Result<(), Fail> {
+    match table.settle(words.word().parse()?) {
+        Some(entry) => push_waiters(told, &entry.waiters),
+        None => Ok(told.push_str("none")?),
+    }
+}
+
+/// Adds a retry.
+fn push_retry(
+    alloc: Global,
+    told: &mut String,
+    upstream: u8,
+    id: u16,
+    entry: &Entry,
+) -> Result<(), Fail> {
+    write!(told, "retry {upstream} {id} ")?;
+    push_name(alloc, told, &entry.name)
+}
+
+/// What is due first at a moment.
+fn tell_due(
+    alloc: Global,
+    table: &Pending,
+    mut words: Words<'_>,
+    told: &mut String,
+) -> Result<(), Fail> {
+    match table.due(moment_of(words.word())?) {
+        Some(
+            Due::Retry {
+                upstream,
+                id,
+                entry,
+            },
+        ) => push_retry(alloc, told, upstream, id, entry),
+        Some(Due::Failed { id, .. }) => Ok(write!(told, "failed {id}")?),
+        None => Ok(told.push_str("none")?),
+    }
+}
+
+/// Whether an entry goes on to its next upstream.
+fn advance(table: &mut Pending, mut words: Words<'_>, told: &mut String) -> Result<(), Fail> {
+    let id = words.word().parse()?;
+    let moment = moment_of(words.word())?;
+    let is_next = table.advance(id, moment);
+    Ok(write!(told, "{is_next}")?)
+}
+
+/// Whether there is an entry with an identifier.
+fn tell_entry(table: &Pending, mut words: Words<'_>, told: &mut String) -> Result<(), Fail> {
+    let is_there = table.entry(words.word().parse()?).is_some();
+    Ok(write!(told, "{is_there}")?)
+}
+
+/// Adds what a call tells.
+fn tell(
+    alloc: Global,
+    table: &mut Pending,
+    call: &str,
+    words: Words<'_>,
+    told: &mut String,
+) -> Result<(), Fail> {
+    match call {
+        "ask" => push_asked(told, ask(alloc, table, words)?),
+        "query_id" => tell_query_id(alloc, table, words, told),
+        "find" => tell_found(alloc, table, words, told),
+        "settle" => settle(table, words, told),
+        "due" => tell_due(alloc, table, words, told),
+        "advance" => advance(table, words, told),
+        "entry" => tell_entry(table, words, told),
+        _ => Err("no such call".into()),
+    }
+}
+
+/// Checks one call.
+fn check_call(rt: &impl Abort, alloc: Global, table: &mut Pending, row: &str) -> Result<(), Fail> {
+    let Row {
+        call,
+        words,
+        wanted,
+    } = read_row(row)?;
+    let mut told = String::new(alloc);
+    tell(alloc, table, call, words, &mut told)?;
+    check_told(rt, alloc, row, wanted, told.as_str())
+}
+
+/// Checks calls of a table.
+fn check_calls(
+    rt: &impl Abort,
+    alloc: Global,
+    table: &mut Pending,
+    rows: &str,
+) -> Result<(), Fail> {
+    for row in rows.lines() {
+        if is_row(row) {
+            check_call(rt, alloc, table, row)?;
+        }
+    }
+    Ok(())
+}
+
+#[test]
+fn each_waiter_is_answered_once(rt: HostRuntime) -> Result<(), Fail> {
+    let rows = "
+ask 0000 1 6001 7 100 4660 => send 0 4660
+ask 0000 1 6002 8 100 9 => joined
+ask 0000 1 6001 7 100 4660 => again
+ask 0000 1 6001 9 100 4660 => joined
+find 1 4660 0000 1 => false
+find 0 4661 0000 1 => false
+find 0 4660 0001 1 => false
+find 0 4660 0000 1 => true
+settle 4660 => 6001/7;6002/8;6001/9;
+find 0 4660 0000 1 => false
+settle 4660 => none";
+    let mut table = Pending::new(rt.alloc(), 2);
+    check_calls(&rt, rt.alloc(), &mut table, rows)
+}
+
+#[test]
+fn the_identifier_of_a_query_is_known_before_it_is_asked(rt: HostRuntime) -> Result<(), Fail> {
+    let rows = "
+query_id 0000 1 4660 => 4660
+ask 0000 1 6001 7 100 4660 => send 0 4660
+query_id 0000 1 4660 => none
+query_id 0000 3 9 => none
+ask 0000 1 6002 8 100 9 => joined
+query_id 0001 1 4660 => 4661
+query_id 0001 1 9 => 9
+ask 0001 1 6001 7 100 4660 => send 0 4661
+query_id 0002 1 4660 => 4662
+settle 4660 => 6001/7;6002/8;
+query_id 0000 1 4660 => 4660";
+    let mut table = Pending::new(rt.alloc(), 2);
+    check_calls(&rt, rt.alloc(), &mut table, rows)
+}
+
+/// Asks so many questions, with the greatest word: the identifiers go on behind it from zero.
+fn check_questions(
+    rt: &impl Abort,
+    alloc: Global,
+    table: &mut Pending,
+    count: u16,
+) -> Result<(), Fail> {
+    for number in 0..count {
+        let id = number.wrapping_sub(1);
+        let row = format!(in alloc; "ask {number:04} 1 6001 7 100 65535 => send 0 {id}")?;
+        check_call(rt, alloc, table, row.as_str())?;
+    }
+    Ok(())
+}
+
+#[test]
+fn at_most_256_are_open(rt: HostRuntime) -> Result<(), Fail> {
+    let rows = "
+query_id 0256 1 65535 => none
+ask 0256 1 6001 7 100 65535 => Full
+ask 0255 1 6002 7 100 65535 => joined
+due 101 => none
+due 102 => retry 1 0 0001.
+advance 0 102 => true
+advance 0 102 => false
+entry 0 => true
+due 103 => retry 1 1 0002.";
+    let mut table = Pending::new(rt.alloc(), 2);
+    check_questions(&rt, rt.alloc(), &mut table, 256)?;
+    check_calls(&rt, rt.alloc(), &mut table, rows)
+}
+
+/// Joins a question from so many ports behind 6001.
+fn check_joins(
+    rt: &impl Abort,
+    alloc: Global,
+    table: &mut Pending,
+    ports: u16,
+) -> Result<(), Fail> {
+    for port in 0..ports {
+        let port = port.wrapping_add(6002);
+        let row = format!(in alloc; "ask 0000 1 {port} 7 100 4660 => joined")?;
+        check_call(rt, alloc, table, row.as_str())?;
+    }
+    Ok(())
+}
+
+#[test]
+fn at_most_32_wait_for_one_question(rt: HostRuntime) -> Result<(), Fail> {
+    let first = "ask 0000 1 6001 7 100 4660 => send 0 4660";
+    let rows = "
+ask 0000 1 6033 7 100 4660 => WaitersFull
+ask 0000 1 6001 7 100 4660 => again
+due 102 => failed 4660";
+    let mut table = Pending::new(rt.alloc(), 1);
+    check_calls(&rt, rt.alloc(), &mut table, first)?;
+    check_joins(&rt, rt.alloc(), &mut table, 31)?;
+    check_calls(&rt, rt.alloc(), &mut table, rows)
+}
+
+#[test]
+fn a_question_of_another_class_waits(rt: HostRuntime) -> Result<(), Fail> {
+    let rows = "
+ask 0000 3 6001 7 100 1 => send 0 1
+ask 0000 1 6002 7 100 1 => joined
+find 0 1 0000 1 => true
+find 0 1 0000 3 => false";
+    let mut table = Pending::new(rt.alloc(), 1);
+    check_calls(&rt, rt.alloc(), &mut table, rows)
+}
+
+#[test]
+fn a_cleared_table_is_as_new(rt: HostRuntime) -> Result<(), Fail> {
+    let rows = "
+ask 0000 1 6001 7 100 1 => send 0 1
+ask 0001 1 6001 7 100 1 => send 0 2
+ask 0002 1 6001 7 100 1 => send 0 3";
+    let mut table = Pending::new(rt.alloc(), 2);
+    check_calls(&rt, rt.alloc(), &mut table, rows)?;
+    table.clear();
+    let rows = "
+entry 1 => false
+due 102 => none
+ask 0002 1 6001 7 100 1 => send 0 1
+due 102 => retry 1 1 0002.";
+    check_calls(&rt, rt.alloc(), &mut table, rows)
+}
+
+/// Those who wait for a question, by their identifiers.
+fn waiters_of(alloc: Global, ids: &[u16]) -> Result<Waiters, Fail> {
+    let mut items = Vec::new(alloc);
+    for id in ids {
+        let from = Addr { host: 1, port: 53 };
+        let question = question_of(alloc, "0000", 1, 1)?;
+        items.push(Waiter {
+            from,
+            id: *id,
+            question,
+        })?;
+    }
+    Ok(Waiters::new(items))
+}
+
+#[test]
+fn waiters_stand_in_order(rt: HostRuntime) -> Result<(), Fail> {
+    let waiters = waiters_of(rt.alloc(), &[9, 7, 8])?;
+    let mut told = String::new(rt.alloc());
+    push_waiters(&mut told, &waiters)?;
+    assert_eq!(rt; told.as_str(), "53/9;53/7;53/8;");
+    Ok(())
+}
