@@ -45,8 +45,18 @@ pub use udp_port::UdpPort;
 /// The status with which words end that the program does not take.
 const BAD_WORDS: u8 = 2;
 
-/// The words that the program takes.
-fn program<'a>(alloc: Global) -> Result<Command<'a>, AllocError> {
+/// The version of the program.
+const VERSION: &str = "1.0.0";
+
+/// What `--version` prints after the program's name: its version, and those of frames.
+fn version_text(alloc: Global) -> Result<String, AllocError> {
+    let newest = fleet_gossip::VERSION;
+    let oldest = fleet_gossip::OLDEST_VERSION;
+    format!(in alloc; "{VERSION} (frames: writes {newest}, reads {oldest} and {newest})")
+}
+
+/// The words that the program takes, with what `--version` prints.
+fn program<'a>(alloc: Global, version: &'a str) -> Result<Command<'a>, AllocError> {
     let script = Command::new(alloc, "script")
         .about("Runs a script of a fleet: events from standard input, one a line")
         .after_help(help::SCRIPT);
@@ -56,6 +66,7 @@ fn program<'a>(alloc: Global) -> Result<Command<'a>, AllocError> {
     let serve = serve::options(alloc, serve)?;
     let program = Command::new(alloc, "dnsfleet")
         .about("A fleet of forwarding DNS caches that gossip")
+        .version(version)
         .after_help(help::PROGRAM)
         .subcommand_required(true)
         .subcommand(script)?
@@ -64,7 +75,7 @@ fn program<'a>(alloc: Global) -> Result<Command<'a>, AllocError> {
 }
 
 /// Tells a usage fault on standard error, with status 2, where it may be lost; or shows a help page
-/// on standard output, with status 0.
+/// or the version on standard output, with status 0.
 fn explain<R: Print + Eprint>(rt: &R, error: &Error) -> io::Result<ExitCode>
     ensures fault { ¬ IsPage (kind_of error.now) → (kind_of error.now ≢ Mistake.OutOfMemory)
         → IsOkAnd result (λ code. exit_status code ≡ BAD_WORDS) }
@@ -109,7 +120,8 @@ fn run<R: Input + Files + Clock + Net + AllocGlobal, O: Print + Eprint>(
     out: &O,
     words: &[String],
 ) -> io::Result<ExitCode> {
-    match program(rt.alloc())?.try_get_matches_from(words) {
+    let version = version_text(rt.alloc())?;
+    match program(rt.alloc(), version.as_str())?.try_get_matches_from(words) {
         Ok(matches) => match matches.subcommand() {
             Some(("serve", matches)) => run_server(rt, out, Words::of(matches)),
             _ => Ok(run_input(rt, out)),

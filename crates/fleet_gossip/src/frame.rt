@@ -23,10 +23,10 @@ use std::alloc::{AllocError, Allocator};
 pub(crate) const MAGIC: u16 = 0x4447;
 
 /// The version of the frames that are written, and the newest one that is read.
-pub(crate) const VERSION: u8 = 2;
+pub const VERSION: u8 = 2;
 
 /// The oldest version that is read.
-pub(crate) const OLDEST_VERSION: u8 = 1;
+pub const OLDEST_VERSION: u8 = 1;
 
 /// The version from which on frames tell flushes.
 pub(crate) const FLUSH_VERSION: u8 = 2;

@@ -21,6 +21,6 @@ mod reader;
 mod writer;
 
 pub use fault::FrameFault;
-pub use frame::{decode, encode};
+pub use frame::{OLDEST_VERSION, VERSION, decode, encode};
 pub use laws::{entry_fits, list_or_fault, one_fault, one_list, one_packing, one_spelling};
 pub use packer::{pack, sweep};

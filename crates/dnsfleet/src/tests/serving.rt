@@ -82,7 +82,7 @@ fn check_words(
     for word in words.split(' ') {
         list.push(word)?;
     }
-    let matches = program(alloc)?.try_get_matches_from(list.as_slice())?;
+    let matches = program(alloc, "")?.try_get_matches_from(list.as_slice())?;
     match matches.subcommand() {
         Some(("serve", matches)) => {
             let words = Words::of(matches);
@@ -121,7 +121,26 @@ fn helps(rt: HostRuntime) -> Result<(), Fail> {
     check_help(&rt, &rt, "dnsfleet script --help", "  learn 0 100 0001")?;
     let settings = "  listen = \"127.0.0.1:5400\"";
     check_help(&rt, &rt, "dnsfleet serve --help", settings)?;
-    check_help(&rt, &rt, "dnsfleet help serve", settings)
+    check_help(&rt, &rt, "dnsfleet help serve", settings)?;
+    check_help(
+        &rt,
+        &rt,
+        "dnsfleet --help",
+        "  -V, --version  Print version\n",
+    )
+}
+
+#[test]
+fn tells_its_version(rt: HostRuntime) -> Result<(), Fail> {
+    let version = "dnsfleet 1.0.0 (frames: writes 2, reads 1 and 2)\n";
+    check_end(&rt, run_words(&rt, "dnsfleet --version")?, 0, version, "");
+    check_end(&rt, run_words(&rt, "dnsfleet -V")?, 0, version, "");
+    let failing = Told::failing_after(rt.alloc(), 0);
+    let ended = run_told(&rt, failing, "dnsfleet --version")?;
+    check_run(&rt, ended, 1, "dnsfleet: write\n");
+    // The commands have no version of their own.
+    check_not_taken(&rt, &rt, "dnsfleet script --version")?;
+    check_not_taken(&rt, &rt, "dnsfleet serve --version")
 }
 
 /// Runs the program with a key and a configuration that is not readable.
