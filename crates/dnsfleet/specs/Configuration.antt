@@ -1,6 +1,8 @@
 -- What a configuration says, key by key, or its first fault.
 use Rattle.std.specs.Prelude.{◌≡◌, ◌≢◌, ℕ, ◌<◌, ◌≤◌, ◌⊎◌, ⊤, List, [], ◌∷◌, length, codes, IsSome, IsUtf8, Option, Some, None, Result, Ok, Err, ℤ, pos, Vec}
 use Rattle.std.specs.declared.alloc.Global.{Global}
+use Rattle.fleet_name.specs.Types.{OctetList}
+use Rattle.fleet_wire.specs.Types.{Seconds}
 use Rattle.toml.specs.Data.{Data, Items, no_items, item, Members, no_members, member, get_member, as_str, as_array, as_integer}
 use Rattle.toml.specs.Parse.{parse_document}
 use Rattle.fleet_pending.specs.declared.waiter.Addr.{Addr}
@@ -24,7 +26,7 @@ vec_read (Ok addrs) = Ok addrs.items
 vec_read (Err fault) = Err fault
 
 -- a key that a configuration may have
-abbrev pub IsKey : List ℕ → Type 0
+abbrev pub IsKey : OctetList → Type 0
 IsKey key = (key ≡ codes "listen")
     ⊎ ((key ≡ codes "upstreams") ⊎ ((key ≡ codes "peers") ⊎ (key ≡ codes "sweep")))
 
@@ -34,7 +36,7 @@ HasKeys no_members = ⊤
 HasKeys (member key value rest) = IsKey key × HasKeys rest
 
 -- an address is a text that spells it
-abbrev pub ReadsText : Option (List ℕ) → Reading Addr → Type 0
+abbrev pub ReadsText : Option OctetList → Reading Addr → Type 0
 ReadsText None (Ok addr) = ⊥
 ReadsText None (Err fault) = fault ≡ WrongKind
 ReadsText (Some text) (Ok addr) = SpellsAddress text addr
@@ -93,7 +95,7 @@ abbrev pub ReadsNumber : Option ℤ → Reading ℕ → Type 0
 ReadsNumber None reading = reading ≡ Err WrongKind
 ReadsNumber (Some number) (Ok sweep) = (number ≡ pos sweep) × (sweep ≤ LONGEST_SWEEP)
 ReadsNumber (Some number) (Err fault) =
-    (fault ≡ BadSweep) × ((sweep : ℕ) → number ≡ pos sweep → LONGEST_SWEEP < sweep)
+    (fault ≡ BadSweep) × ((sweep : Seconds) → number ≡ pos sweep → LONGEST_SWEEP < sweep)
 
 -- without `sweep` it is the usual one
 abbrev pub ReadsSweep : Option Data → Reading ℕ → Type 0
@@ -121,7 +123,7 @@ abbrev pub sweep_in : Members → Option Data
 sweep_in table = get_member (codes "sweep") table
 
 -- what they say
-pub record TableSays (table : Members) (listen : Addr) (upstreams peers : List Addr) (sweep : ℕ)
+pub record TableSays (table : Members) (listen : Addr) (upstreams peers : List Addr) (sweep : Seconds)
     : Type 0 where
   pub keys : HasKeys table
   pub in_listen : ReadsListen (listen_in table) (Ok listen)
@@ -152,7 +154,7 @@ pub data FirstFault (table : Members) (fault : SettingsFault) : Type 0 where
       → FirstFault table fault
   of_sweep : PeersAreRead table → ReadsSweep (sweep_in table) (Err fault) → FirstFault table fault
   together : (listen : Addr) → (upstreams peers : List Addr)
-      → (sweep : ℕ) → TableSays table listen upstreams peers sweep
+      → (sweep : Seconds) → TableSays table listen upstreams peers sweep
       → (why : ConfigFault) → ConfigFails upstreams peers why → fault ≡ fault_of why
       → FirstFault table fault
 
@@ -162,13 +164,13 @@ ReadsTable table (Ok s) = TableSays table s.listen s.config.upstreams s.config.p
 ReadsTable table (Err fault) = FirstFault table fault
 
 -- octets are a table: UTF-8 in the grammar of TOML
-pub record IsTable (octets : List ℕ) (table : Members) : Type 0 where
+pub record IsTable (octets : OctetList) (table : Members) : Type 0 where
   pub text : IsUtf8 octets
   pub document : parse_document octets ≡ Some table
 
 -- what octets are read as: their number is looked at first, and memory may run out while they are
 -- read
-pub data ReadsSettings (octets : List ℕ) (reading : Reading Settings) : Type 0 where
+pub data ReadsSettings (octets : OctetList) (reading : Reading Settings) : Type 0 where
   too_long : LONGEST_CONFIGURATION < length octets → reading ≡ Err TooLong
       → ReadsSettings octets reading
   no_memory : length octets ≤ LONGEST_CONFIGURATION → reading ≡ Err OutOfMemory

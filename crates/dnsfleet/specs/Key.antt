@@ -1,8 +1,9 @@
 -- The key that a server is given.
-use Rattle.std.specs.Prelude.{◌≡◌, ℕ, List, Ok}
+use Rattle.std.specs.Prelude.{◌≡◌, Ok}
+use Rattle.fleet_name.specs.Types.{OctetList}
 use Rattle.hex.specs.Hex.{decode_sized}
 use Rattle.dnsfleet.specs.declared.serve.TheConstants.{KEY_LENGTH}
 
 -- KEY_LENGTH octets as hexadecimal digits of either case, two for each
-abbrev pub SpellsKey : List ℕ → List ℕ → Type 0
+abbrev pub SpellsKey : OctetList → OctetList → Type 0
 SpellsKey text key = decode_sized text KEY_LENGTH ≡ Ok key

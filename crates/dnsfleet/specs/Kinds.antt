@@ -1,9 +1,10 @@
 -- The word for a kind of observation.
-use Rattle.std.specs.Prelude.{ℕ, List, codes}
+use Rattle.std.specs.Prelude.{codes}
+use Rattle.fleet_name.specs.Types.{OctetList}
 use Rattle.fleet_observe.specs.declared.observation.kind.Kind.{Kind}
 use Rattle.fleet_observe.specs.declared.observation.kind.Kind.TheVariants.{Positive, NoData, NameError, Flush}
 
-abbrev pub kind_word : Kind → List ℕ
+abbrev pub kind_word : Kind → OctetList
 kind_word Positive = codes "positive"
 kind_word NoData = codes "nodata"
 kind_word NameError = codes "nxdomain"

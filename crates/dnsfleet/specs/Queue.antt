@@ -1,5 +1,6 @@
 -- Datagrams that wait in a port, each with the address that it came from or goes to.
 use Rattle.std.specs.Prelude.{◌≡◌, ◌⊎◌, ℕ, ◌≤◌, ◌<◌, min, Bool, true, false, List, [], ◌∷◌, ◌++◌, length, take, Option, Some, None, Result, Ok, Err}
+use Rattle.fleet_name.specs.Types.{OctetList}
 use Rattle.fleet_pending.specs.declared.waiter.Addr.{Addr}
 use Rattle.fleet_wire.specs.declared.bounds.TheConstants.{LONGEST_MESSAGE}
 use Rattle.fleet_site.specs.declared.port.PortFault.{PortFault}
@@ -7,7 +8,7 @@ use Rattle.dnsfleet.specs.declared.queue.TheConstants.{MOST_WAITING}
 use Rattle.dnsfleet.specs.declared.inbox.Inbox.{Inbox}
 
 abbrev pub Datagram : Type 0
-Datagram = Addr × List ℕ
+Datagram = Addr × OctetList
 
 -- a datagram comes behind the others; where it has no room, because as many wait as may, nothing changes
 abbrev pub Pushes : List Datagram → Datagram → Bool → List Datagram → Type 0
@@ -22,13 +23,13 @@ pub record Keeps {A : Type 0} (old : Inbox A) (d : Datagram) (fits : Bool) (new 
       → Pushes old.frames d fits new.frames × (new.messages ≡ old.messages)
 
 -- the datagram comes, cut to so many octets, at the front of the buffer
-abbrev pub Fills : ℕ → Datagram → Option (Addr × ℕ) → List ℕ → Type 0
+abbrev pub Fills : ℕ → Datagram → Option (Addr × ℕ) → OctetList → Type 0
 Fills asked d got buffer =
     (got ≡ Some (d.0, min (length d.1) asked))
     × (take (min (length d.1) asked) buffer ≡ take asked d.1)
 
 -- of what waits, messages and frames, the first message is handed on, and where there is none the first frame; it waits no more
-abbrev pub HandsOn : {A : Type 0} → ℕ → List Datagram → List Datagram → Option (Addr × ℕ) → List ℕ → Inbox A → Type 0
+abbrev pub HandsOn : {A : Type 0} → ℕ → List Datagram → List Datagram → Option (Addr × ℕ) → OctetList → Inbox A → Type 0
 HandsOn asked (d ∷ messages) frames got buffer new =
     Fills asked d got buffer × (new.messages ≡ messages) × (new.frames ≡ frames)
 HandsOn asked [] (d ∷ frames) got buffer new =
@@ -46,12 +47,12 @@ pub record TakesIn {A : Type 0} (old new : Inbox A) : Type 0 where
   pub frames : Extends old.frames new.frames
 
 -- a receive takes in what comes, behind what waits, and hands the next datagram on; where it fails, all of them wait
-abbrev pub HandsOnOrKeeps : {A : Type 0} → ℕ → List Datagram → List Datagram → Result (Option (Addr × ℕ)) PortFault → List ℕ
+abbrev pub HandsOnOrKeeps : {A : Type 0} → ℕ → List Datagram → List Datagram → Result (Option (Addr × ℕ)) PortFault → OctetList
     → Inbox A → Type 0
 HandsOnOrKeeps asked messages frames (Ok got) buffer new = HandsOn asked messages frames got buffer new
 HandsOnOrKeeps asked messages frames (Err e) buffer new = (new.messages ≡ messages) × (new.frames ≡ frames)
 
-pub record Receives {A : Type 0} (asked : ℕ) (old : Inbox A) (r : Result (Option (Addr × ℕ)) PortFault) (buffer : List ℕ)
+pub record Receives {A : Type 0} (asked : ℕ) (old : Inbox A) (r : Result (Option (Addr × ℕ)) PortFault) (buffer : OctetList)
     (new : Inbox A) : Type 0 where
   pub messages : List Datagram
   pub frames : List Datagram

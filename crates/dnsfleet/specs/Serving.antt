@@ -1,5 +1,6 @@
 -- What the program serves: a new site, with the words of a key.
-use Rattle.std.specs.Prelude.{ℕ, List, Option}
+use Rattle.std.specs.Prelude.{ℕ, Option}
+use Rattle.fleet_name.specs.Types.{OctetList}
 use Rattle.rand_core.specs.Steps.{stream_of, steps_u32}
 use Rattle.rand_core.specs.Stream.{Stream}
 use Rattle.rand_chacha.specs.ChaCha.{of_seed, next_word}
@@ -12,12 +13,12 @@ use Rattle.dnsfleet.specs.declared.serve.TheConstants.{DOUBLE_ROUNDS}
 use Rattle.dnsfleet.specs.declared.settings.Settings.{Settings}
 
 -- the key stream of ChaCha20
-abbrev pub key_stream : List ℕ → Stream
+abbrev pub key_stream : OctetList → Stream
 key_stream key = stream_of (steps_u32 (next_word DOUBLE_ROUNDS)) (of_seed key)
 
 -- so many turns were served, with the upstreams, the peers and the seconds between sweeps that the
 -- settings say, by a site that took nothing in before; over them it follows the model's steps
-pub record ServesNew (old new : PortState) (moments : Option (ℕ → ℕ)) (key : List ℕ) (turns : ℕ)
+pub record ServesNew (old new : PortState) (moments : Option (ℕ → ℕ)) (key : OctetList) (turns : ℕ)
     (settings : Settings) (report : Report) : Type 0 where
   pub site : SiteData
   pub after : SiteData

@@ -1,7 +1,8 @@
 //! The command `serve`: a site on loopback.
 
-ghost use Rattle.std.specs.Prelude.{◌≡◌, ◌⊎◌, List, ℕ, Ok, IfOk, IsErr, IsOk, IsOkAnd, MatchOption};
+ghost use Rattle.std.specs.Prelude.{◌≡◌, ◌⊎◌, Ok, IfOk, IsErr, IsOk, IsOkAnd, MatchOption};
 ghost use Rattle.std.specs.Process.{exit_status};
+ghost use Rattle.fleet_name.specs.Types.{OctetList};
 ghost use Rattle.dnsfleet.specs.Key.{SpellsKey};
 ghost use Rattle.dnsfleet.specs.Serving.{ServesNew};
 ghost use Rattle.dnsfleet.specs.declared.serve.TheConstants.{BAD_KEY};
@@ -92,7 +93,7 @@ pub enum ConfigurationFault {
 
 /// The key that 64 hexadecimal digits spell.
 fn key_of(text: &str) -> Option<[u8; KEY_LENGTH]>
-    ensures { MatchOption result ((key : List ℕ) → SpellsKey text.now key → ⊥)
+    ensures { MatchOption result ((key : OctetList) → SpellsKey text.now key → ⊥)
         (λ key. SpellsKey text.now key) }
 {
     let mut key = [0u8; KEY_LENGTH];
@@ -208,9 +209,9 @@ pub fn run_server<R: Files + time::Clock + Net + AllocGlobal, O: Print + Eprint>
     out: &O,
     words: Words<'_>,
 ) -> io::Result<ExitCode>
-    ensures bad_key { ((key : List ℕ) → SpellsKey words.entry.key.now key → ⊥)
+    ensures bad_key { ((key : OctetList) → SpellsKey words.entry.key.now key → ⊥)
         → IsOkAnd result (λ code. exit_status code ≡ BAD_KEY) }
-    ensures with_key { (key : List ℕ) → SpellsKey words.entry.key.now key
+    ensures with_key { (key : OctetList) → SpellsKey words.entry.key.now key
         → IfOk result (λ code. (code ≡ ExitCode.SUCCESS) ⊎ (code ≡ ExitCode.FAILURE)) }
 {
     match key_of(words.key) {

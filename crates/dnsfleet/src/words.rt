@@ -4,6 +4,7 @@ ghost use Rattle.std.specs.Prelude.{◌≡◌, ◌↔◌, ℕ, ◌≤◌, List, 
 ghost use Rattle.std.specs.Char.{is_ascii_digit};
 ghost use Rattle.std.specs.List.{AllPass};
 ghost use Rattle.std.specs.Option.{SomeIff};
+ghost use Rattle.fleet_name.specs.Types.{Labels, OctetList};
 ghost use Rattle.hex.specs.Hex.{is_hex_digit};
 ghost use Rattle.dnsfleet.specs.Words.{IsNumber, number_of, IsPort, SpellsAddress, SpellsOctets, SpellsName};
 ghost use Rattle.dnsfleet.specs.declared.words.TheConstants.{MOST_SITES, LARGEST_16_BITS};
@@ -143,7 +144,7 @@ impl<'a> Model for Hex<'a> {
 impl<'a> Hex<'a> {
     /// An even number of hexadecimal digits of either case, or `-` for no octets.
     pub fn new(word: &'a str) -> Option<Hex<'a>>
-        ensures { MatchOption result ((octets : List ℕ) → SpellsOctets word.entry.now octets → ⊥)
+        ensures { MatchOption result ((octets : OctetList) → SpellsOctets word.entry.now octets → ⊥)
             (λ octets. SpellsOctets word.entry.now octets) }
     {
         if word == "-" {
@@ -208,7 +209,7 @@ impl<'a> Model for NameWord<'a> {
 impl<'a> NameWord<'a> {
     /// The name that octets are in full, and nothing behind it.
     pub fn new(octets: Hex<'a>) -> Option<NameWord<'a>>
-        ensures { MatchOption result ((name : List (List ℕ)) → SpellsName octets.entry name → ⊥)
+        ensures { MatchOption result ((name : Labels) → SpellsName octets.entry name → ⊥)
             (λ name. SpellsName octets.entry name) }
     {
         if !octets.spells_name() {

@@ -1,9 +1,10 @@
 -- What a cache holds of a set of observations.
-use Rattle.std.specs.Prelude.{◌≡◌, ℕ, Bool, ◌≤◌, ◌⊎◌, List, slice_get, Some}
+use Rattle.std.specs.Prelude.{◌≡◌, ℕ, Bool, ◌≤◌, ◌⊎◌, slice_get, Some}
 use Rattle.std.specs.declared.cmp.Ordering.{Ordering}
 use Rattle.std.specs.Ordering.{ordering_then}
+use Rattle.fleet_wire.specs.Types.{Seconds}
 use Rattle.fleet_observe.specs.Members.{Has}
-use Rattle.fleet_observe.specs.Observation.{ObservationData, AreObservations, expires, key_of}
+use Rattle.fleet_observe.specs.Observation.{ObservationData, AreObservations, expires, key_of, Observations}
 use Rattle.fleet_observe.specs.Preference.{octets_cmp, preference}
 use Rattle.fleet_front.specs.Front.{IsCovered as IsCoveredBy, is_covered as is_covered_by}
 use Rattle.fleet_cache.specs.Front.{IsFront}
@@ -16,38 +17,38 @@ abbrev pub place : ObservationData → ObservationData → Ordering
 place x y = ordering_then (octets_cmp (key_of y) (key_of x)) (preference x y)
 
 -- the items are the undominated observations of s that are live at the floor, in order
-pub record IsCached (s : List ObservationData) (floor : ℕ) (items : List ObservationData) : Type 0
+pub record IsCached (s : Observations) (floor : Seconds) (items : Observations) : Type 0
   where
     pub lawful : AreObservations s
     pub front : IsFront place dominates (live_of s floor) items
 
 -- what a cache holds: its floor, and its items in order
 pub record CacheData : Type 0 where
-  pub floor : ℕ
-  pub items : List ObservationData
+  pub floor : Seconds
+  pub items : Observations
 
 -- o is one of the items, or one of them dominates it
-abbrev pub IsCovered : List ObservationData → ObservationData → Type 0
+abbrev pub IsCovered : Observations → ObservationData → Type 0
 IsCovered items o = IsCoveredBy dominates items o
 
 -- the same as a test
-abbrev pub is_covered : List ObservationData → ObservationData → Bool
+abbrev pub is_covered : Observations → ObservationData → Bool
 is_covered items o = is_covered_by preference dominates o items
 
 -- o is past for a cache: it has ended at the floor, or is void
-abbrev pub IsPast : ℕ → List ObservationData → ObservationData → Type 0
+abbrev pub IsPast : Seconds → Observations → ObservationData → Type 0
 IsPast floor items o = (expires o ≤ floor) ⊎ IsVoid items o
 
 -- a cache need not take o in: it is past, or is there already, or is dominated
-abbrev pub IsNeedless : ℕ → List ObservationData → ObservationData → Type 0
+abbrev pub IsNeedless : Seconds → Observations → ObservationData → Type 0
 IsNeedless floor items o = IsPast floor items o ⊎ IsCovered items o
 
 -- the observation at this place of a list is to be held
-abbrev pub IsNeededAt : ℕ → List ObservationData → List ObservationData → ℕ → Type 0
+abbrev pub IsNeededAt : Seconds → Observations → Observations → ℕ → Type 0
 IsNeededAt floor items list at =
     (o : ObservationData) × (slice_get list at ≡ Some o) × ¬ IsNeedless floor items o
 
 -- two lists have the same members
-pub record IsSameSet (s t : List ObservationData) : Type 0 where
+pub record IsSameSet (s t : Observations) : Type 0 where
   pub into : (x : ObservationData) → Has s x → Has t x
   pub back : (x : ObservationData) → Has t x → Has s x

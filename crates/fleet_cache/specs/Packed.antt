@@ -2,6 +2,7 @@
 -- of names compare as the octets do.
 use Rattle.std.specs.Prelude.{ℕ, zero, suc, ◌+◌, ◌*◌, ◌<◌, List, [], ◌∷◌, drop}
 use Rattle.std.specs.List.{AllByRecursion}
+use Rattle.fleet_name.specs.Types.{Labels}
 use Rattle.fleet_cache.specs.declared.words.TheConstants.{MOST_WORDS, WEIGHTS, WORD_OCTETS}
 use Rattle.fleet_name.specs.Name.{wire, IsName}
 use Rattle.fleet_observe.specs.Observation.{ObservationData}
@@ -28,6 +29,6 @@ abbrev pub words_of : ObservationData → List ℕ
 words_of o = octet_words (wire o.name)
 
 -- a name that words tell
-pub record IsPackable (name : List (List ℕ)) : Type 0 where
+pub record IsPackable (name : Labels) : Type 0 where
   pub bytes : AllByRecursion (λ x. x < 256) (wire name)
   pub named : IsName name

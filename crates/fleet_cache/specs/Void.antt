@@ -1,11 +1,11 @@
 -- What flushes withdraw.
-use Rattle.std.specs.Prelude.{◌≡◌, ◌≢◌, ◌≤◌, Bool, true, false, ◌&&◌, not, nat_le, List}
+use Rattle.std.specs.Prelude.{◌≡◌, ◌≢◌, ◌≤◌, Bool, true, false, ◌&&◌, not, nat_le}
 use Rattle.std.specs.List.{list_any}
 use Rattle.fleet_name.specs.Name.{IsUnder}
 use Rattle.fleet_observe.specs.declared.observation.kind.Kind.{Kind}
 use Rattle.fleet_observe.specs.declared.observation.kind.Kind.TheVariants.{NameError, NoData, Positive, Flush}
 use Rattle.fleet_observe.specs.Members.{Has}
-use Rattle.fleet_observe.specs.Observation.{ObservationData}
+use Rattle.fleet_observe.specs.Observation.{ObservationData, Observations}
 use Rattle.fleet_cache.specs.Relevant.{is_under}
 
 -- f is a flush of o's name or of one above it, and not stamped before o, which is none
@@ -16,7 +16,7 @@ pub record Voids (f o : ObservationData) : Type 0 where
   pub later : o.stamp ≤ f.stamp
 
 -- o is void in s: a flush of s withdraws it
-abbrev pub IsVoid : List ObservationData → ObservationData → Type 0
+abbrev pub IsVoid : Observations → ObservationData → Type 0
 IsVoid s o = (f : ObservationData) × Has s f × Voids f o
 
 -- whether a kind is that of flushes
@@ -32,5 +32,5 @@ voids f o =
     is_flush f.kind
     && (not (is_flush o.kind) && (is_under o.name f.name && nat_le o.stamp f.stamp))
 
-abbrev pub is_void : List ObservationData → ObservationData → Bool
+abbrev pub is_void : Observations → ObservationData → Bool
 is_void s o = list_any (λ f. voids f o) s

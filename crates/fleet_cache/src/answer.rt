@@ -1,10 +1,10 @@
 //! What a question is answered.
 
-ghost use Rattle.std.specs.Prelude.{◌≡◌, ℕ, List};
+ghost use Rattle.std.specs.Prelude.{◌≡◌};
+ghost use Rattle.fleet_name.specs.Types.{Labels};
 ghost use Rattle.fleet_name.specs.Name.{wire, IsName, IsWire};
 ghost use Rattle.fleet_wire.specs.declared.rtype.TheConstants.{CNAME};
 ghost use Rattle.fleet_observe.specs.declared.observation.kind.Kind.TheVariants.{Positive};
-ghost use Rattle.fleet_observe.specs.Observation.{ObservationData};
 ghost use Rattle.fleet_cache.specs.Live.{shown_ttl as ttl_at};
 ghost use Rattle.fleet_cache.specs.Held.{IsHeld};
 ghost use Rattle.fleet_cache.specs.Answer.{answer_of, part_at, add_links, by_kind, is_link as leads_on, target as alias_target};
@@ -114,7 +114,7 @@ pub(crate) fn follow<'a, A: Allocator>(
 ) -> Answer<'a, A>
     requires named { IsWire name.now }
     ensures filled { AllSome (chain_of result) }
-    ensures told { (n : List (List ℕ)) → name.now ≡ wire n
+    ensures told { (n : Labels) → name.now ≡ wire n
         → answer_data result ≡ answer_of held.now moment n rtype }
     ensures own { IsHeld held.now }
 {

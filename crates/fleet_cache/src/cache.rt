@@ -1,8 +1,9 @@
 //! What a site holds.
 
-ghost use Rattle.std.specs.Prelude.{◌≡◌, ℕ, ◌^◌, ◌<◌, ◌≤◌, max, true, false, List, [], ◌∷◌, ◌++◌, ◌↔◌, length, take, IsTrue, IfOk, IfErr, OnOk, OnErr};
+ghost use Rattle.std.specs.Prelude.{◌≡◌, ◌^◌, ◌<◌, ◌≤◌, max, true, false, [], ◌∷◌, ◌++◌, ◌↔◌, length, take, IsTrue, IfOk, IfErr, OnOk, OnErr};
+ghost use Rattle.fleet_name.specs.Types.{Labels};
 ghost use Rattle.fleet_name.specs.Name.{wire, IsWire};
-ghost use Rattle.fleet_observe.specs.Observation.{ObservationData, IsObservation};
+ghost use Rattle.fleet_observe.specs.Observation.{IsObservation, Observations};
 ghost use Rattle.fleet_cache.specs.Cached.{IsCached, IsPast, IsNeedless, IsNeededAt, IsSameSet};
 ghost use Rattle.fleet_cache.specs.Answer.{answer_of};
 ghost use Rattle.fleet_cache.specs.Shown.{AllSome};
@@ -82,7 +83,7 @@ impl<A: Allocator> Cache<A> {
     pub fn take(&mut self, observation: Observation<A>) -> Result<bool, AllocError>
     where
         A: Copy,
-        ensures taken { (s : List ObservationData) → IsCached s self.old.floor self.old.items
+        ensures taken { (s : Observations) → IsCached s self.old.floor self.old.items
             → OnOk result (IsCached (observation ∷ s) self.new.floor self.new.items) }
         ensures kept { IfOk result (λ kept.
             (kept ≡ false) ↔ IsNeedless self.old.floor self.old.items observation) }
@@ -107,9 +108,9 @@ impl<A: Allocator> Cache<A> {
     pub fn take_list(&mut self, observations: Vec<Observation<A>, A>) -> Result<(), Stopped>
     where
         A: Copy,
-        ensures taken { (s : List ObservationData) → IsCached s self.old.floor self.old.items
+        ensures taken { (s : Observations) → IsCached s self.old.floor self.old.items
             → OnOk result (IsCached (observations.items ++ s) self.new.floor self.new.items) }
-        ensures stopped { (s : List ObservationData) → IsCached s self.old.floor self.old.items
+        ensures stopped { (s : Observations) → IsCached s self.old.floor self.old.items
             → IfErr result (λ e.
             IsCached (take e.taken observations.items ++ s) self.new.floor self.new.items) }
         ensures within { IfErr result (λ e. e.taken < length observations.items) }
@@ -133,11 +134,11 @@ impl<A: Allocator> Cache<A> {
     pub fn merge(&mut self, other: &Cache<A>) -> Result<(), Stopped>
     where
         A: Copy,
-        ensures both { (s u : List ObservationData) → IsCached s self.old.floor self.old.items
+        ensures both { (s u : Observations) → IsCached s self.old.floor self.old.items
             → IsCached u other.now.floor other.now.items
             → OnOk result (IsCached (u ++ s) self.new.floor self.new.items) }
         ensures floor { OnOk result (self.new.floor ≡ max self.old.floor other.now.floor) }
-        ensures stopped { (s : List ObservationData) → IsCached s self.old.floor self.old.items
+        ensures stopped { (s : Observations) → IsCached s self.old.floor self.old.items
             → IfErr result (λ e.
             IsCached (take e.taken other.now.items ++ s) self.new.floor self.new.items) }
         ensures within { IfErr result (λ e. e.taken < length other.now.items) }
@@ -162,7 +163,7 @@ impl<A: Allocator> Cache<A> {
     /// purges: each one that raises the floor looks at 4096 fronts, or at the 256th part of them
     /// where that is more, in turn.
     pub fn purge(&mut self, moment: Moment)
-        ensures purged { (s : List ObservationData) → IsCached s self.old.floor self.old.items
+        ensures purged { (s : Observations) → IsCached s self.old.floor self.old.items
             → IsCached s self.new.floor self.new.items }
         ensures floor { self.new.floor ≡ max self.old.floor moment }
     {
@@ -195,7 +196,7 @@ impl<A: Allocator> Cache<A> {
     /// Whether floor and items are the other's.
     pub fn same(&self, other: &Cache<A>) -> bool
         ensures same { IsTrue result ↔ (self.now ≡ other.now) }
-        ensures alike { (s t : List ObservationData) → IsCached s self.now.floor self.now.items
+        ensures alike { (s t : Observations) → IsCached s self.now.floor self.now.items
             → IsCached t other.now.floor other.now.items → IsSameSet s t
             → self.now.floor ≡ other.now.floor → IsTrue result }
     {
@@ -236,7 +237,7 @@ impl<A: Allocator> Cache<A> {
     pub fn answer<B: Allocator>(&self, question: &Question<B>, moment: Moment) -> Answer<'_, A>
         ensures filled { AllSome (chain_of result) }
         ensures kinds { HasKinds (answer_data result) }
-        ensures told { (s : List ObservationData) → IsCached s self.now.floor self.now.items
+        ensures told { (s : Observations) → IsCached s self.now.floor self.now.items
             → answer_data result
             ≡ answer_of s (max self.now.floor moment) question.now.name question.now.rtype }
     {
@@ -247,7 +248,7 @@ impl<A: Allocator> Cache<A> {
     pub fn answer_lent(&self, question: &LentQuestion<'_>, moment: Moment) -> Answer<'_, A>
         ensures filled { AllSome (chain_of result) }
         ensures kinds { HasKinds (answer_data result) }
-        ensures told { (s : List ObservationData) → IsCached s self.now.floor self.now.items
+        ensures told { (s : Observations) → IsCached s self.now.floor self.now.items
             → answer_data result
             ≡ answer_of s (max self.now.floor moment) question.now.name question.now.rtype }
     {
@@ -259,8 +260,8 @@ impl<A: Allocator> Cache<A> {
         requires { IsWire name.now }
         ensures filled { AllSome (chain_of result) }
         ensures kinds { HasKinds (answer_data result) }
-        ensures told { (s : List ObservationData) → IsCached s self.now.floor self.now.items
-            → (n : List (List ℕ)) → name.now ≡ wire n
+        ensures told { (s : Observations) → IsCached s self.now.floor self.now.items
+            → (n : Labels) → name.now ≡ wire n
             → answer_data result ≡ answer_of s (max self.now.floor moment) n rtype }
     {
         let at = later_of(self.floor, moment);
@@ -271,7 +272,7 @@ impl<A: Allocator> Cache<A> {
     fn take_copy(&mut self, observation: &Observation<A>) -> Result<bool, AllocError>
     where
         A: Copy,
-        ensures taken { (s : List ObservationData) → IsCached s self.old.floor self.old.items
+        ensures taken { (s : Observations) → IsCached s self.old.floor self.old.items
             → OnOk result (IsCached (observation.now ∷ s) self.new.floor self.new.items) }
         ensures floor { self.new.floor ≡ self.old.floor }
         ensures memory { OnErr result (¬ IsNeedless self.old.floor self.old.items observation.now) }

@@ -1,6 +1,7 @@
 //! What a cache holds in memory.
 
-ghost use Rattle.std.specs.Prelude.{◌≡◌, ℕ, List, [], ◌↔◌, false, length, IsTrue, IfOk, OnErr, MatchOption};
+ghost use Rattle.std.specs.Prelude.{◌≡◌, List, [], ◌↔◌, false, length, IsTrue, IfOk, OnErr, MatchOption};
+ghost use Rattle.fleet_name.specs.Types.{Labels};
 ghost use Rattle.fleet_name.specs.Name.{wire, IsWire};
 ghost use Rattle.fleet_observe.specs.declared.observation.kind.Kind.{Kind};
 ghost use Rattle.fleet_observe.specs.declared.observation.kind.Kind.TheVariants.{NameError, Flush};
@@ -116,7 +117,7 @@ impl<A: Allocator> Held<A> {
     /// The items of a name, by its octets.
     pub(crate) fn at(&self, name: &[u8]) -> &[Item<A>]
         requires { IsWire name.now }
-        ensures of_name { (n : List (List ℕ)) (kind : Kind) → name.now ≡ wire n
+        ensures of_name { (n : Labels) (kind : Kind) → name.now ≡ wire n
             → IsOfName kind self.now n result.now }
         ensures own { IsHeld self.now }
     {
@@ -131,9 +132,9 @@ impl<A: Allocator> Held<A> {
     /// names below it too: a name error or a flush.
     pub(crate) fn heads(&self, name: &[u8]) -> &[Item<A>]
         requires { IsWire name.now }
-        ensures denials { (n : List (List ℕ)) → name.now ≡ wire n
+        ensures denials { (n : Labels) → name.now ≡ wire n
             → IsOfName NameError self.now n result.now }
-        ensures flushes { (n : List (List ℕ)) → name.now ≡ wire n
+        ensures flushes { (n : Labels) → name.now ≡ wire n
             → IsOfName Flush self.now n result.now }
     {
         if self.may_deny(name) {

@@ -1,8 +1,8 @@
 //! Where observations may stand that speak of the names below theirs.
 
-ghost use Rattle.std.specs.Prelude.{◌≡◌, ◌≤◌, ◌<◌, false, List, [], ◌∷◌, get_or, length, nat_lt};
+ghost use Rattle.std.specs.Prelude.{◌≡◌, ◌≤◌, ◌<◌, false, [], ◌∷◌, get_or, length, nat_lt};
 ghost use Rattle.fleet_name.specs.declared.bounds.TheConstants.{LONGEST_NAME};
-ghost use Rattle.fleet_observe.specs.Observation.{ObservationData, IsObservation};
+ghost use Rattle.fleet_observe.specs.Observation.{IsObservation, Observations};
 ghost use Rattle.fleet_observe.specs.declared.observation.kind.Kind.{Kind};
 ghost use Rattle.fleet_cache.specs.Noted.{AreNoted};
 
@@ -45,7 +45,7 @@ impl Noted {
 
     /// Notes an observation, if it is of the kind.
     pub(crate) fn note<A: Allocator>(&mut self, kind: Kind, observation: &Observation<A>)
-        ensures noted { (items : List ObservationData) → AreNoted kind self.old items
+        ensures noted { (items : Observations) → AreNoted kind self.old items
             → AreNoted kind self.new (observation.now ∷ items) }
         ensures lawful { IsObservation observation.now }
     {

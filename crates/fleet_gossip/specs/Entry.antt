@@ -1,26 +1,28 @@
 -- An entry of a frame: one observation. All numbers are big-endian, all names in lower case and in
 -- full.
 use Rattle.std.specs.Prelude.{◌≡◌, ℕ, ◌/◌, ◌%◌, ◌≤◌, List, [], ◌∷◌, ◌++◌, length}
+use Rattle.fleet_name.specs.Types.{Labels, OctetList}
+use Rattle.fleet_wire.specs.Types.{RType, Seconds}
 use Rattle.fleet_name.specs.Name.{wire}
 use Rattle.fleet_wire.specs.Number.{u16_octets, u32_octets}
 use Rattle.fleet_wire.specs.Shape.{IsPlain}
 use Rattle.fleet_observe.specs.Members.{Has, IsAscending}
 use Rattle.fleet_observe.specs.Body.{positive_body, IsPositiveBody, IsNegativeBody}
-use Rattle.fleet_observe.specs.Observation.{ObservationData, IsObservation, kind_number}
+use Rattle.fleet_observe.specs.Observation.{ObservationData, IsObservation, kind_number, Observations}
 use Rattle.fleet_observe.specs.declared.bounds.TheConstants.{LATEST, LONGEST_BODY}
 use Rattle.fleet_observe.specs.declared.observation.kind.Kind.{Kind}
 use Rattle.fleet_observe.specs.declared.observation.kind.Kind.TheVariants.{NameError, NoData, Positive, Flush}
 use Rattle.fleet_gossip.specs.declared.frame.TheConstants.{OLDEST_VERSION, VERSION, FLUSH_VERSION}
 
 -- numbers of one and of eight octets
-abbrev pub octet : ℕ → List ℕ
+abbrev pub octet : ℕ → OctetList
 octet n = n ∷ []
 
-abbrev pub u64_octets : ℕ → List ℕ
+abbrev pub u64_octets : ℕ → OctetList
 u64_octets n = u32_octets (n / 4294967296) ++ u32_octets (n % 4294967296)
 
 -- kind 1, rank 1, stamp 8, life 4 octets, the name in full, type 2 octets, the body
-abbrev pub entry_octets : ObservationData → List ℕ
+abbrev pub entry_octets : ObservationData → OctetList
 entry_octets o =
     octet (kind_number o.kind)
     ++ (octet o.rank
@@ -42,7 +44,7 @@ IsKindIn version Flush = FLUSH_VERSION ≤ version
 abbrev pub IsIn : ℕ → ObservationData → Type 0
 IsIn version o = IsObservation o × IsKindIn version o.kind
 
-abbrev pub AreIn : ℕ → List ObservationData → Type 0
+abbrev pub AreIn : ℕ → Observations → Type 0
 AreIn version list = (o : ObservationData) → Has list o → IsIn version o
 
 -- the number of a kind
@@ -54,17 +56,17 @@ abbrev pub IsKindNumber : ℕ → ℕ → Type 0
 IsKindNumber version number = (kind : Kind) × IsKind number kind × IsKindIn version kind
 
 -- a moment, in seconds
-abbrev pub IsMoment : ℕ → Type 0
+abbrev pub IsMoment : Seconds → Type 0
 IsMoment moment = moment ≤ LATEST
 
 -- RDATAs that those of a type may begin with
-pub record AreFirstRdatas (rtype : ℕ) (rdatas : List (List ℕ)) : Type 0 where
+pub record AreFirstRdatas (rtype : RType) (rdatas : List OctetList) : Type 0 where
   pub ascending : IsAscending rdatas
-  pub plain : (rdata : List ℕ) → Has rdatas rdata → IsPlain rtype rdata
+  pub plain : (rdata : OctetList) → Has rdatas rdata → IsPlain rtype rdata
   pub short : length (positive_body rdatas) ≤ LONGEST_BODY
 
 -- octets that are a body of the kind, of an observation of the name and the type
-abbrev pub AreBodyOctets : Kind → List (List ℕ) → ℕ → List ℕ → Type 0
+abbrev pub AreBodyOctets : Kind → Labels → RType → OctetList → Type 0
 AreBodyOctets Positive name rtype body = IsPositiveBody rtype body
 AreBodyOctets NoData name rtype body = IsNegativeBody name body
 AreBodyOctets NameError name rtype body = IsNegativeBody name body

@@ -2,6 +2,8 @@
 -- those that are left.
 use Rattle.std.specs.Prelude.{◌≡◌, ℕ, ◌+◌, ◌<◌, ◌≤◌, ◌⊎◌, List, [], ◌∷◌, ◌++◌, length}
 use Rattle.std.specs.List.{flat_map}
+use Rattle.fleet_name.specs.Types.{Label, Labels, OctetList}
+use Rattle.fleet_wire.specs.Types.{RType}
 use Rattle.fleet_name.specs.Name.{label_octets, wire, lower, IsName, IsUnder}
 use Rattle.fleet_name.specs.declared.bounds.TheConstants.{LONGEST_LABEL, LONGEST_NAME}
 use Rattle.fleet_wire.specs.Number.{u16_octets, u32_octets}
@@ -9,7 +11,7 @@ use Rattle.fleet_wire.specs.Shape.{IsPlain}
 use Rattle.fleet_wire.specs.declared.rtype.TheConstants.{SOA}
 use Rattle.fleet_observe.specs.Body.{octets_with_length}
 use Rattle.fleet_observe.specs.Checks.{IsRankOf, IsLifeOf, IsTypeOf, IsCountOf}
-use Rattle.fleet_observe.specs.Observation.{ObservationData}
+use Rattle.fleet_observe.specs.Observation.{Observations}
 use Rattle.fleet_observe.specs.declared.observation.kind.Kind.{Kind}
 use Rattle.fleet_observe.specs.declared.observation.kind.Kind.TheVariants.{NameError, NoData, Positive, Flush}
 use Rattle.fleet_gossip.specs.Entry.{octet, u64_octets, IsVersion, AreIn, IsKind, IsKindNumber, IsMoment, AreFirstRdatas}
@@ -21,14 +23,14 @@ use Rattle.fleet_gossip.specs.declared.bounds.TheConstants.{LONGEST_FRAME}
 
 -- The first fault of a number and of what stands behind it: some of its octets are missing, it is
 -- not lawful, or it is and what stands behind it fails.
-pub data FieldFails (spelled : ℕ → List ℕ) (size : ℕ) (Lawful : ℕ → Type 0) (refusal : FrameFault)
-    (Behind : ℕ → List ℕ → FrameFault → Type 0) (octets : List ℕ) (f : FrameFault) : Type 0 where
+pub data FieldFails (spelled : ℕ → OctetList) (size : ℕ) (Lawful : ℕ → Type 0) (refusal : FrameFault)
+    (Behind : ℕ → OctetList → FrameFault → Type 0) (octets : OctetList) (f : FrameFault) : Type 0 where
   cut : length octets < size → f ≡ Truncated
       → FieldFails spelled size Lawful refusal Behind octets f
-  refused : (number : ℕ) (rest : List ℕ) → octets ≡ spelled number ++ rest → (Lawful number → ⊥)
+  refused : (number : ℕ) (rest : OctetList) → octets ≡ spelled number ++ rest → (Lawful number → ⊥)
       → f ≡ refusal
       → FieldFails spelled size Lawful refusal Behind octets f
-  behind : (number : ℕ) (rest : List ℕ) → octets ≡ spelled number ++ rest → Lawful number
+  behind : (number : ℕ) (rest : OctetList) → octets ≡ spelled number ++ rest → Lawful number
       → Behind number rest f
       → FieldFails spelled size Lawful refusal Behind octets f
 
@@ -37,71 +39,71 @@ abbrev pub AnyNumber : ℕ → Type 0
 AnyNumber n = Unit {0}
 
 -- the first fault of so many octets: some are missing, or they are not lawful there
-pub data OctetsFail (Lawful : List ℕ → Type 0) (refusal : FrameFault) (size : ℕ)
-    (octets : List ℕ) (f : FrameFault) : Type 0 where
+pub data OctetsFail (Lawful : OctetList → Type 0) (refusal : FrameFault) (size : ℕ)
+    (octets : OctetList) (f : FrameFault) : Type 0 where
   cut_octets : length octets < size → f ≡ Truncated → OctetsFail Lawful refusal size octets f
-  refused_octets : (taken rest : List ℕ) → octets ≡ taken ++ rest → length taken ≡ size
+  refused_octets : (taken rest : OctetList) → octets ≡ taken ++ rest → length taken ≡ size
       → (Lawful taken → ⊥)
       → f ≡ refusal
       → OctetsFail Lawful refusal size octets f
 
 -- a label of so many octets may stand behind these labels: it has 1 to LONGEST_LABEL octets, and
 -- the name with its zero octet at most LONGEST_NAME
-pub record IsRoom (before : List (List ℕ)) (size : ℕ) : Type 0 where
+pub record IsRoom (before : Labels) (size : ℕ) : Type 0 where
   pub some : 0 < size
   pub short : size ≤ LONGEST_LABEL
   pub fits : length (wire before) + size + 1 ≤ LONGEST_NAME
 
 -- a length octet that may stand behind these labels: the zero octet, or that of a label with room
-abbrev pub IsLengthOctet : List (List ℕ) → ℕ → Type 0
+abbrev pub IsLengthOctet : Labels → ℕ → Type 0
 IsLengthOctet before size = 0 < size → IsRoom before size
 
 -- in lower case
-abbrev pub IsLower : List ℕ → Type 0
+abbrev pub IsLower : Label → Type 0
 IsLower label = lower label ≡ label
 
 -- The first fault of the label that stands behind others, or of the zero octet: of its length
 -- octet, where it is too long, or the name is; or of its octets, where one is a capital letter.
-abbrev pub LabelFails : FrameFault → List (List ℕ) → List ℕ → FrameFault → Type 0
+abbrev pub LabelFails : FrameFault → Labels → OctetList → FrameFault → Type 0
 LabelFails refusal before =
     FieldFails octet 1 (IsLengthOctet before) refusal (OctetsFail IsLower refusal)
 
 -- the first fault of a name: behind the labels of one, the next fails
-pub data FrameNameFails (refusal : FrameFault) (octets : List ℕ) (f : FrameFault) : Type 0 where
-  label_fails : (before : List (List ℕ)) (rest : List ℕ)
+pub data FrameNameFails (refusal : FrameFault) (octets : OctetList) (f : FrameFault) : Type 0 where
+  label_fails : (before : Labels) (rest : OctetList)
       → octets ≡ flat_map label_octets before ++ rest
       → IsName before → LabelFails refusal before rest f
       → FrameNameFails refusal octets f
 
 -- the first fault of RDATA behind its length
-abbrev pub SizedFails : (List ℕ → Type 0) → List ℕ → FrameFault → Type 0
+abbrev pub SizedFails : (OctetList → Type 0) → OctetList → FrameFault → Type 0
 SizedFails Lawful = FieldFails u16_octets 2 AnyNumber Truncated (OctetsFail Lawful BadBody)
 
 -- the first fault of so many RDATAs: behind fewer of them, the next fails
-pub data RdatasFail (rtype count : ℕ) (octets : List ℕ) (f : FrameFault) : Type 0 where
-  rdata_fails : (before : List (List ℕ)) (rest : List ℕ)
+pub data RdatasFail (rtype : RType) (count : ℕ) (octets : OctetList) (f : FrameFault) : Type 0 where
+  rdata_fails : (before : List OctetList) (rest : OctetList)
       → octets ≡ flat_map octets_with_length before ++ rest
       → AreFirstRdatas rtype before → length before < count
       → SizedFails (λ rdata. AreFirstRdatas rtype (before ++ rdata ∷ [])) rest f
       → RdatasFail rtype count octets f
 
 -- the first fault of a positive body: of its count, or of so many RDATAs
-abbrev pub PositiveFails : ℕ → List ℕ → FrameFault → Type 0
+abbrev pub PositiveFails : RType → OctetList → FrameFault → Type 0
 PositiveFails rtype = FieldFails u16_octets 2 (IsCountOf rtype) BadBody (RdatasFail rtype)
 
 -- The first fault of a negative body: of the SOA's owner, that this is neither the name nor an
 -- ancestor of it, or of the SOA's RDATA.
-pub data NegativeFails (name : List (List ℕ)) (octets : List ℕ) (f : FrameFault) : Type 0 where
+pub data NegativeFails (name : Labels) (octets : OctetList) (f : FrameFault) : Type 0 where
   owner_fails : FrameNameFails BadBody octets f → NegativeFails name octets f
-  stranger : (owner : List (List ℕ)) (rest : List ℕ) → octets ≡ wire owner ++ rest → IsName owner
+  stranger : (owner : Labels) (rest : OctetList) → octets ≡ wire owner ++ rest → IsName owner
       → (IsUnder name owner → ⊥) → f ≡ BadBody
       → NegativeFails name octets f
-  soa_fails : (owner : List (List ℕ)) (rest : List ℕ) → octets ≡ wire owner ++ rest → IsName owner
+  soa_fails : (owner : Labels) (rest : OctetList) → octets ≡ wire owner ++ rest → IsName owner
       → IsUnder name owner → SizedFails (IsPlain SOA) rest f
       → NegativeFails name octets f
 
 -- the first fault of a body, by kind
-abbrev pub BodyFails : Kind → List (List ℕ) → ℕ → List ℕ → FrameFault → Type 0
+abbrev pub BodyFails : Kind → Labels → RType → OctetList → FrameFault → Type 0
 BodyFails Positive name rtype = PositiveFails rtype
 BodyFails NoData name rtype = NegativeFails name
 BodyFails NameError name rtype = NegativeFails name
@@ -110,20 +112,20 @@ BodyFails Flush name rtype = λ octets f. ⊥
 -- the first fault of a name and of what stands behind it: the name fails, or it is one and what
 -- stands behind it fails
 pub data NameFieldFails (refusal : FrameFault)
-    (Behind : List (List ℕ) → List ℕ → FrameFault → Type 0) (octets : List ℕ) (f : FrameFault)
+    (Behind : List OctetList → OctetList → FrameFault → Type 0) (octets : OctetList) (f : FrameFault)
     : Type 0 where
   name_fails : FrameNameFails refusal octets f → NameFieldFails refusal Behind octets f
-  behind_name : (name : List (List ℕ)) (rest : List ℕ) → octets ≡ wire name ++ rest → IsName name
+  behind_name : (name : Labels) (rest : OctetList) → octets ≡ wire name ++ rest → IsName name
       → Behind name rest f
       → NameFieldFails refusal Behind octets f
 
 -- the kind of a number, and what fails behind it
-abbrev pub KindOf : (Kind → List ℕ → FrameFault → Type 0) → ℕ → List ℕ → FrameFault → Type 0
+abbrev pub KindOf : (Kind → OctetList → FrameFault → Type 0) → ℕ → OctetList → FrameFault → Type 0
 KindOf Behind number octets f = (kind : Kind) × IsKind number kind × Behind kind octets f
 
 -- The first fault of an entry. It has a line for each field, in reading order: how it is spelled and
 -- in how many octets, what is lawful, the fault of what is not, and its name for the lines behind.
-abbrev pub EntryFails : ℕ → List ℕ → FrameFault → Type 0
+abbrev pub EntryFails : ℕ → OctetList → FrameFault → Type 0
 EntryFails version =
     FieldFails octet 1 (IsKindNumber version) BadKind (KindOf (λ kind.
     FieldFails octet 1 (IsRankOf kind) BadRank (λ rank.
@@ -135,18 +137,18 @@ EntryFails version =
 
 -- the first fault of so many entries: behind fewer of them the next fails, or octets stand behind
 -- them all
-pub data EntriesFail (version count : ℕ) (octets : List ℕ) (f : FrameFault) : Type 0 where
-  entry_fails : (list : List ObservationData) (rest : List ℕ) → octets ≡ entries list ++ rest
+pub data EntriesFail (version count : ℕ) (octets : OctetList) (f : FrameFault) : Type 0 where
+  entry_fails : (list : Observations) (rest : OctetList) → octets ≡ entries list ++ rest
       → AreIn version list
       → length list < count → EntryFails version rest f
       → EntriesFail version count octets f
-  more_octets : (list : List ObservationData) (rest : List ℕ) → octets ≡ entries list ++ rest
+  more_octets : (list : Observations) (rest : OctetList) → octets ≡ entries list ++ rest
       → AreIn version list
       → length list ≡ count → 0 < length rest → f ≡ Trailing
       → EntriesFail version count octets f
 
 -- the first fault of a frame's fields, a line for each as for an entry
-abbrev pub FrameFieldsFail : List ℕ → FrameFault → Type 0
+abbrev pub FrameFieldsFail : OctetList → FrameFault → Type 0
 FrameFieldsFail =
     FieldFails u16_octets 2 (λ magic. magic ≡ MAGIC) BadMagic (λ magic.
     FieldFails octet 1 IsVersion BadVersion (λ version.
@@ -154,11 +156,11 @@ FrameFieldsFail =
     EntriesFail version count)))
 
 -- the first fault of a frame: the whole is too long, or a field fails
-abbrev pub FrameFails : List ℕ → FrameFault → Type 0
+abbrev pub FrameFails : OctetList → FrameFault → Type 0
 FrameFails octets f =
     ((LONGEST_FRAME < length octets) × (f ≡ TooLong))
     ⊎ ((length octets ≤ LONGEST_FRAME) × FrameFieldsFail octets f)
 
 -- these observations would make too long a frame
-abbrev pub IsTooLong : List ObservationData → FrameFault → Type 0
+abbrev pub IsTooLong : Observations → FrameFault → Type 0
 IsTooLong list f = (f ≡ TooLong) × (LONGEST_FRAME < length (frame_octets VERSION list))

@@ -1,23 +1,24 @@
 -- A frame: observations as octets.
-use Rattle.std.specs.Prelude.{◌≡◌, ◌≢◌, ℕ, ◌≤◌, List, [], ◌++◌, length}
+use Rattle.std.specs.Prelude.{◌≡◌, ◌≢◌, ℕ, ◌≤◌, [], ◌++◌, length}
 use Rattle.std.specs.List.{flat_map}
+use Rattle.fleet_name.specs.Types.{OctetList}
 use Rattle.fleet_wire.specs.Number.{u16_octets}
-use Rattle.fleet_observe.specs.Observation.{ObservationData}
+use Rattle.fleet_observe.specs.Observation.{Observations}
 use Rattle.fleet_gossip.specs.Entry.{octet, entry_octets, IsVersion, AreIn}
 use Rattle.fleet_gossip.specs.declared.frame.TheConstants.{MAGIC, VERSION}
 use Rattle.fleet_gossip.specs.declared.bounds.TheConstants.{LONGEST_FRAME}
 
 -- the entries of observations, one after the other
-abbrev pub entries : List ObservationData → List ℕ
+abbrev pub entries : Observations → OctetList
 entries list = flat_map entry_octets list
 
 -- the magic, the version, how many entries there are, and the entries
-abbrev pub frame_octets : ℕ → List ObservationData → List ℕ
+abbrev pub frame_octets : ℕ → Observations → OctetList
 frame_octets version list =
     u16_octets MAGIC ++ (octet version ++ (u16_octets (length list) ++ entries list))
 
 -- these octets are the frame of these observations, in a version that is read
-pub record SpellsFrame (octets : List ℕ) (list : List ObservationData) : Type 0 where
+pub record SpellsFrame (octets : OctetList) (list : Observations) : Type 0 where
   pub version : ℕ
   pub read : IsVersion version
   pub lawful : AreIn version list
@@ -25,11 +26,11 @@ pub record SpellsFrame (octets : List ℕ) (list : List ObservationData) : Type 
   pub fits : length octets ≤ LONGEST_FRAME
 
 -- these octets are the frame that is written of these observations
-abbrev pub WritesFrame : List ℕ → List ObservationData → Type 0
+abbrev pub WritesFrame : OctetList → Observations → Type 0
 WritesFrame octets list = (is : SpellsFrame octets list) × (is.version ≡ VERSION)
 
 -- octets that are the frame of some observations, of one at least
-pub record HasEntries (octets : List ℕ) : Type 0 where
-  pub list : List ObservationData
+pub record HasEntries (octets : OctetList) : Type 0 where
+  pub list : Observations
   pub spelled : SpellsFrame octets list
   pub some : list ≢ []

@@ -1,6 +1,7 @@
 //! The body of an entry, read without memory.
 
-ghost use Rattle.std.specs.Prelude.{◌≡◌, ℕ, ◌≤◌, ◌++◌, ◌∷◌, [], ◌↔◌, List, length, IsTrue, MatchOption, MatchResult};
+ghost use Rattle.std.specs.Prelude.{◌≡◌, ◌≤◌, ◌++◌, ◌∷◌, [], ◌↔◌, length, IsTrue, MatchOption, MatchResult};
+ghost use Rattle.fleet_name.specs.Types.{Labels};
 ghost use Rattle.fleet_name.specs.Name.{wire, IsName, IsWire};
 ghost use Rattle.fleet_observe.specs.Body.{octets_with_length, positive_body, IsPositiveBody, IsNegativeBody};
 ghost use Rattle.fleet_observe.specs.declared.bounds.TheConstants.{LONGEST_BODY};
@@ -27,7 +28,7 @@ pub(crate) fn read_sized<'a>(reader: &mut Reader<'a>) -> Result<&'a [u8], FrameF
 
 /// Whether the RDATA stands above the last one, if there is one.
 fn is_above(last: Option<&[u8]>, rdata: &[u8]) -> bool
-    ensures { (before : List (List ℕ))
+    ensures { (before : Labels)
         → MatchOption last.entry (before ≡ []) (λ r. HasLast before r.now)
         → (IsTrue result ↔ IsAbove before rdata.now) }
 {
@@ -41,7 +42,7 @@ fn is_above(last: Option<&[u8]>, rdata: &[u8]) -> bool
 /// `size` octets.
 fn is_next(rtype: u16, last: Option<&[u8]>, size: usize, rdata: &[u8]) -> bool
     requires { size ≤ LONGEST_BODY }
-    ensures { (before : List (List ℕ))
+    ensures { (before : Labels)
         → MatchOption last.entry (before ≡ []) (λ r. HasLast before r.now)
         → AreFirstRdatas rtype before → size ≡ length (positive_body before)
         → (IsTrue result ↔ AreFirstRdatas rtype (before ++ rdata.now ∷ [])) }
@@ -89,7 +90,7 @@ fn positive_size(octets: &[u8], rtype: u16) -> Result<usize, FrameFault>
 /// The owner of the SOA of a denial of the name.
 fn read_owner<'a>(reader: &mut Reader<'a>, name: &[u8]) -> Result<&'a [u8], FrameFault>
     requires { IsWire name.now }
-    ensures { (n : List (List ℕ)) → IsName n → name.now ≡ wire n
+    ensures { (n : Labels) → IsName n → name.now ≡ wire n
         → MatchResult result (λ r. IsPart (IsOwnerOf n) reader.old r.now reader.new)
         (NegativeFails n reader.old) }
 {
@@ -103,7 +104,7 @@ fn read_owner<'a>(reader: &mut Reader<'a>, name: &[u8]) -> Result<&'a [u8], Fram
 /// How many octets the body at the front has, which is that of a denial of the name.
 fn negative_size(octets: &[u8], name: &[u8]) -> Result<usize, FrameFault>
     requires { IsWire name.now }
-    ensures { (n : List (List ℕ)) → IsName n → name.now ≡ wire n
+    ensures { (n : Labels) → IsName n → name.now ≡ wire n
         → MatchResult result (λ size. IsSizeOf (IsNegativeBody n) octets.now size)
         (NegativeFails n octets.now) }
 {
@@ -119,7 +120,7 @@ fn negative_size(octets: &[u8], name: &[u8]) -> Result<usize, FrameFault>
 /// How many octets the body at the front has, of an entry of that kind, name and type.
 fn body_size(octets: &[u8], kind: Kind, name: &[u8], rtype: u16) -> Result<usize, FrameFault>
     requires { IsWire name.now }
-    ensures { (n : List (List ℕ)) → IsName n → name.now ≡ wire n
+    ensures { (n : Labels) → IsName n → name.now ≡ wire n
         → MatchResult result (λ size. IsSizeOf (AreBodyOctets kind n rtype) octets.now size)
         (BodyFails kind n rtype octets.now) }
 {
@@ -139,7 +140,7 @@ pub(crate) fn read_body<'a>(
     rtype: u16,
 ) -> Result<&'a [u8], FrameFault>
     requires { IsWire name.now }
-    ensures { (n : List (List ℕ)) → IsName n → name.now ≡ wire n
+    ensures { (n : Labels) → IsName n → name.now ≡ wire n
         → MatchResult result (λ r. IsPart (AreBodyOctets kind n rtype) reader.old r.now reader.new)
         (BodyFails kind n rtype reader.old) }
 {

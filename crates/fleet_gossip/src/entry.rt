@@ -1,6 +1,7 @@
 //! An entry: one observation.
 
-ghost use Rattle.std.specs.Prelude.{◌≡◌, ℕ, ◌++◌, List, IfOk, MatchResult};
+ghost use Rattle.std.specs.Prelude.{◌≡◌, ◌++◌, IfOk, MatchResult};
+ghost use Rattle.fleet_name.specs.Types.{Labels};
 ghost use Rattle.fleet_name.specs.Name.{wire, IsName, IsWire};
 ghost use Rattle.fleet_observe.specs.Body.{positive_body, negative_body};
 ghost use Rattle.fleet_observe.specs.Observation.{ObservationData};
@@ -55,7 +56,7 @@ pub(crate) fn read_entry<'a>(
 fn copy_name<A: Allocator>(alloc: A, octets: &[u8]) -> Result<Name<A>, AllocError>
     requires { IsWire octets.now }
     ensures { IfOk result (λ name.
-        (n : List (List ℕ)) → IsName n → octets.now ≡ wire n → name ≡ n) }
+        (n : Labels) → IsName n → octets.now ≡ wire n → name ≡ n) }
 {
     let name = Name::copy_of(alloc, octets)?;
     // What the proof needs to know of the name.

@@ -1,8 +1,8 @@
 //! Frames: read and written.
 
-ghost use Rattle.std.specs.Prelude.{◌≡◌, ◌<◌, ◌↔◌, List, [], length, IsTrue, IfOk, IfErr, OnErr, MatchOption, MatchResult, Err};
+ghost use Rattle.std.specs.Prelude.{◌≡◌, ◌<◌, ◌↔◌, [], length, IsTrue, IfOk, IfErr, OnErr, MatchOption, MatchResult, Err};
 ghost use Rattle.fleet_name.specs.Fault.{OrMemory};
-ghost use Rattle.fleet_observe.specs.Observation.{ObservationData};
+ghost use Rattle.fleet_observe.specs.Observation.{Observations};
 ghost use Rattle.fleet_gossip.specs.Entry.{IsVersion};
 ghost use Rattle.fleet_gossip.specs.Frame.{frame_octets, SpellsFrame, WritesFrame, HasEntries};
 ghost use Rattle.fleet_gossip.specs.Faults.{EntriesFail, FrameFieldsFail, FrameFails, IsTooLong};
@@ -188,7 +188,7 @@ pub fn decode<A: Allocator + Copy>(
     ensures found { IfOk result (λ v. SpellsFrame octets.now v.items) }
     ensures fault { IfErr result (λ f. OrMemory OutOfMemory f (FrameFails octets.now f)) }
     // Where a list is spelled, only want of memory keeps it from being read.
-    ensures only { (list : List ObservationData) → SpellsFrame octets.now list
+    ensures only { (list : Observations) → SpellsFrame octets.now list
         → IfErr result (λ f. f ≡ OutOfMemory) }
     // Want of memory is told only where a list is spelled that has something in it.
     ensures memory { IfErr result (λ f. f ≡ OutOfMemory → HasEntries octets.now) }

@@ -1,7 +1,8 @@
 //! Laws of frames.
 
-ghost use Rattle.std.specs.Prelude.{◌≡◌, ℕ, ◌≤◌, List, [], ◌∷◌, length};
-ghost use Rattle.fleet_observe.specs.Observation.{ObservationData, IsObservation};
+ghost use Rattle.std.specs.Prelude.{◌≡◌, ◌≤◌, List, [], ◌∷◌, length};
+ghost use Rattle.fleet_name.specs.Types.{OctetList};
+ghost use Rattle.fleet_observe.specs.Observation.{ObservationData, IsObservation, Observations};
 ghost use Rattle.fleet_gossip.specs.Frame.{frame_octets, SpellsFrame};
 ghost use Rattle.fleet_gossip.specs.Faults.{FrameFails};
 ghost use Rattle.fleet_gossip.specs.Packed.{IsPacked};
@@ -11,28 +12,28 @@ ghost use Rattle.fleet_gossip.specs.declared.fault.FrameFault.{FrameFault};
 
 /// Octets spell one list of observations at most.
 pub fn one_list()
-    ensures { (octets : List ℕ) (a b : List ObservationData) → SpellsFrame octets a
+    ensures { (octets : OctetList) (a b : Observations) → SpellsFrame octets a
         → SpellsFrame octets b
         → a ≡ b }
 {}
 
 /// A list has one frame of a version at most.
 pub fn one_spelling()
-    ensures { (list : List ObservationData) (a b : List ℕ) → (x : SpellsFrame a list)
+    ensures { (list : Observations) (a b : OctetList) → (x : SpellsFrame a list)
         → (y : SpellsFrame b list) → x.version ≡ y.version
         → a ≡ b }
 {}
 
 /// A frame that spells a list has no fault.
 pub fn list_or_fault()
-    ensures { (octets : List ℕ) (list : List ObservationData) (f : FrameFault)
+    ensures { (octets : OctetList) (list : Observations) (f : FrameFault)
         → SpellsFrame octets list
         → FrameFails octets f → ⊥ }
 {}
 
 /// Octets have one first fault at most.
 pub fn one_fault()
-    ensures { (octets : List ℕ) (f g : FrameFault) → FrameFails octets f → FrameFails octets g
+    ensures { (octets : OctetList) (f g : FrameFault) → FrameFails octets f → FrameFails octets g
         → f ≡ g }
 {}
 
@@ -44,7 +45,7 @@ pub fn entry_fits()
 
 /// A list has one packing at most: its frames are determined.
 pub fn one_packing()
-    ensures { (list : List ObservationData) (a b : List (List ℕ)) → IsPacked list a
+    ensures { (list : Observations) (a b : List OctetList) → IsPacked list a
         → IsPacked list b
         → a ≡ b }
 {}

@@ -1,6 +1,7 @@
 //! A name in an entry.
 
-ghost use Rattle.std.specs.Prelude.{◌≡◌, ℕ, ◌≤◌, ◌↔◌, List, length, IsTrue, MatchResult};
+ghost use Rattle.std.specs.Prelude.{◌≡◌, ◌≤◌, ◌↔◌, length, IsTrue, MatchResult};
+ghost use Rattle.fleet_name.specs.Types.{Labels};
 ghost use Rattle.fleet_name.specs.Name.{wire, IsName, IsUnder, IsWire};
 ghost use Rattle.fleet_name.specs.declared.bounds.TheConstants.{LONGEST_NAME};
 ghost use Rattle.fleet_gossip.specs.Faults.{LabelFails, FrameNameFails};
@@ -19,7 +20,7 @@ fn read_label<'a>(
     refusal: FrameFault,
 ) -> Result<&'a [u8], FrameFault>
     requires { used ≤ LONGEST_NAME }
-    ensures { (before : List (List ℕ)) → length (wire before) ≡ used
+    ensures { (before : Labels) → length (wire before) ≡ used
         → MatchResult result (λ r. IsLabelAt before reader.old r.now reader.new)
         (LabelFails refusal before reader.old) }
 {
@@ -70,7 +71,7 @@ pub(crate) fn read_name<'a>(
 pub(crate) fn is_under(name: &[u8], ancestor: &[u8]) -> bool
     requires name { IsWire name.now }
     requires ancestor { IsWire ancestor.now }
-    ensures { (n a : List (List ℕ)) → IsName n → IsName a → name.now ≡ wire n
+    ensures { (n a : Labels) → IsName n → IsName a → name.now ≡ wire n
         → ancestor.now ≡ wire a → (IsTrue result ↔ IsUnder n a) }
 {
     let mut rest = name;

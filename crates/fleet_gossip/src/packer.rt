@@ -1,8 +1,8 @@
 //! Packing observations into frames.
 
-ghost use Rattle.std.specs.Prelude.{◌≡◌, ◌≢◌, ◌+◌, ◌<◌, ◌≤◌, ◌++◌, ◌∷◌, [], List, length, IfOk, OnOk, OnErr};
+ghost use Rattle.std.specs.Prelude.{◌≡◌, ◌≢◌, ◌+◌, ◌<◌, ◌≤◌, ◌++◌, ◌∷◌, [], length, IfOk, OnOk, OnErr};
 ghost use Rattle.fleet_wire.specs.Number.{u16_octets};
-ghost use Rattle.fleet_observe.specs.Observation.{ObservationData};
+ghost use Rattle.fleet_observe.specs.Observation.{Observations};
 ghost use Rattle.fleet_gossip.specs.Entry.{octet};
 ghost use Rattle.fleet_gossip.specs.declared.frame.TheConstants.{MAGIC, VERSION};
 ghost use Rattle.fleet_gossip.specs.Packed.{IsPacked};
@@ -64,7 +64,7 @@ impl<A: Allocator + Copy> Packer<A> {
     /// Adds an observation behind the others.
     pub fn add(&mut self, observation: &Observation<A>) -> Result<(), AllocError>
         requires { IsPacking self.old }
-        ensures { OnOk result ((taken : List ObservationData) → Packs self.old taken
+        ensures { OnOk result ((taken : Observations) → Packs self.old taken
             → Packs self.new (taken ++ observation.now ∷ [])) }
     {
         if OPENING + self.entries.len() + entry_size(observation) > LONGEST_FRAME {
@@ -79,9 +79,9 @@ impl<A: Allocator + Copy> Packer<A> {
     pub fn finish(mut self) -> Result<Vec<Octets<A>, A>, AllocError>
         requires { IsPacking self }
         ensures memory { OnErr result
-            ((taken : List ObservationData) → Packs self taken → taken ≢ []) }
+            ((taken : Observations) → Packs self taken → taken ≢ []) }
         ensures packed { IfOk result (λ frames.
-            (taken : List ObservationData) → Packs self taken → IsPacked taken frames.items) }
+            (taken : Observations) → Packs self taken → IsPacked taken frames.items) }
     {
         if self.count == 0 {
             return Ok(self.frames);

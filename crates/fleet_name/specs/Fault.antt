@@ -1,12 +1,13 @@
 -- Why a label can't be added to a name.
-use Rattle.std.specs.Prelude.{◌≡◌, ◌⊎◌, ℕ, ◌+◌, List, length, Option, Some, None, if◌then◌else◌, nat_eq, nat_lt}
+use Rattle.std.specs.Prelude.{◌≡◌, ◌⊎◌, ◌+◌, length, Option, Some, None, if◌then◌else◌, nat_eq, nat_lt}
+use Rattle.fleet_name.specs.Types.{Label, Labels}
 use Rattle.fleet_name.specs.Name.{wire}
 use Rattle.fleet_name.specs.declared.bounds.TheConstants.{LONGEST_LABEL, LONGEST_NAME}
 use Rattle.fleet_name.specs.declared.fault.NameFault.{NameFault}
 use Rattle.fleet_name.specs.declared.fault.NameFault.TheVariants.{EmptyLabel, LongLabel, LongName, OutOfMemory}
 
 -- the first fault of a label that is to stand after the others
-abbrev pub push_fault : List (List ℕ) → List ℕ → Option NameFault
+abbrev pub push_fault : Labels → Label → Option NameFault
 push_fault name label =
     if nat_eq (length label) 0 then Some EmptyLabel else
     if nat_lt LONGEST_LABEL (length label) then Some LongLabel else

@@ -1,9 +1,10 @@
 //! Laws of names. Each function does nothing: its contract is the law.
 
-ghost use Rattle.std.specs.Prelude.{◌≡◌, ℕ, List};
+ghost use Rattle.std.specs.Prelude.{◌≡◌};
+ghost use Rattle.fleet_name.specs.Types.{Labels};
 ghost use Rattle.fleet_name.specs.Name.{wire};
 
 /// Octets are those of one list of labels at most, whether it is a name or not (RFC 1035 3.1).
 pub fn one_name()
-    ensures { (a b : List (List ℕ)) → wire a ≡ wire b → a ≡ b }
+    ensures { (a b : Labels) → wire a ≡ wire b → a ≡ b }
 {}

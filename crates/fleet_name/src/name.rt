@@ -8,6 +8,7 @@ ghost use Rattle.fleet_name.specs.declared.bounds.TheConstants.{LONGEST_LABEL};
 ghost use Rattle.fleet_name.specs.declared.fault.NameFault.TheVariants.{OutOfMemory};
 ghost use Rattle.fleet_name.specs.Text.{label_text, text_of};
 ghost use Rattle.std.specs.List.{flat_map};
+ghost use Rattle.fleet_name.specs.Types.{Labels, OctetList};
 
 use crate::bounds::{LONGEST_LABEL, LONGEST_NAME};
 use crate::fault::NameFault;
@@ -310,7 +311,7 @@ pub fn is_lower(octets: &[u8]) -> bool
 /// How many labels the name has that these octets are in full and in lower case, if they are one.
 fn labels_in(octets: &[u8]) -> Option<usize>
     ensures { MatchOption result (IsWire octets.now → ⊥)
-        (λ count. (n : List (List ℕ)) × IsName n × (octets.now ≡ wire n) × (count ≡ length n)) }
+        (λ count. (n : Labels) × IsName n × (octets.now ≡ wire n) × (count ≡ length n)) }
 {
     if octets.len() > LONGEST_NAME {
         return None;
@@ -343,7 +344,7 @@ fn labels_in(octets: &[u8]) -> Option<usize>
 /// What `Name::suffix` gives of the name that these octets are in full and in lower case: its
 /// octets without the first `count` labels. `None` where they are no name, or one of fewer labels.
 pub fn suffix_in(octets: &[u8], count: usize) -> Option<&[u8]>
-    ensures { MatchOption result ((rest : List ℕ) → IsSuffix octets.now count rest → ⊥)
+    ensures { MatchOption result ((rest : OctetList) → IsSuffix octets.now count rest → ⊥)
         (λ s. IsSuffix octets.now count s.now) }
 {
     let labels = labels_in(octets)?;

@@ -1,5 +1,7 @@
 -- The parts of a body, as they are held.
-use Rattle.std.specs.Prelude.{◌≡◌, ℕ, List, []}
+use Rattle.std.specs.Prelude.{◌≡◌, ℕ, []}
+use Rattle.fleet_name.specs.Types.{Labels, OctetList}
+use Rattle.fleet_wire.specs.Types.{RType, Seconds}
 use Rattle.fleet_observe.specs.Body.{positive_body, negative_body, AreRdatas, IsDenial}
 use Rattle.fleet_observe.specs.Observation.{ObservationData, IsNegativeKind}
 use Rattle.fleet_observe.specs.declared.observation.kind.Kind.{Kind}
@@ -8,13 +10,13 @@ use Rattle.fleet_observe.specs.declared.observation.body.Body.{Body}
 use Rattle.fleet_observe.specs.declared.observation.body.Body.TheVariants.{Records, Authority, Nothing}
 
 -- the octets that the parts are
-abbrev pub body_octets : {A : Type 0} → Body A → List ℕ
+abbrev pub body_octets : {A : Type 0} → Body A → OctetList
 body_octets (Records rdatas) = positive_body rdatas.items
 body_octets (Authority owner rdata) = negative_body owner rdata
 body_octets Nothing = []
 
 -- the observation that is held in these parts
-abbrev pub observation_data : {A : Type 0} → Kind → List (List ℕ) → ℕ → ℕ → ℕ → ℕ → Body A
+abbrev pub observation_data : {A : Type 0} → Kind → Labels → RType → ℕ → Seconds → Seconds → Body A
     → ObservationData
 observation_data kind name rtype rank stamp life body = record {
   kind = kind;
@@ -27,7 +29,7 @@ observation_data kind name rtype rank stamp life body = record {
 }
 
 -- the parts are those of the kind, and lawful
-abbrev pub IsBodyOf : {A : Type 0} → Kind → List (List ℕ) → ℕ → Body A → Type 0
+abbrev pub IsBodyOf : {A : Type 0} → Kind → Labels → RType → Body A → Type 0
 IsBodyOf kind name rtype (Records rdatas) = (kind ≡ Positive) × AreRdatas rtype rdatas.items
 IsBodyOf kind name rtype (Authority owner rdata) = IsNegativeKind kind × IsDenial name owner rdata
 IsBodyOf kind name rtype Nothing = kind ≡ Flush

@@ -1,5 +1,7 @@
 -- What the values of an observation have to meet, and which of them fails first.
 use Rattle.std.specs.Prelude.{◌≡◌, ℕ, ◌<◌, List, Option, Some, None, unwrap_or}
+use Rattle.fleet_name.specs.Types.{Labels, OctetList}
+use Rattle.fleet_wire.specs.Types.{RType, Seconds}
 use Rattle.fleet_observe.specs.Body.{AreRdatas, IsDenial}
 use Rattle.fleet_wire.specs.declared.rtype.TheConstants.{CNAME}
 use Rattle.fleet_observe.specs.declared.rank.TheConstants.{ANSWER}
@@ -19,21 +21,21 @@ IsRankOf Flush rank = rank ≡ ANSWER
 
 -- a life that a kind has, in seconds: at most a day, of a denial at most three hours, and of a flush
 -- just a day
-abbrev pub IsLifeOf : Kind → ℕ → Type 0
+abbrev pub IsLifeOf : Kind → Seconds → Type 0
 IsLifeOf Positive life = IsLife LONGEST_LIFE life
 IsLifeOf NoData life = IsLife LONGEST_DENIAL life
 IsLifeOf NameError life = IsLife LONGEST_DENIAL life
 IsLifeOf Flush life = life ≡ LONGEST_LIFE
 
 -- a type that a kind has: a name error and a flush have none, the others one that data can have
-abbrev pub IsTypeOf : Kind → ℕ → Type 0
+abbrev pub IsTypeOf : Kind → RType → Type 0
 IsTypeOf Positive rtype = IsDataType rtype
 IsTypeOf NoData rtype = IsDataType rtype
 IsTypeOf NameError rtype = rtype ≡ 0
 IsTypeOf Flush rtype = rtype ≡ 0
 
 -- how many RDATAs a type has: at least one, and an alias one alone (RFC 2181 10.1)
-abbrev pub IsCountOf : ℕ → ℕ → Type 0
+abbrev pub IsCountOf : RType → ℕ → Type 0
 IsCountOf rtype count = (0 < count) × (rtype ≡ CNAME → count ≡ 1)
 
 -- of four checks the fault's is the first that fails
@@ -52,30 +54,30 @@ abbrev pub denied_kind : Option ℕ → Kind
 denied_kind None = NameError
 denied_kind (Some rtype) = NoData
 
-abbrev pub denied_type : Option ℕ → ℕ
+abbrev pub denied_type : Option RType → ℕ
 denied_type rtype = unwrap_or rtype 0
 
 -- these values make a positive observation
-pub record MakesPositive (rtype rank life : ℕ) (rdatas : List (List ℕ)) : Type 0 where
+pub record MakesPositive (rtype : RType) (rank : ℕ) (life : Seconds) (rdatas : List OctetList) : Type 0 where
   pub ranked : IsRank rank
   pub lasts : IsLife LONGEST_LIFE life
   pub typed : IsDataType rtype
   pub body : AreRdatas rtype rdatas
 
-abbrev pub IsPositiveFault : ℕ → ℕ → ℕ → List (List ℕ) → ObservationFault → Type 0
+abbrev pub IsPositiveFault : RType → ℕ → Seconds → List OctetList → ObservationFault → Type 0
 IsPositiveFault rtype rank life rdatas =
     IsFirstToFail (IsRank rank) (IsLife LONGEST_LIFE life) (IsDataType rtype)
     (AreRdatas rtype rdatas)
 
 -- these values make a negative one
-pub record MakesNegative (name : List (List ℕ)) (rtype : Option ℕ) (rank life : ℕ)
-    (owner : List (List ℕ)) (rdata : List ℕ) : Type 0 where
+pub record MakesNegative (name : Labels) (rtype : Option RType) (rank : ℕ) (life : Seconds)
+    (owner : Labels) (rdata : OctetList) : Type 0 where
   pub ranked : IsDenialRank rank
   pub lasts : IsLife LONGEST_DENIAL life
   pub typed : IsDeniedType rtype
   pub body : IsDenial name owner rdata
 
-abbrev pub IsNegativeFault : List (List ℕ) → Option ℕ → ℕ → ℕ → List (List ℕ) → List ℕ
+abbrev pub IsNegativeFault : Labels → Option RType → ℕ → Seconds → Labels → OctetList
     → ObservationFault → Type 0
 IsNegativeFault name rtype rank life owner rdata = IsFirstToFail (IsDenialRank rank)
     (IsLife LONGEST_DENIAL life) (IsDeniedType rtype) (IsDenial name owner rdata)

@@ -1,5 +1,7 @@
 -- What a digest says, as plain data.
 use Rattle.std.specs.Prelude.{◌≡◌, ◌≢◌, ℕ, length, ◌≤◌, ◌<◌, Bool, List, [], ◌∷◌, Option, Some, None}
+use Rattle.fleet_name.specs.Types.{Labels, OctetList}
+use Rattle.fleet_wire.specs.Types.{RType}
 use Rattle.fleet_name.specs.Name.{labels_of, IsName, IsUnder}
 use Rattle.fleet_wire.specs.Shape.{IsPlain}
 use Rattle.fleet_wire.specs.declared.rtype.TheConstants.{CNAME, SOA}
@@ -21,8 +23,8 @@ pub data EndData : Type 0 where
 
 -- what a reply tells
 pub record DigestData : Type 0 where
-  pub name : List (List ℕ)
-  pub rtype : ℕ
+  pub name : Labels
+  pub rtype : RType
   pub aa : Bool
   pub chain : List RrSetData
   pub end : EndData
@@ -36,17 +38,17 @@ end_data (Code c) = WithCode c
 end_data Truncated = CutOff
 
 -- the first of the RDATAs, or else these octets
-abbrev pub first_or : List ℕ → List (List ℕ) → List ℕ
+abbrev pub first_or : OctetList → List OctetList → OctetList
 first_or octets [] = octets
 first_or octets (d ∷ ds) = d
 
 -- the target of an alias: the name that its RDATA is
-abbrev pub target_of : List (List ℕ) → List (List ℕ) → List (List ℕ)
+abbrev pub target_of : Labels → Labels → Labels
 target_of n [] = n
 target_of n (d ∷ ds) = labels_of d
 
 -- the name where the walk ended: the question's, or the last link's target
-abbrev pub denied_by : List (List ℕ) → List RrSetData → List (List ℕ)
+abbrev pub denied_by : Labels → List RrSetData → Labels
 denied_by n [] = n
 denied_by n (x ∷ xs) = denied_by (target_of n x.rdatas) xs
 
@@ -57,7 +59,7 @@ pub record IsLawfulSet (x : RrSetData) : Type 0 where
   pub ttl : x.ttl ≤ LONGEST_LIFE
   pub some : x.rdatas ≢ []
   pub ascending : IsAscending x.rdatas
-  pub plain : (d : List ℕ) → Has x.rdatas d → IsPlain x.rtype d
+  pub plain : (d : OctetList) → Has x.rdatas d → IsPlain x.rtype d
   pub alone : x.rtype ≡ CNAME → length x.rdatas ≡ 1
 
 -- a link as programs have it
@@ -66,13 +68,13 @@ pub record IsLawfulLink (x : RrSetData) : Type 0 where
   pub alias : x.rtype ≡ CNAME
 
 -- an SOA that counts for the denied name n, as programs have it
-pub record IsLawfulSoa (n : List (List ℕ)) (x : SoaData) : Type 0 where
+pub record IsLawfulSoa (n : Labels) (x : SoaData) : Type 0 where
   pub owner : IsName x.owner
   pub under : IsUnder n x.owner
   pub ttl : x.ttl ≤ LONGEST_DENIAL
   pub plain : IsPlain SOA x.rdata
 
-abbrev pub IsLawfulEnd : List (List ℕ) → EndData → Type 0
+abbrev pub IsLawfulEnd : Labels → EndData → Type 0
 IsLawfulEnd n (WithRecords x) = IsLawfulSet x
 IsLawfulEnd n (WithoutData None) = Unit {0}
 IsLawfulEnd n (WithoutData (Some x)) = IsLawfulSoa n x

@@ -1,5 +1,7 @@
 -- What a reply means (RFC 1034 3.6.2, RFC 2308 2 and 5).
-use Rattle.std.specs.Prelude.{◌≡◌, ℕ, ◌-◌, ◌⊎◌, true, false, List, [], ◌∷◌, ◌++◌, length, min, Option, Some, None}
+use Rattle.std.specs.Prelude.{◌≡◌, ◌-◌, ◌⊎◌, true, false, List, [], ◌∷◌, ◌++◌, length, min, Option, Some, None}
+use Rattle.fleet_name.specs.Types.{Labels, OctetList}
+use Rattle.fleet_wire.specs.Types.{Seconds}
 use Rattle.fleet_name.specs.Name.{IsUnder}
 use Rattle.fleet_wire.specs.Number.{u32_at}
 use Rattle.fleet_wire.specs.Record.{RecordData}
@@ -58,35 +60,35 @@ pub record IsFirstSoa (s : List RecordData) (r : RecordData) : Type 0 where
   pub soa : IsSoaRecord r
 
 -- MINIMUM: the last four octets of an SOA's RDATA, as a number
-abbrev pub minimum_of : List ℕ → ℕ
+abbrev pub minimum_of : OctetList → Seconds
 minimum_of d = u32_at d (length d - 4)
 
 -- how long a denial holds (RFC 2308 5)
-abbrev pub soa_ttl : RecordData → ℕ
+abbrev pub soa_ttl : RecordData → Seconds
 soa_ttl r = min (min (read_ttl r.ttl) (read_ttl (minimum_of r.rdata))) LONGEST_DENIAL
 
 -- the SOA that counts for the name n: the first one, if n is its owner or below it
-pub record CountsFor (s : List RecordData) (n : List (List ℕ)) (r : RecordData) : Type 0 where
+pub record CountsFor (s : List RecordData) (n : Labels) (r : RecordData) : Type 0 where
   pub first : IsFirstSoa s r
   pub under : IsUnder n r.name
 
 -- there is such an SOA
-abbrev pub HasSoa : List RecordData → List (List ℕ) → Type 0
+abbrev pub HasSoa : List RecordData → Labels → Type 0
 HasSoa s n = (r : RecordData) × CountsFor s n r
 
-pub record IsSoaOf (s : List RecordData) (n : List (List ℕ)) (x : SoaData) : Type 0 where
+pub record IsSoaOf (s : List RecordData) (n : Labels) (x : SoaData) : Type 0 where
   pub carrier : RecordData
   pub counts : CountsFor s n carrier
   pub owner : x.owner ≡ carrier.name
   pub ttl : x.ttl ≡ soa_ttl carrier
   pub rdata : x.rdata ≡ carrier.rdata
 
-abbrev pub IsSoa : List RecordData → List (List ℕ) → Option SoaData → Type 0
+abbrev pub IsSoa : List RecordData → Labels → Option SoaData → Type 0
 IsSoa s n None = (r : RecordData) → ¬ CountsFor s n r
 IsSoa s n (Some x) = IsSoaOf s n x
 
 -- how a walk ends at name n
-abbrev pub IsEnd : MessageData → List (List ℕ) → EndData → Type 0
+abbrev pub IsEnd : MessageData → Labels → EndData → Type 0
 IsEnd r n (WithRecords x) = IsRrSet r.answer n r.question.rtype x
 IsEnd r n (WithoutData soa) =
     EndsBare r.answer r.question.rtype n × (r.header.rcode ≡ NO_ERROR) × IsSoa r.authority n soa
@@ -98,7 +100,7 @@ IsEnd r n CutOff = ⊥
 -- the chain and the end of a reply with a walk
 pub record TellsWalk (r : MessageData) (chain : List RrSetData) (e : EndData) : Type 0 where
   pub asks : AsksWalk r
-  pub later : List (List (List ℕ))
+  pub later : List Labels
   pub walk : IsWalk r.answer r.question.rtype r.question.name later
   pub links : AreLinks r.answer r.question.name later chain
   pub end_is : IsEnd r (last r.question.name later) e
@@ -113,39 +115,39 @@ Tells r chain (WithoutData soa) = TellsWalk r chain (WithoutData soa)
 Tells r chain (WithoutName soa) = TellsWalk r chain (WithoutName soa)
 
 -- an authority NS record at the question's name or an ancestor of it
-pub record IsNs (q : List (List ℕ)) (r : RecordData) : Type 0 where
+pub record IsNs (q : Labels) (r : RecordData) : Type 0 where
   pub class : r.class ≡ IN
   pub rtype : r.rtype ≡ NS
   pub above : IsUnder q r.name
 
 -- there is such a record
-abbrev pub HasNs : List (List ℕ) → List RecordData → Type 0
+abbrev pub HasNs : Labels → List RecordData → Type 0
 HasNs q s = (r : RecordData) × Has s r × IsNs q r
 
 -- an earlier one of such records has the owner of r
-pub record IsRepeated (q : List (List ℕ)) (before : List RecordData) (r : RecordData) : Type 0 where
+pub record IsRepeated (q : Labels) (before : List RecordData) (r : RecordData) : Type 0 where
   pub earlier : RecordData
   pub member : Has before earlier
   pub ns : IsNs q earlier
   pub same : earlier.name ≡ r.name
 
 -- the owners of such records, in order of first appearance
-abbrev pub AreOwners : List (List ℕ) → List RecordData → List RecordData → List (List (List ℕ))
+abbrev pub AreOwners : Labels → List RecordData → List RecordData → List Labels
     → Type 0
 AreOwners q before [] os = os ≡ []
 AreOwners q before (r ∷ rs) os =
     (IsNs q r × (¬ IsRepeated q before r)
-    × ((rest : List (List (List ℕ))) × (os ≡ r.name ∷ rest)
+    × ((rest : List Labels) × (os ≡ r.name ∷ rest)
     × AreOwners q (before ++ r ∷ []) rs rest))
     ⊎ (((¬ IsNs q r) ⊎ IsRepeated q before r) × AreOwners q (before ++ r ∷ []) rs os)
 
-abbrev pub owners_of : List RrSetData → List (List (List ℕ))
+abbrev pub owners_of : List RrSetData → List Labels
 owners_of [] = []
 owners_of (x ∷ xs) = x.name ∷ owners_of xs
 
 -- the NS RRsets of the authority section at the name q and its ancestors, in order of first
 -- appearance
-pub record AreNsSets (q : List (List ℕ)) (s : List RecordData) (sets : List RrSetData) : Type 0
+pub record AreNsSets (q : Labels) (s : List RecordData) (sets : List RrSetData) : Type 0
   where
     pub owners : AreOwners q [] s (owners_of sets)
     pub each : (x : RrSetData) → Has sets x → IsRrSet s x.name NS x

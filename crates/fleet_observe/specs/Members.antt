@@ -1,8 +1,9 @@
 -- What lists have in them, and lists of octets in ascending order.
-use Rattle.std.specs.Prelude.{◌≡◌, ℕ, List, [], ◌∷◌}
+use Rattle.std.specs.Prelude.{◌≡◌, List, [], ◌∷◌}
 use Rattle.std.specs.declared.cmp.Ordering.TheVariants.{Less}
 use Rattle.std.specs.Ordering.{nat_cmp}
 use Rattle.std.specs.Cmp.Lexicographic.{slice_cmp}
+use Rattle.fleet_name.specs.Types.{OctetList}
 pub use Rattle.fleet_name.specs.Places.{Has}
 
 -- no two of the values are equal
@@ -11,6 +12,6 @@ AllDistinct [] = Unit {0}
 AllDistinct (x ∷ xs) = (Has xs x → ⊥) × AllDistinct xs
 
 -- each stands before all greater ones and none stands twice: as octets, a proper prefix first
-abbrev pub IsAscending : List (List ℕ) → Type 0
+abbrev pub IsAscending : List OctetList → Type 0
 IsAscending [] = Unit {0}
-IsAscending (x ∷ xs) = ((y : List ℕ) → Has xs y → slice_cmp nat_cmp x y ≡ Less) × IsAscending xs
+IsAscending (x ∷ xs) = ((y : OctetList) → Has xs y → slice_cmp nat_cmp x y ≡ Less) × IsAscending xs

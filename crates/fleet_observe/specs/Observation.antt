@@ -1,5 +1,7 @@
 -- An observation as plain data.
 use Rattle.std.specs.Prelude.{◌≡◌, ◌≢◌, ℕ, ◌+◌, ◌<◌, ◌≤◌, ◌⊎◌, List, [], ◌∷◌, ◌++◌}
+use Rattle.fleet_name.specs.Types.{Labels, OctetList}
+use Rattle.fleet_wire.specs.Types.{RType, Seconds}
 use Rattle.fleet_name.specs.Name.{wire, IsName}
 use Rattle.fleet_wire.specs.Number.{u16_octets}
 use Rattle.fleet_observe.specs.Members.{Has}
@@ -13,12 +15,16 @@ use Rattle.fleet_observe.specs.declared.observation.kind.Kind.TheVariants.{NameE
 -- rank, the moment and the life in seconds
 pub record ObservationData : Type 0 where
   pub kind : Kind
-  pub name : List (List ℕ)
-  pub rtype : ℕ
-  pub body : List ℕ
+  pub name : Labels
+  pub rtype : RType
+  pub body : OctetList
   pub rank : ℕ
-  pub stamp : ℕ
-  pub life : ℕ
+  pub stamp : Seconds
+  pub life : Seconds
+
+-- observations, in the order in which they came or are listed
+abbrev pub Observations : Type 0
+Observations = List ObservationData
 
 -- the kinds by number, as keys and frames have them
 abbrev pub kind_number : Kind → ℕ
@@ -36,15 +42,15 @@ abbrev pub expires : ObservationData → ℕ
 expires o = o.stamp + o.life
 
 -- the octets of a key: the name in full, the kind's number, the type in two octets
-abbrev pub key_at : List (List ℕ) → Kind → ℕ → List ℕ
+abbrev pub key_at : Labels → Kind → RType → OctetList
 key_at name kind rtype = wire name ++ kind_number kind ∷ u16_octets rtype
 
-abbrev pub key_of : ObservationData → List ℕ
+abbrev pub key_of : ObservationData → OctetList
 key_of o = key_at o.name o.kind o.rtype
 
 -- a key is of one name, one kind and one type
 abbrev pub OneKey : Type 0
-OneKey = (n m : List (List ℕ)) (k j : Kind) (r q : ℕ) → key_at n k r ≡ key_at m j q
+OneKey = (n m : Labels) (k j : Kind) (r q : RType) → key_at n k r ≡ key_at m j q
     → (n ≡ m) × (k ≡ j) × (r ≡ q)
 
 -- a rank
@@ -56,11 +62,11 @@ abbrev pub IsDenialRank : ℕ → Type 0
 IsDenialRank rank = (rank ≡ OTHER) ⊎ (rank ≡ ANSWER)
 
 -- a life, in seconds
-abbrev pub IsLife : ℕ → ℕ → Type 0
+abbrev pub IsLife : ℕ → Seconds → Type 0
 IsLife most life = (1 ≤ life) × (life ≤ most)
 
 -- a type that data can have: not 0, not OPT (41) and not one of 128 to 255 (RFC 6895 3.1)
-pub record IsDataType (rtype : ℕ) : Type 0 where
+pub record IsDataType (rtype : RType) : Type 0 where
   pub short : rtype < 65536
   pub some : rtype ≢ 0
   pub no_option : rtype ≢ 41
@@ -86,7 +92,7 @@ pub record IsFlush (o : ObservationData) : Type 0 where
 
 -- the flush of a name at a moment: what was observed of the name, and of those below it, up to the
 -- moment is withdrawn
-abbrev pub flush_at : List (List ℕ) → ℕ → ObservationData
+abbrev pub flush_at : Labels → Seconds → ObservationData
 flush_at name stamp = record {
   kind = Flush;
   name = name;
@@ -109,5 +115,5 @@ pub record IsObservation (o : ObservationData) : Type 0 where
   pub flush : o.kind ≡ Flush → IsFlush o
 
 -- every member is what an observation is
-abbrev pub AreObservations : List ObservationData → Type 0
+abbrev pub AreObservations : Observations → Type 0
 AreObservations s = (o : ObservationData) → Has s o → IsObservation o

@@ -1,11 +1,13 @@
 -- The observations of a reply (RFC 2181 5.4.1, RFC 2308 5).
 use Rattle.std.specs.Prelude.{◌≡◌, ℕ, Bool, ◌&&◌, List, [], ◌∷◌, ◌++◌, length, if◌then◌else◌, nat_eq, nat_lt, Option, Some, None}
 use Rattle.std.specs.Str.{bytes_eq}
+use Rattle.fleet_name.specs.Types.{Labels}
+use Rattle.fleet_wire.specs.Types.{RType, Seconds}
 use Rattle.fleet_name.specs.Name.{wire}
 use Rattle.fleet_wire.specs.Message.{MessageData}
 use Rattle.fleet_observe.specs.Members.{AllDistinct}
 use Rattle.fleet_observe.specs.Body.{positive_body, negative_body}
-use Rattle.fleet_observe.specs.Observation.{ObservationData}
+use Rattle.fleet_observe.specs.Observation.{ObservationData, Observations}
 use Rattle.fleet_observe.specs.RrSet.{RrSetData}
 use Rattle.fleet_observe.specs.Soa.{SoaData}
 use Rattle.fleet_observe.specs.Digest.{EndData, WithRecords, WithoutData, WithoutName, WithCode, CutOff, DigestData, denied_by}
@@ -16,15 +18,15 @@ use Rattle.fleet_observe.specs.declared.rank.TheConstants.{OTHER, AUTHORITY, ANS
 use Rattle.fleet_observe.specs.declared.observation.kind.Kind.TheVariants.{NameError, NoData, Positive}
 
 -- the observation alone; none where it has no life
-abbrev pub living_observation : ObservationData → List ObservationData
+abbrev pub living_observation : ObservationData → Observations
 living_observation f = if nat_eq f.life 0 then [] else f ∷ []
 
 -- the same; none where its body passes LONGEST_BODY
-abbrev pub fitting_observation : ObservationData → List ObservationData
+abbrev pub fitting_observation : ObservationData → Observations
 fitting_observation f = if nat_lt LONGEST_BODY (length f.body) then [] else living_observation f
 
 -- the observation of an RRset
-abbrev pub set_observation : RrSetData → ℕ → ℕ → ObservationData
+abbrev pub set_observation : RrSetData → ℕ → Seconds → ObservationData
 set_observation x rank stamp = record {
   kind = Positive;
   name = x.name;
@@ -35,11 +37,11 @@ set_observation x rank stamp = record {
   life = x.ttl;
 }
 
-abbrev pub positive_observations : RrSetData → ℕ → ℕ → List ObservationData
+abbrev pub positive_observations : RrSetData → ℕ → Seconds → Observations
 positive_observations x rank stamp = fitting_observation (set_observation x rank stamp)
 
 -- the observation of a denial
-abbrev pub soa_observation : Kind → List (List ℕ) → ℕ → ℕ → ℕ → SoaData → ObservationData
+abbrev pub soa_observation : Kind → Labels → RType → ℕ → Seconds → SoaData → ObservationData
 soa_observation kind n t rank stamp x = record {
   kind = kind;
   name = n;
@@ -51,14 +53,14 @@ soa_observation kind n t rank stamp x = record {
 }
 
 -- none without an SOA
-abbrev pub denial_observations : Kind → List (List ℕ) → ℕ → ℕ → ℕ → Option SoaData
-    → List ObservationData
+abbrev pub denial_observations : Kind → Labels → RType → ℕ → Seconds → Option SoaData
+    → Observations
 denial_observations kind n t rank stamp None = []
 denial_observations kind n t rank stamp (Some x) = living_observation
     (soa_observation kind n t rank stamp x)
 
 -- the rank of an answer RRset: ANSWER with AA set where the question's name owns it, else OTHER
-abbrev pub answer_rank : Bool → List (List ℕ) → List (List ℕ) → ℕ
+abbrev pub answer_rank : Bool → Labels → Labels → ℕ
 answer_rank aa q owner = if aa && bytes_eq (wire owner) (wire q) then ANSWER else OTHER
 
 -- the rank of a denial: ANSWER with AA set and no link, else OTHER
@@ -66,12 +68,12 @@ abbrev pub denial_rank : Bool → List RrSetData → ℕ
 denial_rank aa [] = if aa then ANSWER else OTHER
 denial_rank aa (x ∷ xs) = OTHER
 
-abbrev pub link_observations : Bool → List (List ℕ) → ℕ → List RrSetData → List ObservationData
+abbrev pub link_observations : Bool → Labels → Seconds → List RrSetData → Observations
 link_observations aa q stamp [] = []
 link_observations aa q stamp (x ∷ xs) =
     positive_observations x (answer_rank aa q x.name) stamp ++ link_observations aa q stamp xs
 
-abbrev pub end_observations : DigestData → ℕ → EndData → List ObservationData
+abbrev pub end_observations : DigestData → Seconds → EndData → Observations
 end_observations d stamp (WithRecords x) = positive_observations x (answer_rank d.aa d.name x.name)
     stamp
 end_observations d stamp (WithoutData soa) =
@@ -84,18 +86,18 @@ end_observations d stamp (WithCode c) = []
 end_observations d stamp CutOff = []
 
 -- those of the NS RRsets that the reply is an authority for
-abbrev pub ns_observations : ℕ → List RrSetData → List ObservationData
+abbrev pub ns_observations : Seconds → List RrSetData → Observations
 ns_observations stamp [] = []
 ns_observations stamp (x ∷ xs) = positive_observations x AUTHORITY stamp ++ ns_observations stamp xs
 
 -- the links, the records or the denial, and the NS RRsets
-abbrev pub reply_observations : DigestData → ℕ → List ObservationData
+abbrev pub reply_observations : DigestData → Seconds → Observations
 reply_observations d stamp =
     link_observations d.aa d.name stamp d.chain
     ++ (end_observations d stamp d.end ++ ns_observations stamp d.ns)
 
 -- these are the observations of the reply at the moment, in order
-pub record IsObserved (r : MessageData) (stamp : ℕ) (os : List ObservationData) : Type 0 where
+pub record IsObserved (r : MessageData) (stamp : Seconds) (os : Observations) : Type 0 where
   pub digest : DigestData
   pub meaning : IsMeaning r digest
   pub are : os ≡ reply_observations digest stamp
@@ -107,11 +109,11 @@ OneMeaning = (r : MessageData) (a b : DigestData) → IsMeaning r a → IsMeanin
 -- and one list of observations is its list at a moment
 abbrev pub OneObserved : Type 0
 OneObserved =
-    (r : MessageData) (stamp : ℕ) (a b : List ObservationData) → IsObserved r stamp a
+    (r : MessageData) (stamp : Seconds) (a b : Observations) → IsObserved r stamp a
     → IsObserved r stamp b → a ≡ b
 
 -- and in that list each observation stands once
 abbrev pub EachOnce : Type 0
 EachOnce =
-    (r : MessageData) (stamp : ℕ) (os : List ObservationData) → IsObserved r stamp os
+    (r : MessageData) (stamp : Seconds) (os : Observations) → IsObserved r stamp os
     → AllDistinct os

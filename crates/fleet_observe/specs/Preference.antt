@@ -1,19 +1,19 @@
 -- Which of two observations is preferred.
-use Rattle.std.specs.Prelude.{ℕ, List}
 use Rattle.std.specs.declared.cmp.Ordering.{Ordering}
 use Rattle.std.specs.Ordering.{nat_cmp, ordering_then}
 use Rattle.std.specs.Cmp.{IsTotalOrder}
 use Rattle.std.specs.Cmp.Lexicographic.{slice_cmp}
 use Rattle.std.proofs.lemmas.Cmp.{on_total, then_total, nat_cmp_total, nat_list_cmp_total}
+use Rattle.fleet_name.specs.Types.{Labels, OctetList}
 use Rattle.fleet_name.specs.Name.{wire}
 use Rattle.fleet_observe.specs.Observation.{ObservationData, expires, kind_number}
 
 -- octets in order, a proper prefix first
-abbrev pub octets_cmp : List ℕ → List ℕ → Ordering
+abbrev pub octets_cmp : OctetList → OctetList → Ordering
 octets_cmp = slice_cmp nat_cmp
 
 -- names by their octets in full
-abbrev pub name_cmp : List (List ℕ) → List (List ℕ) → Ordering
+abbrev pub name_cmp : Labels → Labels → Ordering
 name_cmp a b = octets_cmp (wire a) (wire b)
 
 -- by rank, stamp, end, kind, type, name octets and body octets, one after the other: the greater is

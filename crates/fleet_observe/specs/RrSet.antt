@@ -2,6 +2,8 @@
 use Rattle.std.specs.Prelude.{◌≡◌, ℕ, ◌≤◌, List, [], ◌∷◌, if◌then◌else◌, nat_le, min, suc}
 use Rattle.std.specs.Ordering.{nat_cmp, is_lt}
 use Rattle.std.specs.Cmp.Lexicographic.{slice_cmp}
+use Rattle.fleet_name.specs.Types.{Labels, OctetList}
+use Rattle.fleet_wire.specs.Types.{RType, Seconds}
 use Rattle.fleet_name.specs.Name.{wire, labels_of, IsName}
 use Rattle.fleet_wire.specs.Record.{RecordData}
 use Rattle.fleet_wire.specs.declared.class.TheConstants.{IN}
@@ -11,39 +13,39 @@ use Rattle.fleet_observe.specs.declared.bounds.TheConstants.{LONGEST_LIFE}
 use Rattle.fleet_observe.specs.declared.reply.rows.Rows.{Rows}
 
 -- octets that are a name in full
-pub record SpellsName (octets : List ℕ) : Type 0 where
+pub record SpellsName (octets : OctetList) : Type 0 where
   pub whole : octets ≡ wire (labels_of octets)
   pub named : IsName (labels_of octets)
 
 -- the record is of the RRset at name n and type t
-pub record Belongs (n : List (List ℕ)) (t : ℕ) (r : RecordData) : Type 0 where
+pub record Belongs (n : Labels) (t : RType) (r : RecordData) : Type 0 where
   pub class : r.class ≡ IN
   pub rtype : r.rtype ≡ t
   pub typed : IsDataType t
   pub owner : r.name ≡ n
 
 -- d is an RDATA of the RRset
-pub record InSet (s : List RecordData) (n : List (List ℕ)) (t : ℕ) (d : List ℕ) : Type 0 where
+pub record InSet (s : List RecordData) (n : Labels) (t : RType) (d : OctetList) : Type 0 where
   pub carrier : RecordData
   pub member : Has s carrier
   pub belongs : Belongs n t carrier
   pub rdata : carrier.rdata ≡ d
 
 -- there is no RRset
-abbrev pub IsEmpty : List RecordData → List (List ℕ) → ℕ → Type 0
-IsEmpty s n t = (d : List ℕ) → ¬ InSet s n t d
+abbrev pub IsEmpty : List RecordData → Labels → RType → Type 0
+IsEmpty s n t = (d : OctetList) → ¬ InSet s n t d
 
 -- d is its only RDATA
-pub record IsOnly (s : List RecordData) (n : List (List ℕ)) (t : ℕ) (d : List ℕ) : Type 0 where
+pub record IsOnly (s : List RecordData) (n : Labels) (t : RType) (d : OctetList) : Type 0 where
   pub member : InSet s n t d
-  pub only : (e : List ℕ) → InSet s n t e → d ≡ e
+  pub only : (e : OctetList) → InSet s n t e → d ≡ e
 
 -- a TTL as it is read: zero with its top bit set (RFC 2181 8), and at most a day
-abbrev pub read_ttl : ℕ → ℕ
+abbrev pub read_ttl : Seconds → Seconds
 read_ttl ttl = if nat_le 2147483648 ttl then 0 else min ttl LONGEST_LIFE
 
 -- the least TTL of the RRset (RFC 2181 5.2)
-pub record IsTtl (s : List RecordData) (n : List (List ℕ)) (t ttl : ℕ) : Type 0 where
+pub record IsTtl (s : List RecordData) (n : Labels) (t : RType) (ttl : Seconds) : Type 0 where
   pub carrier : RecordData
   pub member : Has s carrier
   pub belongs : Belongs n t carrier
@@ -52,25 +54,25 @@ pub record IsTtl (s : List RecordData) (n : List (List ℕ)) (t ttl : ℕ) : Typ
 
 -- an RRset, as plain data
 pub record RrSetData : Type 0 where
-  pub name : List (List ℕ)
-  pub rtype : ℕ
-  pub ttl : ℕ
-  pub rdatas : List (List ℕ)
+  pub name : Labels
+  pub rtype : RType
+  pub ttl : Seconds
+  pub rdatas : List OctetList
 
 -- x is the RRset of the section at name n and type t, and there is one
-pub record IsRrSet (s : List RecordData) (n : List (List ℕ)) (t : ℕ) (x : RrSetData) : Type 0 where
+pub record IsRrSet (s : List RecordData) (n : Labels) (t : RType) (x : RrSetData) : Type 0 where
   pub name : x.name ≡ n
   pub rtype : x.rtype ≡ t
   pub ttl : IsTtl s n t x.ttl
   pub ascending : IsAscending x.rdatas
-  pub of_section : (d : List ℕ) → Has x.rdatas d → InSet s n t d
-  pub whole : (d : List ℕ) → InSet s n t d → Has x.rdatas d
+  pub of_section : (d : OctetList) → Has x.rdatas d → InSet s n t d
+  pub whole : (d : OctetList) → InSet s n t d → Has x.rdatas d
 
 -- records of one owner and type that are lent
 abbrev pub rrset_of_rows : {A : Type 0} → Rows A → RrSetData
 rrset_of_rows r = record { name = r.name.now; rtype = r.rtype; ttl = r.ttl; rdatas = r.rdatas.now }
 
 -- how many of the RDATAs at the front are less than d
-abbrev pub count_below : List ℕ → List (List ℕ) → ℕ
+abbrev pub count_below : OctetList → List OctetList → ℕ
 count_below d [] = 0
 count_below d (y ∷ ys) = if is_lt (slice_cmp nat_cmp y d) then suc (count_below d ys) else 0

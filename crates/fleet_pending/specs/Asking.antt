@@ -1,6 +1,7 @@
 -- What each call answers and leaves.
 use Rattle.std.specs.Prelude.{◌≡◌, ℕ, ◌+◌, ◌<◌, ◌≤◌, Bool, true, false, List, [], ◌∷◌, ◌++◌, Option, Some, None, Result, Ok, Err, length, slice_set}
 use Rattle.std.specs.List.{remove}
+use Rattle.fleet_wire.specs.Types.{Seconds}
 use Rattle.fleet_pending.specs.Waiter.{WaiterData, Waits}
 use Rattle.fleet_pending.specs.PendingData.{EntryData, PendingData, UsesId, AsksFor}
 use Rattle.fleet_pending.specs.FreeId.{IsFirstFree}
@@ -21,7 +22,7 @@ abbrev pub with_waiter : EntryData → WaiterData → EntryData
 with_waiter e w = record e { waiters = e.waiters ++ w ∷ [] }
 
 -- what a waiter opens: its question, asked of the first upstream
-abbrev pub new_entry : WaiterData → ℕ → ℕ → EntryData
+abbrev pub new_entry : WaiterData → Seconds → ℕ → EntryData
 new_entry w moment id = record {
   name = w.question.name;
   rtype = w.question.rtype;
@@ -31,7 +32,7 @@ new_entry w moment id = record {
   waiters = w ∷ [];
 }
 
-abbrev pub with_next_upstream : EntryData → ℕ → EntryData
+abbrev pub with_next_upstream : EntryData → Seconds → EntryData
 with_next_upstream e moment =
     record e { upstream = e.upstream + 1; deadline = moment + TRY_SECONDS }
 
@@ -47,7 +48,7 @@ pub data Joins (e : EntryData) (w : WaiterData) (r : Result Asked PendingFault) 
       → r ≡ Err OutOfMemory → f ≡ e → Joins e w r f
 
 -- the waiter's question is new: where there is room for it, it goes to the first upstream
-pub data Opens (es : List EntryData) (w : WaiterData) (moment word : ℕ)
+pub data Opens (es : List EntryData) (w : WaiterData) (moment : Seconds) (word : ℕ)
     (r : Result Asked PendingFault) (fs : List EntryData) : Type 0 where
   is_sent : (id : ℕ) → length es < MOST_ENTRIES → IsFirstFree word es id → r ≡ Ok (Send 0 id)
       → fs ≡ es ++ new_entry w moment id ∷ [] → Opens es w moment word r fs
@@ -56,7 +57,7 @@ pub data Opens (es : List EntryData) (w : WaiterData) (moment word : ℕ)
       → Opens es w moment word r fs
 
 -- a waiter asks: there is an entry for its question, or it is new
-pub data Asks (o : PendingData) (w : WaiterData) (moment word : ℕ) (r : Result Asked PendingFault)
+pub data Asks (o : PendingData) (w : WaiterData) (moment : Seconds) (word : ℕ) (r : Result Asked PendingFault)
     (n : PendingData) : Type 0 where
   joins : (i : ℕ) (e f : EntryData) → At o.entries i e → AsksFor w.question e → Joins e w r f
       → n ≡ record o { entries = slice_set o.entries i f } → Asks o w moment word r n
@@ -71,7 +72,7 @@ Settles o id (Some e) n =
     (i : ℕ) × At o.entries i e × UsesId id e × (n ≡ record o { entries = remove o.entries i })
 
 -- the entry with this id goes on to the next upstream, if there is one
-abbrev pub Advances : PendingData → ℕ → ℕ → Bool → PendingData → Type 0
+abbrev pub Advances : PendingData → ℕ → Seconds → Bool → PendingData → Type 0
 Advances o id moment true n =
     (i : ℕ)
     × ((e : EntryData) × At o.entries i e × UsesId id e × (e.upstream + 1 < o.upstreams)

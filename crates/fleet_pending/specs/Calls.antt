@@ -1,6 +1,7 @@
 -- Any list of calls.
 use Rattle.std.specs.Prelude.{◌≡◌, ℕ, Bool, List, [], ◌∷◌, ◌++◌, Option, Some, None, Result, Ok, Err}
 use Rattle.std.specs.List.{count_by, flat_map}
+use Rattle.fleet_wire.specs.Types.{Seconds}
 use Rattle.fleet_pending.specs.Waiter.{WaiterData}
 use Rattle.fleet_pending.specs.PendingData.{EntryData, PendingData}
 use Rattle.fleet_pending.specs.Asking.{Asks, Settles, Advances}
@@ -10,9 +11,9 @@ use Rattle.fleet_pending.specs.declared.answer.PendingFault.{PendingFault}
 
 -- a call that may change the table, with its answer, or with those who waited when it was cleared
 pub data Call : Type 0 where
-  ask : (waiter : WaiterData) → (moment word : ℕ) → (answer : Result Asked PendingFault) → Call
+  ask : (waiter : WaiterData) → (moment : Seconds) (word : ℕ) → (answer : Result Asked PendingFault) → Call
   settle : (id : ℕ) → (answer : Option EntryData) → Call
-  advance : (id moment : ℕ) → (answer : Bool) → Call
+  advance : (id : ℕ) (moment : Seconds) → (answer : Bool) → Call
   clear : (waiters : List WaiterData) → Call
 
 abbrev pub open_waiters : PendingData → List WaiterData

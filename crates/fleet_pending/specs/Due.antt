@@ -1,5 +1,6 @@
 -- What is to be done first at a moment.
 use Rattle.std.specs.Prelude.{◌≡◌, ℕ, ◌+◌, ◌<◌, ◌≤◌, ◌⊎◌, List, Option, Some, None, count_by, nat_le}
+use Rattle.fleet_wire.specs.Types.{Seconds}
 use Rattle.fleet_pending.specs.PendingData.{EntryData, PendingData}
 use Rattle.fleet_name.specs.Places.{At, NoneIs}
 use Rattle.fleet_pending.specs.declared.answer.Due.{Due}
@@ -14,17 +15,17 @@ abbrev pub NotAfter : EntryData → EntryData → Type 0
 NotAfter a b = (a.deadline < b.deadline) ⊎ ((a.deadline ≡ b.deadline) × (a.id ≤ b.id))
 
 -- e is the entry to be served first at this moment
-pub record IsFirstDue (es : List EntryData) (moment : ℕ) (e : EntryData) : Type 0 where
+pub record IsFirstDue (es : List EntryData) (moment : Seconds) (e : EntryData) : Type 0 where
   pub place : ℕ
   pub there : At es place e
   pub due : e.deadline ≤ moment
   pub first : (j : ℕ) (f : EntryData) → At es j f → f.deadline ≤ moment → NotAfter e f
 
-abbrev pub NoneDue : List EntryData → ℕ → Type 0
+abbrev pub NoneDue : List EntryData → Seconds → Type 0
 NoneDue es moment = NoneIs (λ e. e.deadline ≤ moment) es
 
 -- nothing, the next upstream for the first due entry, or its failure after the last
-abbrev pub Dues : {A : Type 0} → PendingData → ℕ → Option (Due A) → Type 0
+abbrev pub Dues : {A : Type 0} → PendingData → Seconds → Option (Due A) → Type 0
 Dues o moment None = NoneDue o.entries moment
 Dues o moment (Some (Retry upstream id e)) = IsFirstDue o.entries moment e.now
     × (id ≡ e.now.id) × (upstream ≡ e.now.upstream + 1) × (upstream < o.upstreams)
@@ -37,5 +38,5 @@ due_entry (Retry upstream id e) = e.now
 due_entry (Failed id e) = e.now
 
 -- how many are due at this moment
-abbrev pub due_at : PendingData → ℕ → ℕ
+abbrev pub due_at : PendingData → Seconds → ℕ
 due_at o moment = count_by (λ e. nat_le e.deadline moment) o.entries

@@ -1,5 +1,7 @@
 -- The questions that are open.
 use Rattle.std.specs.Prelude.{◌≡◌, ℕ, ◌<◌, ◌≤◌, List, length}
+use Rattle.fleet_name.specs.Types.{Labels}
+use Rattle.fleet_wire.specs.Types.{RType, Seconds}
 use Rattle.fleet_wire.specs.Question.{QuestionData}
 use Rattle.fleet_wire.specs.declared.class.TheConstants.{IN}
 use Rattle.fleet_pending.specs.Waiter.{WaiterData, SameAsker}
@@ -8,11 +10,11 @@ use Rattle.fleet_name.specs.Places.{At, NoTwo}
 
 -- an open question: what it asks, under which id, which upstream, until when, and who waits
 pub record EntryData : Type 0 where
-  pub name : List (List ℕ)
-  pub rtype : ℕ
+  pub name : Labels
+  pub rtype : RType
   pub id : ℕ
   pub upstream : ℕ
-  pub deadline : ℕ
+  pub deadline : Seconds
   pub waiters : List WaiterData
 
 -- the open questions, and of how many upstreams each asks one after the other

@@ -1,5 +1,6 @@
 -- The id of the query that asking would send.
 use Rattle.std.specs.Prelude.{◌≡◌, ◌≢◌, ◌⊎◌, ℕ, ◌<◌, ◌≤◌, Option, Some, None, Result, Ok, Err, length}
+use Rattle.fleet_wire.specs.Types.{Seconds}
 use Rattle.fleet_wire.specs.Question.{QuestionData}
 use Rattle.fleet_pending.specs.Waiter.{WaiterData}
 use Rattle.fleet_pending.specs.Asking.{Asks}
@@ -31,6 +32,6 @@ IsAskedUnder None r = (upstream id : ℕ) → r ≢ Ok (Send upstream id)
 -- so it is with the id that is told
 abbrev pub AskedUnderIdTold : Type 0
 AskedUnderIdTold =
-    (o n : PendingData) (w : WaiterData) (moment word : ℕ) (told : Option ℕ)
+    (o n : PendingData) (w : WaiterData) (moment : Seconds) (word : ℕ) (told : Option ℕ)
     (r : Result Asked PendingFault) → TellsId o w.question word told → Asks o w moment word r n
     → IsAskedUnder told r

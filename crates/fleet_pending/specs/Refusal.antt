@@ -1,5 +1,6 @@
 -- What is refused, and where.
 use Rattle.std.specs.Prelude.{◌≡◌, ◌↔◌, ℕ, ◌≤◌, Result, Err, length}
+use Rattle.fleet_wire.specs.Types.{Seconds}
 use Rattle.fleet_pending.specs.Waiter.{WaiterData, Waits}
 use Rattle.fleet_pending.specs.Asking.{Asks}
 use Rattle.fleet_pending.specs.PendingData.{EntryData, PendingData, IsPendingData, AsksFor}
@@ -28,5 +29,5 @@ pub record RefusesWhere (o : PendingData) (w : WaiterData) (r : Result Asked Pen
 -- each refusal but that for want of memory comes exactly where it should
 abbrev pub RefusesExactly : Type 0
 RefusesExactly =
-    (o n : PendingData) (w : WaiterData) (moment word : ℕ) (r : Result Asked PendingFault)
+    (o n : PendingData) (w : WaiterData) (moment : Seconds) (word : ℕ) (r : Result Asked PendingFault)
     → IsPendingData o → Asks o w moment word r n → RefusesWhere o w r

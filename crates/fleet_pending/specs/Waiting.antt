@@ -1,5 +1,6 @@
 -- Who waits, over the calls that change a table.
 use Rattle.std.specs.Prelude.{◌≡◌, ◌⊎◌, ℕ, Bool, Option, Result}
+use Rattle.fleet_wire.specs.Types.{Seconds}
 use Rattle.fleet_pending.specs.Waiter.{WaiterData}
 use Rattle.fleet_pending.specs.Asking.{Asks, Settles, Advances}
 use Rattle.fleet_pending.specs.PendingData.{EntryData, PendingData}
@@ -17,10 +18,10 @@ pub record IsWaiting (o : PendingData) (w : WaiterData) : Type 0 where
 
 -- who waits afterwards waited before, or is the one who asked
 pub record WaitersStay : Type 0 where
-  pub asking : (o n : PendingData) (w v : WaiterData) (moment word : ℕ)
+  pub asking : (o n : PendingData) (w v : WaiterData) (moment : Seconds) (word : ℕ)
       (r : Result Asked PendingFault) → Asks o w moment word r n
       → IsWaiting n v → IsWaiting o v ⊎ (v ≡ w)
   pub settling : (o n : PendingData) (v : WaiterData) (id : ℕ) (r : Option EntryData)
       → Settles o id r n → IsWaiting n v → IsWaiting o v
-  pub advancing : (o n : PendingData) (v : WaiterData) (id moment : ℕ) (r : Bool)
+  pub advancing : (o n : PendingData) (v : WaiterData) (id : ℕ) (moment : Seconds) (r : Bool)
       → Advances o id moment r n → IsWaiting n v → IsWaiting o v

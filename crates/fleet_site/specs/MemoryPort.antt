@@ -1,5 +1,6 @@
 -- A clock over a list, and a port over memory.
 use Rattle.std.specs.Prelude.{◌≡◌, ◌⊎◌, ℕ, zero, suc, ◌-◌, min, Bool, true, false, List, [], ◌∷◌, map, get_or, length, take, drop, Option, Some, None, Result, Ok, Err, IsOk, IsErr}
+use Rattle.fleet_name.specs.Types.{OctetList}
 use Rattle.fleet_pending.specs.declared.waiter.Addr.{Addr}
 use Rattle.fleet_site.specs.PortRecord.{PortCall, Received, NoDatagram, Fault, PacketSent, PacketLost}
 use Rattle.fleet_site.specs.declared.port.PortFault.{PortFault}
@@ -8,7 +9,7 @@ use Rattle.fleet_site.specs.declared.memory_port.Note.TheVariants as note
 use Rattle.fleet_site.specs.declared.memory_port.MemoryPort.{MemoryPort}
 
 -- the moment at a place of a list, and the last one from there on; 0 where there is none
-abbrev pub moment_of : List ℕ → ℕ → ℕ
+abbrev pub moment_of : OctetList → ℕ → ℕ
 moment_of moments i = get_or moments (min i (length moments - 1)) 0
 
 -- a note as a call of a port
@@ -29,7 +30,7 @@ abbrev pub record_of : {A : Type 0} → MemoryPort A → Option (List PortCall)
 record_of p = record_of_notes p.tells p.notes.items
 
 -- the arrival whose turn it is comes, cut to so many octets; nothing comes where none is left
-abbrev pub Arrives : ℕ → List (Option (Addr × List ℕ)) → Option (Addr × ℕ) → List ℕ → Type 0
+abbrev pub Arrives : ℕ → List (Option (Addr × OctetList)) → Option (Addr × ℕ) → OctetList → Type 0
 Arrives asked [] got buffer = got ≡ None
 Arrives asked (None ∷ behind) got buffer = got ≡ None
 Arrives asked (Some a ∷ behind) got buffer =
@@ -37,8 +38,8 @@ Arrives asked (Some a ∷ behind) got buffer =
     × (take (min (length a.1) asked) buffer ≡ take asked a.1)
 
 -- of the arrivals before a receive these are left behind it; one that failed uses up none
-abbrev pub Gives : ℕ → List (Option (Addr × List ℕ)) → Result (Option (Addr × ℕ)) PortFault → List ℕ
-    → List (Option (Addr × List ℕ)) → Type 0
+abbrev pub Gives : ℕ → List (Option (Addr × OctetList)) → Result (Option (Addr × ℕ)) PortFault → OctetList
+    → List (Option (Addr × OctetList)) → Type 0
 Gives asked before (Ok got) buffer left = Arrives asked before got buffer × (left ≡ drop 1 before)
 Gives asked before (Err e) buffer left = left ≡ before
 

@@ -1,5 +1,6 @@
 -- What a step of a site says, without where it lies in memory.
 use Rattle.std.specs.Prelude.{ℕ, Bool, false, List, [], ◌∷◌, Option, Some, None}
+use Rattle.fleet_name.specs.Types.{OctetList}
 use Rattle.fleet_pending.specs.declared.waiter.Addr.{Addr}
 use Rattle.fleet_site.specs.PacketData.{PacketData}
 use Rattle.fleet_site.specs.declared.outcome.Refusal.{Refusal}
@@ -8,7 +9,7 @@ use Rattle.fleet_site.specs.declared.outcome.Refusal.{Refusal}
 -- was done, and whether another entry is due
 pub record OutcomeData : Type 0 where
   pub packets : List PacketData
-  pub frames : List (List ℕ)
+  pub frames : List OctetList
   pub taken : ℕ
   pub refused : Option Refusal
   pub more : Bool
@@ -21,8 +22,8 @@ abbrev pub refusal : Refusal → OutcomeData
 refusal r = record nothing { refused = Some r }
 
 -- these octets go there
-abbrev pub packet_to : Addr → List ℕ → List PacketData
+abbrev pub packet_to : Addr → OctetList → List PacketData
 packet_to addr octets = record { to = addr; octets = octets } ∷ []
 
-abbrev pub sends : Addr → List ℕ → OutcomeData
+abbrev pub sends : Addr → OctetList → OutcomeData
 sends addr octets = record nothing { packets = packet_to addr octets }

@@ -1,8 +1,8 @@
 -- Octets that are sent.
-use Rattle.std.specs.Prelude.{ℕ, List}
+use Rattle.fleet_name.specs.Types.{OctetList}
 use Rattle.fleet_pending.specs.declared.waiter.Addr.{Addr}
 
 -- octets, and where they go
 pub record PacketData : Type 0 where
   pub to : Addr
-  pub octets : List ℕ
+  pub octets : OctetList

@@ -1,5 +1,6 @@
 -- The record of a port: what it was asked, and how each call ended.
 use Rattle.std.specs.Prelude.{◌≡◌, ℕ, ◌+◌, min, List, [], ◌∷◌, ◌++◌, Option, Some, None, Result, Ok, Err, take}
+use Rattle.fleet_name.specs.Types.{OctetList}
 use Rattle.fleet_pending.specs.declared.waiter.Addr.{Addr}
 use Rattle.fleet_site.specs.declared.bounds.TheConstants.{MOST_COUNTED}
 use Rattle.fleet_site.specs.PacketData.{PacketData}
@@ -8,7 +9,7 @@ use Rattle.fleet_site.specs.declared.port.PortFault.{PortFault}
 -- a datagram was received, or none, or the receive failed, each with how many octets were asked for;
 -- a packet was sent, or it was lost
 pub data PortCall : Type 0 where
-  Received : (asked : ℕ) → (from : Addr) → (octets : List ℕ) → PortCall
+  Received : (asked : ℕ) → (from : Addr) → (octets : OctetList) → PortCall
   NoDatagram : (asked : ℕ) → PortCall
   Fault : (asked : ℕ) → PortCall
   PacketSent : PacketData → PortCall
@@ -21,7 +22,7 @@ NotesAll old calls (Some now) =
     (before : List PortCall) × (old ≡ Some before) × (now ≡ before ++ calls)
 
 -- what a receive into a buffer of so many octets was, which holds these octets afterwards
-abbrev pub receive_of : ℕ → Result (Option (Addr × ℕ)) PortFault → List ℕ → PortCall
+abbrev pub receive_of : ℕ → Result (Option (Addr × ℕ)) PortFault → OctetList → PortCall
 receive_of asked (Ok None) buffer = NoDatagram asked
 receive_of asked (Ok (Some p)) buffer = Received asked p.0 (take p.1 buffer)
 receive_of asked (Err e) buffer = Fault asked

@@ -1,6 +1,7 @@
 -- What is sent of a step, and what a report counts of it.
-use Rattle.std.specs.Prelude.{◌≡◌, ℕ, Bool, true, false, List, [], ◌∷◌, ◌++◌, Vec, Result, Ok, Err, is_some, ◌⊎◌}
+use Rattle.std.specs.Prelude.{◌≡◌, Bool, true, false, List, [], ◌∷◌, ◌++◌, Vec, Result, Ok, Err, is_some, ◌⊎◌}
 use Rattle.std.specs.declared.alloc.AllocError.{AllocError}
+use Rattle.fleet_name.specs.Types.{OctetList}
 use Rattle.fleet_pending.specs.declared.waiter.Addr.{Addr}
 use Rattle.fleet_site.specs.PacketData.{PacketData}
 use Rattle.fleet_site.specs.OutcomeData.{OutcomeData, nothing}
@@ -10,12 +11,12 @@ use Rattle.fleet_site.specs.declared.outcome.SiteFault.TheVariants.{OutOfMemory}
 use Rattle.fleet_site.specs.declared.report.Report.{Report}
 
 -- a frame to each peer, in their order
-abbrev pub to_each : List ℕ → List Addr → List PacketData
+abbrev pub to_each : OctetList → List Addr → List PacketData
 to_each frame [] = []
 to_each frame (peer ∷ peers) = record { to = peer; octets = frame } ∷ to_each frame peers
 
 -- each frame to each peer
-abbrev pub to_peers : List Addr → List (List ℕ) → List PacketData
+abbrev pub to_peers : List Addr → List OctetList → List PacketData
 to_peers peers [] = []
 to_peers peers (frame ∷ frames) = to_each frame peers ++ to_peers peers frames
 
@@ -25,7 +26,7 @@ packets_of peers (Ok e) = e.packets ++ to_peers peers e.frames
 packets_of peers (Err f) = []
 
 -- what a sweep says
-abbrev pub sweep_outcome : {A : Type 0} → Result (Vec (List ℕ) A) AllocError
+abbrev pub sweep_outcome : {A : Type 0} → Result (Vec OctetList A) AllocError
     → Result OutcomeData SiteFault
 sweep_outcome (Ok frames) = Ok (record nothing { frames = frames.items })
 sweep_outcome (Err e) = Err (OutOfMemory 0)

@@ -1,5 +1,7 @@
 -- What the loop of a server did, part by part.
 use Rattle.std.specs.Prelude.{◌≡◌, ℕ, ◌≤◌, false, List, [], ◌∷◌, Option, Some, length}
+use Rattle.fleet_name.specs.Types.{OctetList}
+use Rattle.fleet_wire.specs.Types.{Seconds}
 use Rattle.rand_core.specs.Stream.{Stream}
 use Rattle.fleet_pending.specs.declared.bounds.TheConstants.{MOST_ENTRIES}
 use Rattle.fleet_pending.specs.declared.waiter.Addr.{Addr}
@@ -14,7 +16,7 @@ use Rattle.fleet_site.specs.declared.report.Report.{Report}
 
 -- the run of a server: these turns were made, and where the port tells its record, their calls are
 -- its last ones
-pub record Served (old new : PortState) (moments : Option (ℕ → ℕ)) (s : Stream) (turns every : ℕ)
+pub record Served (old new : PortState) (moments : Option (ℕ → ℕ)) (s : Stream) (turns : ℕ) (every : Seconds)
     (site after : SiteData) (report : Report) : Type 0 where
   pub end : Between
   pub run : Turns moments s every turns (start_of site) end
@@ -28,8 +30,8 @@ pub record FollowsSteps (old new : SiteData) : Type 0 where
       → (n : SiteModel) × (acts : List Act) × Acts m acts n × StandsFor new n
 
 -- one turn was made
-pub record Turned (old new : PortState) (t word every : ℕ) (site after : SiteData)
-    (since : Option ℕ)
+pub record Turned (old new : PortState) (t : Seconds) (word : ℕ) (every : Seconds) (site after : SiteData)
+    (since : Option Seconds)
     (last : ℕ) (r q : Report) : Type 0 where
   pub calls : List PortCall
   pub turn : Turn t word every (record { site = site; calls = []; swept = since; report = r })
@@ -44,14 +46,14 @@ pub record Took (old new : PortState) (site after : SiteData) (r q : Report) (ac
   pub report : q ≡ count_acts acts r
 
 -- a datagram was given to the site, and what that gave was carried out and counted
-pub record GivenOne (old new : PortState) (t : ℕ) (from : Addr) (octets : List ℕ) (word : ℕ)
+pub record GivenOne (old new : PortState) (t : Seconds) (from : Addr) (octets : OctetList) (word : ℕ)
     (site after : SiteData) (r q : Report) : Type 0 where
   pub act : Act
   pub deal : act.deal ≡ calling (datagram t from octets word)
   pub took : Took old new site after r q (act ∷ [])
 
 -- what was received was given to the site
-pub record Heard (old new : PortState) (t word : ℕ) (site after : SiteData) (r q : Report)
+pub record Heard (old new : PortState) (t : Seconds) (word : ℕ) (site after : SiteData) (r q : Report)
     : Type 0 where
   pub arrival : PortCall
   pub acts : List Act
@@ -62,7 +64,7 @@ pub record Heard (old new : PortState) (t word : ℕ) (site after : SiteData) (r
   pub report : q ≡ count_acts acts (count_call arrival r)
 
 -- the site ticked until no other entry was due, or a tick found no memory
-pub record TickedAll (old new : PortState) (t : ℕ) (site after : SiteData) (r q : Report)
+pub record TickedAll (old new : PortState) (t : Seconds) (site after : SiteData) (r q : Report)
     : Type 0 where
   pub acts : List Act
   pub ticks : Ticks t acts false
@@ -70,7 +72,7 @@ pub record TickedAll (old new : PortState) (t : ℕ) (site after : SiteData) (r 
   pub took : Took old new site after r q acts
 
 -- it swept where it was time
-pub record SweptOnce (old new : PortState) (every since t last : ℕ) (site after : SiteData)
+pub record SweptOnce (old new : PortState) (every since t : Seconds) (last : ℕ) (site after : SiteData)
     (r q : Report) : Type 0 where
   pub acts : List Act
   pub swept : SweepsWhenDue every since t acts last

@@ -1,5 +1,6 @@
 -- What a site holds.
-use Rattle.std.specs.Prelude.{ℕ, ◌≤◌}
+use Rattle.std.specs.Prelude.{◌≤◌}
+use Rattle.fleet_wire.specs.Types.{Seconds}
 use Rattle.fleet_cache.specs.Cached.{CacheData}
 use Rattle.fleet_pending.specs.PendingData.{PendingData}
 use Rattle.fleet_site.specs.ConfigData.{ConfigData, IsConfigData}
@@ -9,10 +10,10 @@ use Rattle.fleet_site.specs.Table.{IsTableOf}
 pub record SiteData : Type 0 where
   pub config : ConfigData
   pub cache : CacheData
-  pub clock : ℕ
+  pub clock : Seconds
   pub pending : PendingData
 
-abbrev pub site_data : ConfigData → CacheData → ℕ → PendingData → SiteData
+abbrev pub site_data : ConfigData → CacheData → Seconds → PendingData → SiteData
 site_data config cache clock pending =
     record { config = config; cache = cache; clock = clock; pending = pending }
 

@@ -1,12 +1,13 @@
 -- What a site tells of all that it holds.
-use Rattle.std.specs.Prelude.{ℕ, List}
-use Rattle.fleet_observe.specs.Observation.{ObservationData}
+use Rattle.std.specs.Prelude.{List}
+use Rattle.fleet_name.specs.Types.{OctetList}
+use Rattle.fleet_observe.specs.Observation.{Observations}
 use Rattle.fleet_cache.specs.Cached.{IsCached}
 use Rattle.fleet_gossip.specs.Packed.{IsPacked}
 use Rattle.fleet_site.specs.SiteModel.{SiteModel}
 
 -- the frames of its items, in their order
-pub record IsSweep (m : SiteModel) (frames : List (List ℕ)) : Type 0 where
-  pub items : List ObservationData
+pub record IsSweep (m : SiteModel) (frames : List OctetList) : Type 0 where
+  pub items : Observations
   pub cached : IsCached m.taken m.floor items
   pub packed : IsPacked items frames

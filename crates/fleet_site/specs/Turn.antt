@@ -1,6 +1,8 @@
 -- A run of a server is its turns, one after the other.
 use Rattle.std.specs.Prelude.{◌≡◌, ℕ, suc, zero, ◌+◌, ◌%◌, ◌<◌, ◌≤◌, Bool, true, false, List, [], ◌∷◌, ◌++◌, Option, Some, None, Result, Ok, Err, length}
 use Rattle.std.specs.Option.{unwrap_or}
+use Rattle.fleet_name.specs.Types.{OctetList}
+use Rattle.fleet_wire.specs.Types.{Seconds}
 use Rattle.rand_core.specs.Stream.{Stream, next_u32}
 use Rattle.fleet_gossip.specs.declared.bounds.TheConstants.{LONGEST_FRAME}
 use Rattle.fleet_pending.specs.declared.bounds.TheConstants.{MOST_ENTRIES}
@@ -26,7 +28,7 @@ pub data Deal : Type 0 where
 -- a sweep gives the frames of all that is held, and changes nothing
 abbrev pub SweepSays : SiteModel → Result OutcomeData SiteFault → SiteModel → Type 0
 SweepSays m (Ok e) n =
-    (frames : List (List ℕ)) × IsSweep m frames × (e ≡ record nothing { frames = frames }) × (n ≡ m)
+    (frames : List OctetList) × IsSweep m frames × (e ≡ record nothing { frames = frames }) × (n ≡ m)
 SweepSays m (Err (OutOfMemory taken)) n = (taken ≡ 0) × (n ≡ m)
 
 -- from m the step says this and leads to n
@@ -67,7 +69,7 @@ pub record Acted (old new : SiteData) (acts : List Act) : Type 0 where
   pub sent : AllSent old.config.peers acts
 
 -- what was received is given to the site, and nothing where nothing was
-abbrev pub Given : ℕ → ℕ → PortCall → List Act → Type 0
+abbrev pub Given : Seconds → ℕ → PortCall → List Act → Type 0
 Given t word (Received asked from octets) acts =
     (a : Act) × (acts ≡ a ∷ []) × (a.deal ≡ calling (datagram t from octets word))
 Given t word (NoDatagram asked) acts = acts ≡ []
@@ -76,18 +78,18 @@ Given t word (PacketSent s) acts = ⊥
 Given t word (PacketLost s) acts = ⊥
 
 -- ticks at a moment, each but the last with another one to follow, and whether one follows the last
-pub data Ticks (t : ℕ) : List Act → Bool → Type 0 where
+pub data Ticks (t : Seconds) : List Act → Bool → Type 0 where
   no_tick : Ticks t [] true
   next_tick : {acts : List Act} (a : Act) → Ticks t acts true → a.deal ≡ calling (tick t)
       → Ticks t (acts ++ a ∷ []) (goes_on a.answer)
 
 -- it is time to sweep: so many seconds after a moment, where they are not 0
-pub record IsSweepDue (every since t : ℕ) : Type 0 where
+pub record IsSweepDue (every since t : Seconds) : Type 0 where
   pub some : 0 < every
   pub passed : since + every ≤ t
 
 -- a sweep where it is time, and the moment of the last one then
-abbrev pub SweepsWhenDue : ℕ → ℕ → ℕ → List Act → ℕ → Type 0
+abbrev pub SweepsWhenDue : Seconds → Seconds → Seconds → List Act → ℕ → Type 0
 SweepsWhenDue every since t acts last =
     when IsSweepDue every since t
     then ((a : Act) × (acts ≡ a ∷ []) × (a.deal ≡ sweeping) × (last ≡ t)) otherwise
@@ -98,7 +100,7 @@ SweepsWhenDue every since t acts last =
 pub record Between : Type 0 where
   pub site : SiteData
   pub calls : List PortCall
-  pub swept : Option ℕ
+  pub swept : Option Seconds
   pub report : Report
 
 -- what a turn asks for: one octet more than the longest frame has, so that no frame is cut to one that
@@ -108,7 +110,7 @@ ROOM = LONGEST_FRAME + 1
 
 -- one turn at a moment with a word: a receive, and the sends of the datagram, of the ticks, and of
 -- the sweep
-pub record Turn (t word every : ℕ) (a b : Between) : Type 0 where
+pub record Turn (t : Seconds) (word : ℕ) (every : Seconds) (a b : Between) : Type 0 where
   pub arrival : PortCall
   pub given : List Act
   pub ticks : List Act
@@ -136,7 +138,7 @@ abbrev pub word_of : Stream → ℕ → ℕ
 word_of s n = (next_u32 (left_after n s)).0 % 65536
 
 -- the moment of the turn with this number, where the clock tells its moments
-abbrev pub IsMomentOfTurn : Option (ℕ → ℕ) → ℕ → ℕ → Type 0
+abbrev pub IsMomentOfTurn : Option (ℕ → ℕ) → ℕ → Seconds → Type 0
 IsMomentOfTurn None n t = Unit {0}
 IsMomentOfTurn (Some moments) n t = t ≡ moments n
 
@@ -147,9 +149,9 @@ IsPast (Some moments) n now =
     (rest : ℕ → ℕ) × (now ≡ Some rest) × ((k : ℕ) → rest k ≡ moments (n + k))
 
 -- so many turns in a row, each with its moment and its word
-abbrev pub Turns : Option (ℕ → ℕ) → Stream → ℕ → ℕ → Between → Between → Type 0
+abbrev pub Turns : Option (ℕ → ℕ) → Stream → Seconds → ℕ → Between → Between → Type 0
 Turns moments s every zero a b = b ≡ a
-Turns moments s every (suc n) a b = (mid : Between) × (t : ℕ) × Turns moments s every n a mid
+Turns moments s every (suc n) a b = (mid : Between) × (t : Seconds) × Turns moments s every n a mid
     × IsMomentOfTurn moments n t × Turn t (word_of s n) every mid b
 
 -- nothing was counted yet

@@ -1,7 +1,7 @@
 //! What a site does with a name that is flushed.
 
-ghost use Rattle.std.specs.Prelude.{◌≡◌, List};
-ghost use Rattle.fleet_observe.specs.Observation.{ObservationData};
+ghost use Rattle.std.specs.Prelude.{◌≡◌};
+ghost use Rattle.fleet_observe.specs.Observation.{Observations};
 ghost use Rattle.fleet_cache.specs.Cached.{IsCached};
 ghost use Rattle.fleet_pending.specs.PendingData.{PendingData};
 ghost use Rattle.fleet_site.specs.Carried.{Carries};
@@ -21,7 +21,7 @@ pub(crate) fn flush_name<A: Allocator + Copy>(
     clock: Moment,
     name: &Name<A>,
 ) -> Result<Outcome<A>, SiteFault>
-    ensures flushed { (o : PendingData) (s : List ObservationData)
+    ensures flushed { (o : PendingData) (s : Observations)
         → IsCached s cache.old.floor cache.old.items
         → Carries (Flushed o name.now clock) (Unit {0}) s o result cache.new o }
     ensures floor { cache.new.floor ≡ cache.old.floor }

@@ -1,7 +1,7 @@
 //! What a site does with a frame.
 
-ghost use Rattle.std.specs.Prelude.{◌≡◌, List};
-ghost use Rattle.fleet_observe.specs.Observation.{ObservationData};
+ghost use Rattle.std.specs.Prelude.{◌≡◌};
+ghost use Rattle.fleet_observe.specs.Observation.{Observations};
 ghost use Rattle.fleet_cache.specs.Cached.{IsCached};
 ghost use Rattle.fleet_gossip.specs.Frame.{HasEntries};
 ghost use Rattle.fleet_pending.specs.PendingData.{PendingData};
@@ -20,7 +20,7 @@ pub(crate) fn take_frame<A: Allocator + Copy>(
     cache: &mut Cache<A>,
     octets: &[u8],
 ) -> Result<Outcome<A>, SiteFault>
-    ensures framed { (o : PendingData) (s : List ObservationData)
+    ensures framed { (o : PendingData) (s : Observations)
         → IsCached s cache.old.floor cache.old.items
         → Carries (Framed o octets.now) (HasEntries octets.now) s o result cache.new o }
     ensures floor { cache.new.floor ≡ cache.old.floor }
@@ -42,7 +42,7 @@ pub(crate) fn take_all<A: Allocator + Copy>(
     cache: &mut Cache<A>,
     observations: Vec<Observation<A>, A>,
 ) -> Result<Outcome<A>, SiteFault>
-    ensures taken { (s : List ObservationData) → IsCached s cache.old.floor cache.old.items
+    ensures taken { (s : Observations) → IsCached s cache.old.floor cache.old.items
         → Takes s observations.items result cache.new }
     ensures floor { cache.new.floor ≡ cache.old.floor }
 {

@@ -1,7 +1,7 @@
 //! What the cache answers at once.
 
-ghost use Rattle.std.specs.Prelude.{◌≡◌, ◌≤◌, ◌↔◌, List, IsTrue};
-ghost use Rattle.fleet_observe.specs.Observation.{ObservationData};
+ghost use Rattle.std.specs.Prelude.{◌≡◌, ◌≤◌, ◌↔◌, IsTrue};
+ghost use Rattle.fleet_observe.specs.Observation.{Observations};
 ghost use Rattle.fleet_cache.specs.Cached.{IsCached};
 ghost use Rattle.fleet_site.specs.Verdict.{Answer, Decides, IsPlainAsking};
 
@@ -31,7 +31,7 @@ pub(crate) fn write_hit<A: Allocator + Copy>(
     out: &mut Vec<u8, A>,
 ) -> bool
     requires { cache.now.floor ≤ clock }
-    ensures { IsTrue result → (s : List ObservationData)
+    ensures { IsTrue result → (s : Observations)
         → IsCached s cache.now.floor cache.now.items
         → Decides s clock octets.now (Answer out.new.items) }
 {

@@ -1,9 +1,9 @@
 //! What a miss makes of the table of open questions.
 
-ghost use Rattle.std.specs.Prelude.{◌≡◌, ◌<◌, ◌≤◌, ⊤, List, IfOk, IfErr, OnErr};
+ghost use Rattle.std.specs.Prelude.{◌≡◌, ◌<◌, ◌≤◌, ⊤, IfOk, IfErr, OnErr};
 ghost use Rattle.fleet_wire.specs.Query.{query_octets};
 ghost use Rattle.fleet_wire.specs.declared.class.TheConstants.{IN};
-ghost use Rattle.fleet_observe.specs.Observation.{ObservationData};
+ghost use Rattle.fleet_observe.specs.Observation.{Observations};
 ghost use Rattle.fleet_cache.specs.Cached.{IsCached};
 ghost use Rattle.fleet_pending.specs.Asking.{Asks, ask_result};
 ghost use Rattle.fleet_site.specs.Carried.{Keeps, IsAskable, IsAnswered, TurnsAway, IsFirstSaid};
@@ -48,7 +48,7 @@ pub(crate) fn take_question<A: Allocator + Copy>(
 ) -> Result<Outcome<A>, SiteFault>
     requires reached { cache.now.floor ≤ arrival.clock }
     requires table { IsTableOf upstreams.now pending.old }
-    ensures questioned { (s : List ObservationData) → IsCached s cache.now.floor cache.now.items
+    ensures questioned { (s : Observations) → IsCached s cache.now.floor cache.now.items
         → Keeps
         (Questioned s upstreams.now pending.old arrival.clock arrival.from arrival.word octets.now)
         (IsAsking octets.now) pending.old result pending.new }

@@ -1,9 +1,9 @@
 //! What a site does with a reply: one from an upstream is relayed to those who wait for it, one
 //! that it is handed is learnt.
 
-ghost use Rattle.std.specs.Prelude.{◌≡◌, ◌<◌, List, IfOk, IfErr, map};
+ghost use Rattle.std.specs.Prelude.{◌≡◌, ◌<◌, IfOk, IfErr, map};
 ghost use Rattle.fleet_wire.specs.Message.{HasReply};
-ghost use Rattle.fleet_observe.specs.Observation.{ObservationData};
+ghost use Rattle.fleet_observe.specs.Observation.{Observations};
 ghost use Rattle.fleet_observe.specs.Observations.{reply_observations};
 ghost use Rattle.fleet_cache.specs.Cached.{IsCached};
 ghost use Rattle.fleet_pending.specs.PendingData.{PendingData};
@@ -156,7 +156,7 @@ pub(crate) fn take_reply<A: Allocator + Copy>(
     clock: Moment,
     octets: &[u8],
 ) -> Result<Outcome<A>, SiteFault>
-    ensures replied { (s : List ObservationData) → IsCached s cache.old.floor cache.old.items
+    ensures replied { (s : Observations) → IsCached s cache.old.floor cache.old.items
         → Carries (Replied pending.old clock upstream octets.now)
         (IsReplying octets.now) s pending.old result cache.new pending.new }
     ensures floor { cache.new.floor ≡ cache.old.floor }
@@ -174,7 +174,7 @@ fn carry_out<A: Allocator + Copy>(
     pending: &mut Pending<A>,
     relay: Relay<A>,
 ) -> Result<Outcome<A>, SiteFault>
-    ensures taken { (s : List ObservationData) → IsCached s cache.old.floor cache.old.items
+    ensures taken { (s : Observations) → IsCached s cache.old.floor cache.old.items
         → IsRelayFor relay s pending.old result cache.new pending.new }
     ensures floor { cache.new.floor ≡ cache.old.floor }
     ensures table { KeepsTable pending.old pending.new }
@@ -247,7 +247,7 @@ pub(crate) fn learn_reply<A: Allocator + Copy>(
     clock: Moment,
     octets: &[u8],
 ) -> Result<Outcome<A>, SiteFault>
-    ensures learnt { (o : PendingData) (s : List ObservationData)
+    ensures learnt { (o : PendingData) (s : Observations)
         → IsCached s cache.old.floor cache.old.items
         → Carries (Learnt o clock octets.now) (HasReply octets.now) s o result cache.new o }
     ensures floor { cache.new.floor ≡ cache.old.floor }

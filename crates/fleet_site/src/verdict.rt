@@ -1,8 +1,8 @@
 //! What is made of octets that are asked, before the table of open questions is looked at.
 
-ghost use Rattle.std.specs.Prelude.{◌≡◌, ◌≤◌, ◌<◌, ◌↔◌, List, IsTrue, IfOk, IfErr};
+ghost use Rattle.std.specs.Prelude.{◌≡◌, ◌≤◌, ◌<◌, ◌↔◌, IsTrue, IfOk, IfErr};
 ghost use Rattle.fleet_wire.specs.declared.class.TheConstants.{IN};
-ghost use Rattle.fleet_observe.specs.Observation.{ObservationData};
+ghost use Rattle.fleet_observe.specs.Observation.{Observations};
 ghost use Rattle.fleet_cache.specs.Cached.{IsCached};
 ghost use Rattle.fleet_cache.specs.Kinds.{HasKinds};
 ghost use Rattle.fleet_cache.specs.AnswerData.{answer_data};
@@ -43,7 +43,7 @@ pub(crate) fn decide<A: Allocator + Copy>(
     octets: &[u8],
 ) -> Result<Decision<A>, AllocError>
     requires { cache.now.floor ≤ clock }
-    ensures decides { (s : List ObservationData) → IsCached s cache.now.floor cache.now.items
+    ensures decides { (s : Observations) → IsCached s cache.now.floor cache.now.items
         → IfOk result (λ d. Decides s clock octets.now (verdict d)) }
     ensures askable { IfOk result (λ d. IsAskable d) }
     ensures answered { IfOk result (λ d. IsAnswered d → IsAsking octets.now) }
@@ -93,7 +93,7 @@ fn decide_question<A: Allocator + Copy>(
 ) -> Result<Decision<A>, AllocError>
     requires opcode { header.opcode < 16 }
     requires reached { cache.now.floor ≤ clock }
-    ensures decides { (s : List ObservationData) → IsCached s cache.now.floor cache.now.items
+    ensures decides { (s : Observations) → IsCached s cache.now.floor cache.now.items
         → IfOk result (λ d. DecidesQuestion s clock header question (verdict d)) }
     ensures askable { IfOk result (λ d. IsAskable d) }
 {

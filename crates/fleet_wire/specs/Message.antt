@@ -1,6 +1,8 @@
 -- What messages say: a header, a question, and records (RFC 1035 4.1).
-use Rattle.std.specs.Prelude.{◌≡◌, ◌≢◌, ℕ, ◌/◌, ◌%◌, ◌<◌, ◌≤◌, ◌⊎◌, List, [], ◌∷◌, ◌++◌, length, drop, slice_index, Bool, true, false, nat_eq, nat_le, IsTrue}
+use Rattle.std.specs.Prelude.{◌≡◌, ◌≢◌, ◌/◌, ◌%◌, ◌<◌, ◌≤◌, ◌⊎◌, List, [], ◌∷◌, ◌++◌, length, drop, slice_index, Bool, true, false, nat_eq, nat_le, IsTrue}
 use Rattle.std.specs.List.{AllByRecursion}
+use Rattle.fleet_name.specs.Types.{OctetList}
+use Rattle.fleet_wire.specs.Types.{Place}
 use Rattle.fleet_name.specs.Name.{wire}
 use Rattle.fleet_wire.specs.Number.{u16_at}
 use Rattle.fleet_wire.specs.Question.{QuestionData, IsQuestionData, IsQuestion, QuestionFails}
@@ -11,7 +13,7 @@ use Rattle.fleet_wire.specs.declared.fault.ReadFault.TheVariants.{TooShort, TooL
 use Rattle.fleet_wire.specs.declared.header.Header.{Header}
 
 -- the header in the first twelve octets (RFC 1035 4.1.1)
-abbrev pub header_of : List ℕ → Header
+abbrev pub header_of : OctetList → Header
 header_of m = record {
   id = u16_at m 0;
   response = nat_le 128 (slice_index m 2);
@@ -29,40 +31,40 @@ pub record IsHeader (h : Header) : Type 0 where
   pub rcode : h.rcode < 16
 
 -- m has 12 to LONGEST_MESSAGE octets, and counts one question
-pub record HasOneQuestion (m : List ℕ) : Type 0 where
+pub record HasOneQuestion (m : OctetList) : Type 0 where
   pub long : 12 ≤ length m
   pub short : length m ≤ LONGEST_MESSAGE
   pub one : u16_at m 4 ≡ 1
 
 -- The first fault of a header: it is not whole, the message is too long, or it doesn't count one
 -- question.
-pub data HeaderFails (m : List ℕ) (f : ReadFault) : Type 0 where
+pub data HeaderFails (m : OctetList) (f : ReadFault) : Type 0 where
   no_header : length m < 12 → f ≡ TooShort → HeaderFails m f
   long_message : LONGEST_MESSAGE < length m → f ≡ TooLong → HeaderFails m f
   not_one : 12 ≤ length m → length m ≤ LONGEST_MESSAGE → u16_at m 4 ≢ 1 → f ≡ QuestionCount
       → HeaderFails m f
 
 -- m has a header and a question, which ends before past; whatever follows is free
-pub record IsQuery (m : List ℕ) (h : Header) (q : QuestionData) (past : ℕ) : Type 0 where
+pub record IsQuery (m : OctetList) (h : Header) (q : QuestionData) (past : Place) : Type 0 where
   pub counted : HasOneQuestion m
   pub header : h ≡ header_of m
   pub question : IsQuestion m 12 q past
 
 -- m is a query whose name stands in full and in lower case: it has no pointer and no capital letter
-pub record IsPlainQuery (m : List ℕ) (h : Header) (q : QuestionData) : Type 0 where
-  pub past : ℕ
+pub record IsPlainQuery (m : OctetList) (h : Header) (q : QuestionData) : Type 0 where
+  pub past : Place
   pub query : IsQuery m h q past
   pub lower_case : q.spelled ≡ wire q.name
-  pub others : List ℕ
+  pub others : OctetList
   pub in_full : drop 12 m ≡ wire q.name ++ others
 
 -- the first fault of header and question
-abbrev pub QueryFails : List ℕ → ReadFault → Type 0
+abbrev pub QueryFails : OctetList → ReadFault → Type 0
 QueryFails m f = HeaderFails m f ⊎ (HasOneQuestion m × QuestionFails m 12 f)
 
 -- the header and the question have no fault
-abbrev pub HasQuery : List ℕ → Type 0
-HasQuery m = (q : QuestionData) × (past : ℕ) × IsQuery m (header_of m) q past
+abbrev pub HasQuery : OctetList → Type 0
+HasQuery m = (q : QuestionData) × (past : Place) × IsQuery m (header_of m) q past
 
 -- a message without where it lies in memory
 pub record MessageData : Type 0 where
@@ -85,29 +87,29 @@ pub record IsRead (r : MessageData) : Type 0 where
   pub cut : IsTrue r.header.tc → (r.answer ≡ []) × (r.authority ≡ [])
 
 -- the sections behind the question: where the message says that it was cut off, none is read
-abbrev pub SectionsAt : List ℕ → ℕ → Bool → List RecordData → List RecordData → Type 0
+abbrev pub SectionsAt : OctetList → Place → Bool → List RecordData → List RecordData → Type 0
 SectionsAt m past true a b = (a ≡ []) × (b ≡ [])
-SectionsAt m past false a b = (middle : ℕ) × (end : ℕ) × RecordsAt m past a middle
+SectionsAt m past false a b = (middle : Place) × (end : Place) × RecordsAt m past a middle
     × (length a ≡ u16_at m 6) × RecordsAt m middle b end × (length b ≡ u16_at m 8)
 
-abbrev pub SectionsFail : List ℕ → ℕ → Bool → ReadFault → Type 0
+abbrev pub SectionsFail : OctetList → Place → Bool → ReadFault → Type 0
 SectionsFail m past true f = ⊥
 SectionsFail m past false f = RecordsFail m past (u16_at m 6) f
-    ⊎ ((a : List RecordData) × (middle : ℕ) × RecordsAt m past a middle × (length a ≡ u16_at m 6)
+    ⊎ ((a : List RecordData) × (middle : Place) × RecordsAt m past a middle × (length a ≡ u16_at m 6)
     × RecordsFail m middle (u16_at m 8) f)
 
 -- m is this reply; whatever follows its last part is free
-pub record IsReply (m : List ℕ) (r : MessageData) : Type 0 where
-  pub past : ℕ
+pub record IsReply (m : OctetList) (r : MessageData) : Type 0 where
+  pub past : Place
   pub query : IsQuery m r.header r.question past
   pub sections : SectionsAt m past r.header.tc r.answer r.authority
 
 -- the octets are a reply
-abbrev pub HasReply : List ℕ → Type 0
+abbrev pub HasReply : OctetList → Type 0
 HasReply m = (r : MessageData) × IsReply m r
 
 -- the first fault of a reply
-abbrev pub ReplyFails : List ℕ → ReadFault → Type 0
+abbrev pub ReplyFails : OctetList → ReadFault → Type 0
 ReplyFails m f = QueryFails m f
-    ⊎ ((q : QuestionData) × (past : ℕ) × IsQuery m (header_of m) q past
+    ⊎ ((q : QuestionData) × (past : Place) × IsQuery m (header_of m) q past
     × SectionsFail m past (header_of m).tc f)

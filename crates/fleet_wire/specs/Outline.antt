@@ -1,6 +1,8 @@
 -- What a reply that is to be written says, and its octets (RFC 1035 4.1).
 use Rattle.std.specs.Prelude.{◌≡◌, ℕ, ◌+◌, ◌*◌, ◌<◌, ◌≤◌, List, [], ◌∷◌, ◌++◌, length, Bool, true, false, Option, Some, None, if◌then◌else◌, nat_le}
 use Rattle.std.specs.List.{flat_map, AllByRecursion}
+use Rattle.fleet_name.specs.Types.{Labels, OctetList}
+use Rattle.fleet_wire.specs.Types.{RType, Seconds}
 use Rattle.fleet_name.specs.Name.{wire, IsName}
 use Rattle.fleet_wire.specs.Number.{u16_octets, u32_octets}
 use Rattle.fleet_wire.specs.Question.{QuestionData, IsQuestionData}
@@ -39,16 +41,16 @@ abbrev pub flag : Bool → ℕ → ℕ
 flag b n = if b then n else 0
 
 -- a record: its name in full, ten octets, and its RDATA
-abbrev pub record_octets : RecordData → List ℕ
+abbrev pub record_octets : RecordData → OctetList
 record_octets r = wire r.name
     ++ (u16_octets r.rtype
     ++ (u16_octets r.class ++ (u32_octets r.ttl ++ (u16_octets (length r.rdata) ++ r.rdata))))
 
 -- a question in its own spelling
-abbrev pub question_octets : QuestionData → List ℕ
+abbrev pub question_octets : QuestionData → OctetList
 question_octets q = q.spelled ++ (u16_octets q.rtype ++ u16_octets q.class)
 
-abbrev pub question_octets_if_any : Option QuestionData → List ℕ
+abbrev pub question_octets_if_any : Option QuestionData → OctetList
 question_octets_if_any None = []
 question_octets_if_any (Some q) = question_octets q
 
@@ -57,28 +59,28 @@ question_count None = 0
 question_count (Some q) = 1
 
 -- the twelve octets of a header: a reply, recursion available, and no authority of its own
-abbrev pub header_octets : OutlineData → Bool → ℕ → ℕ → List ℕ
+abbrev pub header_octets : OutlineData → Bool → ℕ → ℕ → OctetList
 header_octets o tc an ns =
     u16_octets o.id
     ++ ((128 + o.opcode * 8 + flag tc 2 + flag o.rd 1) ∷ (128 + o.rcode)
     ∷ (u16_octets (question_count o.question) ++ (u16_octets an ++ (u16_octets ns ++ 0 ∷ 0 ∷ []))))
 
 -- all of it
-abbrev pub whole_octets : OutlineData → List ℕ
+abbrev pub whole_octets : OutlineData → OctetList
 whole_octets o = header_octets o o.tc (length o.answer) (length o.authority)
     ++ (question_octets_if_any o.question
     ++ (flat_map record_octets o.answer ++ flat_map record_octets o.authority))
 
 -- header and question alone, cut off
-abbrev pub cut_octets : OutlineData → List ℕ
+abbrev pub cut_octets : OutlineData → OctetList
 cut_octets o = header_octets o true 0 0 ++ question_octets_if_any o.question
 
 -- the records of a section, one after the other
-abbrev pub section_octets : List RecordData → List ℕ
+abbrev pub section_octets : List RecordData → OctetList
 section_octets rs = flat_map record_octets rs
 
 -- a record of the class IN
-abbrev pub line : List (List ℕ) → ℕ → ℕ → List ℕ → RecordData
+abbrev pub line : Labels → RType → Seconds → OctetList → RecordData
 line name rtype ttl rdata =
     record { name = name; rtype = rtype; class = IN; ttl = ttl; rdata = rdata }
 
@@ -90,7 +92,7 @@ abbrev pub with_authority : OutlineData → RecordData → OutlineData
 with_authority o r = record o { authority = o.authority ++ r ∷ [] }
 
 -- the octets of a reply: all of it where that fits a message
-unfoldable pub octets_of_outline : OutlineData → List ℕ
+unfoldable pub octets_of_outline : OutlineData → OctetList
 octets_of_outline o =
     if nat_le (length (whole_octets o)) LONGEST_MESSAGE then whole_octets o else cut_octets o
 

@@ -1,5 +1,6 @@
 -- What a query to an upstream is, as octets (RFC 1035 4.1.1, 4.1.2).
-use Rattle.std.specs.Prelude.{ℕ, List, [], ◌∷◌, ◌++◌, true, false}
+use Rattle.std.specs.Prelude.{ℕ, [], ◌∷◌, ◌++◌, true, false}
+use Rattle.fleet_name.specs.Types.{OctetList}
 use Rattle.fleet_name.specs.Name.{wire}
 use Rattle.fleet_wire.specs.Question.{QuestionData}
 use Rattle.fleet_wire.specs.Number.{u16_octets}
@@ -12,12 +13,12 @@ lowercase_question q = record
     { spelled = wire q.name; name = q.name; rtype = q.rtype; class = q.class }
 
 -- a header that wants recursion alone and counts one question
-abbrev pub query_head : ℕ → List ℕ
+abbrev pub query_head : ℕ → OctetList
 query_head id = u16_octets id
     ++ (u16_octets 256 ++ (u16_octets 1 ++ (u16_octets 0 ++ (u16_octets 0 ++ u16_octets 0))))
 
 -- the query's octets
-abbrev pub query_octets : ℕ → QuestionData → List ℕ
+abbrev pub query_octets : ℕ → QuestionData → OctetList
 query_octets id q = query_head id ++ question_octets (lowercase_question q)
 
 -- the header that is read again

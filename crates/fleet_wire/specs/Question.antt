@@ -1,5 +1,7 @@
 -- What a question is, without where it lies in memory (RFC 1035 4.1.2).
-use Rattle.std.specs.Prelude.{◌≡◌, ℕ, ◌+◌, ◌<◌, ◌≤◌, ◌⊎◌, List, length}
+use Rattle.std.specs.Prelude.{◌≡◌, ℕ, ◌+◌, ◌<◌, ◌≤◌, ◌⊎◌, length}
+use Rattle.fleet_name.specs.Types.{Labels, OctetList}
+use Rattle.fleet_wire.specs.Types.{Place, RType}
 use Rattle.fleet_name.specs.Name.{wire, lower, lower_all, labels_of, IsName}
 use Rattle.fleet_wire.specs.Number.{u16_at}
 use Rattle.fleet_wire.specs.NameAt.{NameAt, ReadsName}
@@ -10,9 +12,9 @@ use Rattle.fleet_wire.specs.declared.query.SpelledQuestion.{SpelledQuestion}
 
 -- a question: its name in its own spelling, as octets, and as labels in lower case
 pub record QuestionData : Type 0 where
-  pub spelled : List ℕ
-  pub name : List (List ℕ)
-  pub rtype : ℕ
+  pub spelled : OctetList
+  pub name : Labels
+  pub rtype : RType
   pub class : ℕ
 
 -- a question that has taken no memory yet
@@ -25,20 +27,20 @@ spelled_question_data q = record {
 }
 
 -- a question whose name is lent: as it is spelled, and in lower case
-abbrev pub lent_data : List ℕ → List ℕ → ℕ → ℕ → QuestionData
+abbrev pub lent_data : OctetList → OctetList → RType → ℕ → QuestionData
 lent_data spelled name rtype class =
     record { spelled = spelled; name = labels_of name; rtype = rtype; class = class }
 
 -- octets of a name in full, in its own case and in lower case
-pub record IsLent (spelled name : List ℕ) : Type 0 where
+pub record IsLent (spelled name : OctetList) : Type 0 where
   pub spells : lower spelled ≡ name
   pub whole : name ≡ wire (labels_of name)
   pub named : IsName (labels_of name)
 
 -- the question q stands at p, and ends before e
-pub record IsQuestion (m : List ℕ) (p : ℕ) (q : QuestionData) (e : ℕ) : Type 0 where
-  pub labels : List (List ℕ)
-  pub past : ℕ
+pub record IsQuestion (m : OctetList) (p : Place) (q : QuestionData) (e : Place) : Type 0 where
+  pub labels : Labels
+  pub past : Place
   pub stands : NameAt m p p labels past
   pub spelled : q.spelled ≡ wire labels
   pub name : q.name ≡ lower_all labels
@@ -49,9 +51,9 @@ pub record IsQuestion (m : List ℕ) (p : ℕ) (q : QuestionData) (e : ℕ) : Ty
   pub end_is : e ≡ past + 4
 
 -- the first fault of a question at p: its name's, or that the message ends too early
-abbrev pub QuestionFails : List ℕ → ℕ → ReadFault → Type 0
+abbrev pub QuestionFails : OctetList → Place → ReadFault → Type 0
 QuestionFails m p f = NameFails m p f
-    ⊎ ((n : List (List ℕ)) × (past : ℕ) × ReadsName m p n past × (length m < past + 4)
+    ⊎ ((n : Labels) × (past : Place) × ReadsName m p n past × (length m < past + 4)
     × (f ≡ Truncated))
 
 -- what every question of a program meets: its spelling in lower case is its name in full

@@ -1,6 +1,8 @@
 -- What a record is, without where it lies in memory, and what records stand at a place of a message
 -- (RFC 1035 4.1.3).
 use Rattle.std.specs.Prelude.{◌≡◌, ℕ, ◌+◌, ◌<◌, ◌≤◌, ◌⊎◌, List, [], ◌∷◌, length}
+use Rattle.fleet_name.specs.Types.{Labels, OctetList}
+use Rattle.fleet_wire.specs.Types.{Place, RType, Seconds}
 use Rattle.fleet_name.specs.Name.{lower_all, labels_of, IsName}
 use Rattle.fleet_wire.specs.Number.{u16_at, u32_at}
 use Rattle.fleet_wire.specs.NameAt.{ReadsName}
@@ -12,11 +14,11 @@ use Rattle.fleet_wire.specs.declared.record.SpelledRecord.{SpelledRecord}
 
 -- a record: its owner as labels, the TTL as it was read, and its RDATA
 pub record RecordData : Type 0 where
-  pub name : List (List ℕ)
-  pub rtype : ℕ
+  pub name : Labels
+  pub rtype : RType
   pub class : ℕ
-  pub ttl : ℕ
-  pub rdata : List ℕ
+  pub ttl : Seconds
+  pub rdata : OctetList
 
 -- a record that has taken no memory yet
 abbrev pub spelled_record_data : SpelledRecord → RecordData
@@ -30,8 +32,8 @@ spelled_record_data r = record {
 
 -- the record r stands at p, and ends before e: a name, ten octets, and the RDATA that the last two
 -- of them count
-pub record RecordAt (m : List ℕ) (p : ℕ) (r : RecordData) (e : ℕ) : Type 0 where
-  pub past : ℕ
+pub record RecordAt (m : OctetList) (p : Place) (r : RecordData) (e : Place) : Type 0 where
+  pub past : Place
   pub name : ReadsName m p r.name past
   pub room : past + 10 + u16_at m (past + 8) ≤ length m
   pub rtype : r.rtype ≡ u16_at m past
@@ -41,32 +43,32 @@ pub record RecordAt (m : List ℕ) (p : ℕ) (r : RecordData) (e : ℕ) : Type 0
   pub end_is : e ≡ past + 10 + u16_at m (past + 8)
 
 -- the ten octets, or the RDATA, pass the end of the message
-abbrev pub IsCut : List ℕ → ℕ → Type 0
+abbrev pub IsCut : OctetList → Place → Type 0
 IsCut m past = (length m < past + 10) ⊎ (length m < past + 10 + u16_at m (past + 8))
 
 -- the first fault behind the name of a record
-abbrev pub FixedFails : List ℕ → ℕ → ReadFault → Type 0
+abbrev pub FixedFails : OctetList → Place → ReadFault → Type 0
 FixedFails m past f = (IsCut m past × (f ≡ Truncated))
     ⊎ ((past + 10 + u16_at m (past + 8) ≤ length m)
     × ShapeFails m (past + 10) (u16_at m (past + 8)) (shape_of (u16_at m past)) f)
 
 -- the first fault of a record at p: its name's, or one behind the name
-abbrev pub RecordFails : List ℕ → ℕ → ReadFault → Type 0
+abbrev pub RecordFails : OctetList → Place → ReadFault → Type 0
 RecordFails m p f = NameFails m p f
-    ⊎ ((n : List (List ℕ)) × (past : ℕ) × ReadsName m p n past × FixedFails m past f)
+    ⊎ ((n : Labels) × (past : Place) × ReadsName m p n past × FixedFails m past f)
 
 -- the records stand at p in a row, and end before e
-abbrev pub RecordsAt : List ℕ → ℕ → List RecordData → ℕ → Type 0
+abbrev pub RecordsAt : OctetList → Place → List RecordData → Place → Type 0
 RecordsAt m p [] e = e ≡ p
-RecordsAt m p (r ∷ rs) e = (past : ℕ) × RecordAt m p r past × RecordsAt m past rs e
+RecordsAt m p (r ∷ rs) e = (past : Place) × RecordAt m p r past × RecordsAt m past rs e
 
 -- so many records stand at p in a row
-abbrev pub HasRecords : List ℕ → ℕ → ℕ → Type 0
-HasRecords m p count = (rs : List RecordData) × (e : ℕ) × RecordsAt m p rs e × (length rs ≡ count)
+abbrev pub HasRecords : OctetList → Place → ℕ → Type 0
+HasRecords m p count = (rs : List RecordData) × (e : Place) × RecordsAt m p rs e × (length rs ≡ count)
 
 -- the first fault of so many records at p: behind fewer of them stands none
-abbrev pub RecordsFail : List ℕ → ℕ → ℕ → ReadFault → Type 0
-RecordsFail m p count f = (rs : List RecordData) × (past : ℕ) × RecordsAt m p rs past
+abbrev pub RecordsFail : OctetList → Place → ℕ → ReadFault → Type 0
+RecordsFail m p count f = (rs : List RecordData) × (past : Place) × RecordsAt m p rs past
     × (length rs < count) × RecordFails m past f
 
 -- a record whose RDATA has no pointer: its names in full and in lower case

@@ -1,6 +1,8 @@
 -- What RDATA holds: a table from types to parts, and what parts stand at a place of a message (RFC
 -- 1035 3.3, RFC 2782).
 use Rattle.std.specs.Prelude.{◌≡◌, ◌≢◌, ℕ, ◌+◌, ◌<◌, ◌≤◌, ◌⊎◌, List, [], ◌∷◌, ◌++◌, length, take, drop, Option, Some, None, if◌then◌else◌, nat_eq, ◌||◌}
+use Rattle.fleet_name.specs.Types.{Labels, OctetList}
+use Rattle.fleet_wire.specs.Types.{Place, RType}
 use Rattle.fleet_name.specs.Name.{wire, IsName}
 use Rattle.fleet_name.specs.declared.bounds.TheConstants.{LONGEST_NAME}
 use Rattle.fleet_wire.specs.NameAt.{ReadsName}
@@ -25,21 +27,21 @@ shape_of t =
 
 -- the parts stand at p one after the other, as these octets with each name in full, and end before
 -- e
-abbrev pub PartsAt : List ℕ → List Part → ℕ → List ℕ → ℕ → Type 0
+abbrev pub PartsAt : OctetList → List Part → Place → OctetList → Place → Type 0
 PartsAt m [] p octets e = (octets ≡ []) × (e ≡ p)
-PartsAt m (Plain n ∷ parts) p octets e = (others : List ℕ) × (p + n ≤ length m)
+PartsAt m (Plain n ∷ parts) p octets e = (others : OctetList) × (p + n ≤ length m)
     × PartsAt m parts (p + n) others e × (octets ≡ take n (drop p m) ++ others)
 PartsAt m (Name ∷ parts) p octets e =
-    (n : List (List ℕ)) × (past : ℕ) × (others : List ℕ) × ReadsName m p n past
+    (n : Labels) × (past : Place) × (others : OctetList) × ReadsName m p n past
     × PartsAt m parts past others e × (octets ≡ wire n ++ others)
 
 -- the first fault of the parts at p
-abbrev pub PartsFail : List ℕ → List Part → ℕ → ReadFault → Type 0
+abbrev pub PartsFail : OctetList → List Part → Place → ReadFault → Type 0
 PartsFail m [] p f = ⊥
 PartsFail m (Plain n ∷ parts) p f =
     ((length m < p + n) × (f ≡ Truncated)) ⊎ ((p + n ≤ length m) × PartsFail m parts (p + n) f)
 PartsFail m (Name ∷ parts) p f = NameFails m p f
-    ⊎ ((n : List (List ℕ)) × (past : ℕ) × ReadsName m p n past × PartsFail m parts past f)
+    ⊎ ((n : Labels) × (past : Place) × ReadsName m p n past × PartsFail m parts past f)
 
 -- how many octets the parts have at most, with each name in full
 abbrev pub room_of : List Part → ℕ
@@ -48,28 +50,28 @@ room_of (Plain n ∷ parts) = n + room_of parts
 room_of (Name ∷ parts) = LONGEST_NAME + room_of parts
 
 -- k octets of RDATA at p, read by their shape
-abbrev pub ShapeAt : List ℕ → ℕ → ℕ → Option (List Part) → List ℕ → Type 0
+abbrev pub ShapeAt : OctetList → Place → ℕ → Option (List Part) → OctetList → Type 0
 ShapeAt m p k None octets = octets ≡ take k (drop p m)
 ShapeAt m p k (Some parts) octets = PartsAt m parts p octets (p + k)
 
 -- the first fault of k octets of RDATA at p: one of the parts, or that they end at another place
-abbrev pub ShapeFails : List ℕ → ℕ → ℕ → Option (List Part) → ReadFault → Type 0
+abbrev pub ShapeFails : OctetList → Place → ℕ → Option (List Part) → ReadFault → Type 0
 ShapeFails m p k None f = ⊥
 ShapeFails m p k (Some parts) f = PartsFail m parts p f
-    ⊎ ((octets : List ℕ) × (e : ℕ) × PartsAt m parts p octets e × (e ≢ p + k) × (f ≡ BadRdata))
+    ⊎ ((octets : OctetList) × (e : Place) × PartsAt m parts p octets e × (e ≢ p + k) × (f ≡ BadRdata))
 
 -- RDATA of a shape with each name in full and in lower case
-abbrev pub ArePlain : List Part → List ℕ → Type 0
+abbrev pub ArePlain : List Part → OctetList → Type 0
 ArePlain [] octets = octets ≡ []
-ArePlain (Plain n ∷ parts) octets = (first : List ℕ) × (others : List ℕ)
+ArePlain (Plain n ∷ parts) octets = (first : OctetList) × (others : OctetList)
     × (octets ≡ first ++ others) × (length first ≡ n) × ArePlain parts others
-ArePlain (Name ∷ parts) octets = (n : List (List ℕ)) × (others : List ℕ)
+ArePlain (Name ∷ parts) octets = (n : Labels) × (others : OctetList)
     × (octets ≡ wire n ++ others) × IsName n × ArePlain parts others
 
-abbrev pub HasShape : Option (List Part) → List ℕ → Type 0
+abbrev pub HasShape : Option (List Part) → OctetList → Type 0
 HasShape None octets = Unit {0}
 HasShape (Some parts) octets = ArePlain parts octets
 
 -- RDATA of a type, without pointers and in lower case
-abbrev pub IsPlain : ℕ → List ℕ → Type 0
+abbrev pub IsPlain : RType → OctetList → Type 0
 IsPlain rtype octets = HasShape (shape_of rtype) octets

@@ -1,6 +1,7 @@
 //! Laws of messages. Each function does nothing: its contract is the law.
 
-ghost use Rattle.std.specs.Prelude.{◌≡◌, ℕ, List, length};
+ghost use Rattle.std.specs.Prelude.{◌≡◌, ℕ, length};
+ghost use Rattle.fleet_name.specs.Types.{Labels, OctetList};
 ghost use Rattle.fleet_name.specs.Name.{IsName};
 ghost use Rattle.fleet_wire.specs.NameAt.{ReadsName};
 ghost use Rattle.fleet_wire.specs.Question.{QuestionData};
@@ -12,41 +13,41 @@ ghost use Rattle.fleet_wire.specs.declared.fault.ReadFault.{ReadFault};
 
 /// A place of a message has one name at most.
 pub fn one_name()
-    ensures { (m : List ℕ) (p : ℕ) (a b : List (List ℕ)) (x y : ℕ) → ReadsName m p a x
+    ensures { (m : OctetList) (p : ℕ) (a b : Labels) (x y : ℕ) → ReadsName m p a x
         → ReadsName m p b y → (a ≡ b) × (x ≡ y) }
 {}
 
 /// A message is one query at most.
 pub fn one_query()
-    ensures { (m : List ℕ) (h k : Header) (a b : QuestionData) (x y : ℕ) → IsQuery m h a x
+    ensures { (m : OctetList) (h k : Header) (a b : QuestionData) (x y : ℕ) → IsQuery m h a x
         → IsQuery m k b y → (h ≡ k) × (a ≡ b) × (x ≡ y) }
 {}
 
 /// A message is one reply at most.
 pub fn one_reply()
-    ensures { (m : List ℕ) (a b : MessageData) → IsReply m a → IsReply m b → a ≡ b }
+    ensures { (m : OctetList) (a b : MessageData) → IsReply m a → IsReply m b → a ≡ b }
 {}
 
 /// What is a query has no fault.
 pub fn query_or_fault()
-    ensures { (m : List ℕ) (h : Header) (q : QuestionData) (past : ℕ) (f : ReadFault)
+    ensures { (m : OctetList) (h : Header) (q : QuestionData) (past : ℕ) (f : ReadFault)
         → IsQuery m h q past
         → QueryFails m f → ⊥ }
 {}
 
 /// What is a reply has no fault.
 pub fn reply_or_fault()
-    ensures { (m : List ℕ) (r : MessageData) (f : ReadFault) → IsReply m r → ReplyFails m f → ⊥ }
+    ensures { (m : OctetList) (r : MessageData) (f : ReadFault) → IsReply m r → ReplyFails m f → ⊥ }
 {}
 
 /// A message has one first fault as a query at most.
 pub fn one_query_fault()
-    ensures { (m : List ℕ) (f g : ReadFault) → QueryFails m f → QueryFails m g → f ≡ g }
+    ensures { (m : OctetList) (f g : ReadFault) → QueryFails m f → QueryFails m g → f ≡ g }
 {}
 
 /// A message has one first fault as a reply at most.
 pub fn one_reply_fault()
-    ensures { (m : List ℕ) (f g : ReadFault) → ReplyFails m f → ReplyFails m g → f ≡ g }
+    ensures { (m : OctetList) (f g : ReadFault) → ReplyFails m f → ReplyFails m g → f ≡ g }
 {}
 
 /// The octets of an outline with a question, plain RDATA and TC clear are read as its lines, if all

@@ -1,6 +1,7 @@
 //! Whether RDATA is plain: each name in full and in lower case.
 
-ghost use Rattle.std.specs.Prelude.{◌≡◌, ℕ, List, ◌++◌, ◌↔◌, IsTrue, MatchOption};
+ghost use Rattle.std.specs.Prelude.{◌≡◌, ◌++◌, ◌↔◌, IsTrue, MatchOption};
+ghost use Rattle.fleet_name.specs.Types.{Label, Labels, OctetList};
 ghost use Rattle.fleet_name.specs.Name.{wire, IsName};
 ghost use Rattle.fleet_wire.specs.Shape.{ArePlain, IsPlain};
 
@@ -11,8 +12,8 @@ use fleet_name::is_lower;
 /// The octets behind a name in full and in lower case, if one stands first.
 pub(crate) fn after_name(octets: &[u8]) -> Option<&[u8]>
     ensures { MatchOption result
-        ((n : List (List ℕ)) (others : List ℕ) → IsName n → octets.now ≡ wire n ++ others → ⊥)
-        (λ s. (n : List (List ℕ)) × IsName n × (octets.now ≡ wire n ++ s.now)) }
+        ((n : Labels) (others : OctetList) → IsName n → octets.now ≡ wire n ++ others → ⊥)
+        (λ s. (n : Labels) × IsName n × (octets.now ≡ wire n ++ s.now)) }
 {
     let mut at = 0;
     loop {

@@ -1,6 +1,7 @@
 //! What RDATA holds (RFC 1035 3.3, RFC 2782).
 
-ghost use Rattle.std.specs.Prelude.{◌≡◌, ℕ, ◌+◌, ◌<◌, ◌≤◌, List, ◌++◌, length, take, drop, Some, None, IfOk, IfErr, IfSome, MatchOption, MatchResult};
+ghost use Rattle.std.specs.Prelude.{◌≡◌, ◌+◌, ◌<◌, ◌≤◌, ◌++◌, length, take, drop, Some, None, IfOk, IfErr, IfSome, MatchOption, MatchResult};
+ghost use Rattle.fleet_name.specs.Types.{Labels};
 ghost use Rattle.fleet_name.specs.Name.{lower, wire};
 ghost use Rattle.fleet_name.specs.declared.bounds.TheConstants.{LONGEST_NAME};
 ghost use Rattle.fleet_wire.specs.NameAt.{ReadsName};
@@ -80,7 +81,7 @@ fn append_lower(out: &mut Rdata, octets: &[u8])
 /// Adds the name at a place, in full and in lower case, and tells where it ends.
 fn append_name(out: &mut Rdata, message: &[u8], at: usize) -> Result<usize, ReadFault>
     requires room { length out.old.items + LONGEST_NAME ≤ LONGEST_RDATA }
-    ensures found { IfOk result (λ past. (n : List (List ℕ)) × ReadsName message.now at n past
+    ensures found { IfOk result (λ past. (n : Labels) × ReadsName message.now at n past
         × (out.new.items ≡ out.old.items ++ wire n)) }
     ensures room { length out.new.items ≤ length out.old.items + LONGEST_NAME }
     ensures fault { IfErr result (λ f. NameFails message.now at f) }

@@ -1,6 +1,8 @@
 -- What an event makes of the site at which it happens.
 use Rattle.std.specs.Prelude.{◌≡◌, ◌≢◌, ℕ, max, List, [], ◌++◌, Option, Some, None, Result, Ok, Err}
-use Rattle.fleet_observe.specs.Observation.{ObservationData, AreObservations}
+use Rattle.fleet_name.specs.Types.{OctetList}
+use Rattle.fleet_wire.specs.Types.{Seconds}
+use Rattle.fleet_observe.specs.Observation.{AreObservations, Observations}
 use Rattle.fleet_name.specs.Places.{At}
 use Rattle.fleet_cache.specs.Cached.{IsCached}
 use Rattle.fleet_site.specs.Choice.{when◌then◌otherwise◌}
@@ -20,7 +22,7 @@ use Rattle.fleet_world.specs.declared.event.Event.TheVariants.{Datagram, Tick, S
 
 -- what joins all that was taken joins all that was heard of, and the horizon rises with the floor
 pub record BringsIn (a b : Replica) : Type 0 where
-  pub brought : List ObservationData
+  pub brought : Observations
   pub observations : AreObservations brought
   pub taken : b.site.taken ≡ brought ++ a.site.taken
   pub heard : b.heard ≡ brought ++ a.heard
@@ -44,9 +46,9 @@ with_delivery_by (Ok o) sweeps number a = with_delivery_unless o.refused sweeps 
 with_delivery_by (Err f) sweeps number a = a
 
 -- the kept frame of this number comes in
-pub record Delivers (m : FleetModel) (now number : ℕ)
+pub record Delivers (m : FleetModel) (now : Seconds) (number : ℕ)
     (r : Result OutcomeData SiteFault) (a b : Replica) : Type 0 where
-  pub octets : List ℕ
+  pub octets : OctetList
   pub kept : At m.frames number octets
   pub read : Replica
   pub calls : Calls (frame now octets) r a read
@@ -59,7 +61,7 @@ pub record Sweeps (o : OutcomeData) (a : Replica) : Type 0 where
 
 -- the site holds something: a sweep of a site that holds nothing needs no memory
 pub record HoldsSome (a : Replica) : Type 0 where
-  pub items : List ObservationData
+  pub items : Observations
   pub cached : IsCached a.site.taken a.site.floor items
   pub some : items ≢ []
 

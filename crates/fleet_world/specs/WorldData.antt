@@ -1,8 +1,9 @@
 -- What a world has.
-use Rattle.std.specs.Prelude.{ℕ, List}
+use Rattle.std.specs.Prelude.{List}
+use Rattle.fleet_name.specs.Types.{OctetList}
 use Rattle.fleet_site.specs.SiteData.{SiteData}
 
 -- the states of its sites, and the octets of each frame that was sent
 pub record WorldData : Type 0 where
   pub sites : List SiteData
-  pub frames : List (List ℕ)
+  pub frames : List OctetList

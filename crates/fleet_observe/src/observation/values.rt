@@ -1,6 +1,7 @@
 //! What the values of an observation have to meet.
 
-ghost use Rattle.std.specs.Prelude.{◌≡◌, ◌≢◌, ℕ, ◌<◌, ◌≤◌, ◌↔◌, List, [], length, IsTrue, IsFalse};
+ghost use Rattle.std.specs.Prelude.{◌≡◌, ◌≢◌, ◌<◌, ◌≤◌, ◌↔◌, [], length, IsTrue, IsFalse};
+ghost use Rattle.fleet_name.specs.Types.{OctetList};
 ghost use Rattle.fleet_wire.specs.Shape.{IsPlain};
 ghost use Rattle.fleet_observe.specs.Members.{Has, IsAscending};
 ghost use Rattle.fleet_observe.specs.Body.{positive_body, AreRdatas, IsDenial};
@@ -58,7 +59,7 @@ fn are_ascending<A: Allocator>(rdatas: &[Octets<A>]) -> bool
 
 /// Whether each has its type's shape.
 fn are_plain<A: Allocator>(rtype: u16, rdatas: &[Octets<A>]) -> bool
-    ensures { IsTrue result ↔ ((rdata : List ℕ) → Has rdatas.now rdata → IsPlain rtype rdata) }
+    ensures { IsTrue result ↔ ((rdata : OctetList) → Has rdatas.now rdata → IsPlain rtype rdata) }
 {
     for rdata in rdatas {
         if !plain_rdata(rtype, rdata.as_slice()) {

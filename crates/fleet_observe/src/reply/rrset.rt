@@ -1,6 +1,7 @@
 //! RRsets (RFC 2181 5).
 
-ghost use Rattle.std.specs.Prelude.{◌≡◌, ℕ, ◌≤◌, ◌⊎◌, ◌↔◌, List, length, IfOk, OnOk, IsTrue};
+ghost use Rattle.std.specs.Prelude.{◌≡◌, ◌≤◌, ◌⊎◌, ◌↔◌, length, IfOk, OnOk, IsTrue};
+ghost use Rattle.fleet_name.specs.Types.{OctetList};
 ghost use Rattle.fleet_name.specs.Name.{labels_of};
 ghost use Rattle.fleet_observe.specs.Members.{Has, IsAscending};
 ghost use Rattle.fleet_observe.specs.RrSet.{SpellsName, Belongs, InSet, IsTtl, IsRrSet, read_ttl, rrset_of_rows, count_below};
@@ -86,7 +87,7 @@ pub(crate) fn bounded_ttl(ttl: u32) -> u32
 /// The least TTL of an RRset.
 fn least_ttl<A: Allocator>(section: &[Record<A>], name: &[u8], rtype: u16) -> u32
     requires spelled { SpellsName name.now }
-    requires some { (d : List ℕ) × InSet section.now (labels_of name.now) rtype d }
+    requires some { (d : OctetList) × InSet section.now (labels_of name.now) rtype d }
     ensures { IsTtl section.now (labels_of name.now) rtype result }
 {
     let mut least = LONGEST_LIFE;
@@ -130,7 +131,7 @@ fn add<A: Allocator + Copy>(
 ) -> Result<(), AllocError>
     requires { IsAscending rdatas.old.items }
     ensures ascending { OnOk result (IsAscending rdatas.new.items) }
-    ensures members { OnOk result ((d : List ℕ)
+    ensures members { OnOk result ((d : OctetList)
         → Has rdatas.new.items d ↔ (Has rdatas.old.items d ⊎ (rdata.now ≡ d))) }
 {
     if holds(rdatas, rdata) {
@@ -148,7 +149,7 @@ pub(crate) fn gather<A: Allocator + Copy>(
     owner: &Name<A>,
     rtype: u16,
 ) -> Result<RrSet<A>, AllocError>
-    requires { (d : List ℕ) × InSet section.now owner.now rtype d }
+    requires { (d : OctetList) × InSet section.now owner.now rtype d }
     ensures { IfOk result (λ x. IsRrSet section.now owner.now rtype x) }
 {
     let name = owner.octets();

@@ -1,0 +1,14 @@
+-- What plain lists of octets stand for.
+use Rattle.std.specs.Prelude.{ℕ, List}
+
+-- octets, each of 0 to 255, as they stand in a message, a frame or a line
+abbrev pub OctetList : Type 0
+OctetList = List ℕ
+
+-- the octets of a label, its length octet left out
+abbrev pub Label : Type 0
+Label = List ℕ
+
+-- the labels of a name from the left, the root's left out
+abbrev pub Labels : Type 0
+Labels = List Label
