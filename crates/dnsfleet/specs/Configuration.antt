@@ -1,4 +1,5 @@
 -- What a configuration says, key by key, or its first fault.
+-- Serves the reader of a configuration.
 use Rattle.std.specs.Prelude.{◌≡◌, ◌≢◌, ℕ, ◌<◌, ◌≤◌, ◌⊎◌, ⊤, List, [], ◌∷◌, length, codes, IsSome, IsUtf8, Option, Some, None, Result, Ok, Err, ℤ, pos, Vec}
 use Rattle.std.specs.declared.alloc.Global.{Global}
 use Rattle.fleet_name.specs.Types.{OctetList}

@@ -1,4 +1,5 @@
 -- What is said of an event that was not done whole.
+-- Serves the reader of a script.
 use Rattle.fleet_world.specs.declared.fault.WorldFault.{WorldFault}
 use Rattle.fleet_world.specs.declared.fault.WorldFault.TheVariants.{NoSite, NoFrame, Memory, FramesLost}
 use Rattle.dnsfleet.specs.declared.fault.What.{What}

@@ -1,4 +1,5 @@
 -- The sites and the frames of a script, once the first event has made them and before.
+-- Serves `dnsfleet script`.
 use Rattle.std.specs.Prelude.{ℕ, length, Option, Some, None}
 use Rattle.fleet_world.specs.WorldData.{WorldData}
 use Rattle.fleet_world.specs.FleetModel.{opening}

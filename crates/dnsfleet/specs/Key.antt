@@ -1,4 +1,5 @@
 -- The key that a server is given.
+-- Serves `dnsfleet serve`.
 use Rattle.std.specs.Prelude.{◌≡◌, Ok}
 use Rattle.fleet_name.specs.Types.{OctetList}
 use Rattle.hex.specs.Hex.{decode_sized}

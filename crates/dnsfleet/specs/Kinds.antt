@@ -1,4 +1,5 @@
 -- The word for a kind of observation.
+-- Serves `dnsfleet script`.
 use Rattle.std.specs.Prelude.{codes}
 use Rattle.fleet_name.specs.Types.{OctetList}
 use Rattle.fleet_observe.specs.declared.observation.kind.Kind.{Kind}

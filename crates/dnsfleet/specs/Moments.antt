@@ -1,4 +1,5 @@
 -- Moments of a clock of the system.
+-- Serves the clock of `dnsfleet serve`.
 use Rattle.std.specs.Prelude.{ℕ, ◌/◌, min, Result, Ok, Err}
 use Rattle.std.specs.declared.time.Duration.{Duration}
 use Rattle.std.specs.Duration.{as_nanos}

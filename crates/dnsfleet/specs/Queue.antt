@@ -1,4 +1,5 @@
 -- Datagrams that wait in a port, each with the address that it came from or goes to.
+-- Serves the socket of `dnsfleet serve`.
 use Rattle.std.specs.Prelude.{◌≡◌, ◌⊎◌, ℕ, ◌≤◌, ◌<◌, min, Bool, true, false, List, [], ◌∷◌, ◌++◌, length, take, Option, Some, None, Result, Ok, Err}
 use Rattle.fleet_name.specs.Types.{OctetList}
 use Rattle.fleet_pending.specs.declared.waiter.Addr.{Addr}

@@ -1,11 +1,12 @@
 -- What the program serves: a new site, with the words of a key.
+-- Serves `dnsfleet serve`.
 use Rattle.std.specs.Prelude.{ℕ, Option}
 use Rattle.fleet_name.specs.Types.{OctetList}
 use Rattle.rand_core.specs.Steps.{stream_of, steps_u32}
 use Rattle.rand_core.specs.Stream.{Stream}
 use Rattle.rand_chacha.specs.ChaCha.{of_seed, next_word}
-use Rattle.fleet_site.specs.PortRecord.{PortState}
-use Rattle.fleet_site.specs.Served.{Served, FollowsSteps}
+use Rattle.fleet_site.specs.server.PortRecord.{PortState}
+use Rattle.fleet_site.specs.server.Served.{Served, FollowsSteps}
 use Rattle.fleet_site.specs.StandsFor.{StandsFor, opening}
 use Rattle.fleet_site.specs.SiteData.{SiteData}
 use Rattle.fleet_site.specs.declared.report.Report.{Report}

@@ -1,4 +1,5 @@
 -- The sites of a script, and their addresses.
+-- Serves the fleet of `dnsfleet script`.
 use Rattle.std.specs.Prelude.{ℕ, ◌+◌, List, [], ◌∷◌, ◌++◌, zero, suc, nat_eq, if◌then◌else◌}
 use Rattle.fleet_pending.specs.declared.waiter.Addr.{Addr}
 use Rattle.fleet_site.specs.ConfigData.{ConfigData}

@@ -1,4 +1,5 @@
 -- What is made of the system's addresses and errors.
+-- Serves the socket of `dnsfleet serve`.
 use Rattle.std.specs.Prelude.{◌≡◌, ◌⊎◌, Option, Some, None}
 use Rattle.std.specs.declared.io.ErrorKind.{ErrorKind}
 use Rattle.std.specs.declared.io.ErrorKind.TheVariants.{WouldBlock, TimedOut, Interrupted}

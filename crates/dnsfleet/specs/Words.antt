@@ -1,4 +1,5 @@
 -- What the words of a line say.
+-- Serves the readers of a script and of a configuration.
 use Rattle.std.specs.Prelude.{◌≡◌, ◌≢◌, ℕ, ◌≤◌, ◌⊎◌, ◌++◌, [], length, codes, nat_eq, IsFalse, Ok}
 use Rattle.std.specs.Char.{is_ascii_digit}
 use Rattle.std.specs.List.{AllPass, starts_with}

@@ -2,7 +2,7 @@
 
 ghost use Rattle.std.specs.Prelude.{◌≡◌, ◌↔◌, ◌≤◌, ◌≤ℤ◌, [], ◌∷◌, length, IsTrue, false, Some, None, IfOk, IfSome};
 ghost use Rattle.std.specs.Net.Udp.{udp_raw_fd};
-ghost use Rattle.fleet_site.specs.PortRecord.{NotesAll, receive_of, send_of, failures_after, one_more};
+ghost use Rattle.fleet_site.specs.server.PortRecord.{NotesAll, receive_of, send_of, failures_after, one_more};
 ghost use Rattle.dnsfleet.specs.Queue.{TakesIn, Receives, Leaves, SendsOrKeeps};
 ghost use Rattle.dnsfleet.specs.Socket.{IsAt, IsQuiet, address_in};
 ghost use Rattle.dnsfleet.specs.declared.udp_port.TheConstants.{LOWEST_FREE};

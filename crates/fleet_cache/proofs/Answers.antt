@@ -10,7 +10,7 @@ use Rattle.fleet_cache.specs.Void.{is_void}
 use Rattle.fleet_cache.specs.Live.{has_ended, is_live}
 use Rattle.fleet_cache.specs.Relevant.{is_name, is_relevant, speaks_of}
 use Rattle.fleet_cache.specs.Cached.{IsCached}
-use Rattle.fleet_cache.specs.Best.{IsBest, Speaks}
+use Rattle.fleet_cache.specs.steps.Best.{IsBest, Speaks}
 use Rattle.fleet_cache.specs.Answer.{ShownData, AnswerData, Missed, Found, NoData, NxDomain, add_link, by_kind, is_link, target, decider, answer_by, answer_within, add_links, part_at}
 use Rattle.fleet_cache.proofs.Best.{best_same, best_unique, best_filtered, best_kept}
 use Rattle.fleet_cache.proofs.Beats.{live_parts, live_to}

@@ -24,7 +24,7 @@ use Rattle.fleet_cache.specs.Void.{Voids, voids, is_void}
 use Rattle.fleet_cache.specs.Live.{has_ended, is_live, live_of}
 use Rattle.fleet_cache.specs.Dominates.{dominates}
 use Rattle.fleet_cache.specs.Cached.{place, IsCached}
-use Rattle.fleet_cache.specs.Orders.{over_from, over_chain}
+use Rattle.fleet_cache.specs.steps.Orders.{over_from, over_chain}
 use Rattle.fleet_cache.proofs.SameKeys.{key_parts}
 use Rattle.fleet_cache.proofs.Voids.{voids_from, voids_to, void_from, void_to, unvoided_by, voids_below, void_outlived}
 

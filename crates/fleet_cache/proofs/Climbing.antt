@@ -5,7 +5,7 @@ use Rattle.fleet_observe.specs.Members.{Has}
 use Rattle.fleet_name.proofs.Lemmas.{wire_cons}
 use Rattle.fleet_observe.specs.declared.observation.kind.Kind.{Kind}
 use Rattle.fleet_observe.specs.Observation.{ObservationData}
-use Rattle.fleet_cache.specs.Best.{IsBest, IsOn, IsAbove, IsParent}
+use Rattle.fleet_cache.specs.steps.Best.{IsBest, IsOn, IsAbove, IsParent}
 use Rattle.fleet_cache.specs.Answer.{better_of}
 use Rattle.fleet_cache.proofs.Best.{best_same, above_more}
 

@@ -14,11 +14,11 @@ use Rattle.fleet_cache.specs.Void.{Voids, IsVoid, is_void}
 use Rattle.fleet_cache.specs.Live.{has_ended, is_live, live_of}
 use Rattle.fleet_cache.specs.Dominates.{dominates}
 use Rattle.fleet_cache.specs.Cached.{place, IsCached, IsCovered, IsPast, IsNeedless, IsSameSet}
-use Rattle.fleet_cache.specs.Held.{IsHeld, IsTaken}
-use Rattle.fleet_cache.specs.Slots.{items_of, IsLaid, IsPut}
-use Rattle.fleet_cache.specs.Noted.{NotedData, AreNoted, HasNone, HasNoneShorter}
-use Rattle.fleet_cache.specs.Swept.{IsThinned, IsSwept}
-use Rattle.fleet_cache.specs.Orders.{over_from}
+use Rattle.fleet_cache.specs.steps.Held.{IsHeld, IsTaken}
+use Rattle.fleet_cache.specs.steps.Slots.{items_of, IsLaid, IsPut}
+use Rattle.fleet_cache.specs.steps.Noted.{NotedData, AreNoted, HasNone, HasNoneShorter}
+use Rattle.fleet_cache.specs.steps.Swept.{IsThinned, IsSwept}
+use Rattle.fleet_cache.specs.steps.Orders.{over_from}
 use Rattle.fleet_cache.proofs.Places.{place_laws}
 use Rattle.fleet_cache.proofs.Voids.{void_from, void_to, unvoided_by, unvoided_to, voids_below, voids_over, flush_stays, void_outlived}
 use Rattle.fleet_cache.proofs.Beats.{live_parts, live_to, lives_in, live_in}

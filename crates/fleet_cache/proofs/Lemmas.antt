@@ -5,8 +5,8 @@ use Rattle.std.proofs.lemmas.Bool.Decides.{nat_tests}
 use Rattle.fleet_front.proofs.Lemmas.{not_itself}
 use Rattle.fleet_observe.specs.Observation.{ObservationData, expires}
 use Rattle.fleet_cache.specs.Dominates.{dominates}
-use Rattle.fleet_cache.specs.Orders.{over_from, row_laws}
-pub use Rattle.fleet_cache.specs.Orders.{Over, over_from, over_to, over_chain, ended_below, row_laws}
+use Rattle.fleet_cache.specs.steps.Orders.{over_from, row_laws}
+pub use Rattle.fleet_cache.specs.steps.Orders.{Over, over_from, over_to, over_chain, ended_below, row_laws}
 pub use Rattle.fleet_cache.proofs.Places.{place_total, place_exact, place_laws}
 pub use Rattle.fleet_cache.proofs.SameKeys.{HasKeyOf, key_parts}
 pub use Rattle.fleet_cache.proofs.Beats.{beats, beats_chain, beaten_ends, beats_laws, cached_front, cached_from}

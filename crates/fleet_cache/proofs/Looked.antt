@@ -12,17 +12,18 @@ use Rattle.fleet_observe.specs.declared.observation.kind.Kind.{Kind}
 use Rattle.fleet_observe.specs.Observation.{ObservationData, AreObservations, kind_number}
 use Rattle.fleet_observe.specs.Preference.{preference, preference_total, octets_cmp}
 use Rattle.fleet_cache.specs.Front.{IsDescending}
-use Rattle.fleet_cache.specs.Row.{row}
+use Rattle.fleet_cache.specs.steps.Row.{row}
 use Rattle.fleet_cache.specs.Live.{is_live}
-use Rattle.fleet_cache.specs.Cut.{CutData, is_hidden, ShowsLiving, IsCutAt}
+use Rattle.fleet_cache.specs.Cut.{CutData, is_hidden}
+use Rattle.fleet_cache.specs.steps.CutAt.{ShowsLiving, IsCutAt}
 use Rattle.fleet_cache.specs.Dominates.{dominates}
 use Rattle.fleet_cache.specs.Cached.{is_covered, IsCovered}
-use Rattle.fleet_cache.specs.Packed.{octet_words, words_of, IsPackable}
-use Rattle.fleet_cache.specs.Slots.{items_of, IsSlot, IsLaid}
-use Rattle.fleet_cache.specs.Best.{IsBest, referent, IsOn}
-use Rattle.fleet_cache.specs.Keyed.{HasNoKey, IsOfKey, IsOfName, is_of, is_shown_of}
-use Rattle.fleet_cache.specs.Noted.{HasNone}
-use Rattle.fleet_cache.specs.Orders.{row_of_key}
+use Rattle.fleet_cache.specs.steps.Packed.{octet_words, words_of, IsPackable}
+use Rattle.fleet_cache.specs.steps.Slots.{items_of, IsSlot, IsLaid}
+use Rattle.fleet_cache.specs.steps.Best.{IsBest, referent, IsOn}
+use Rattle.fleet_cache.specs.steps.Keyed.{HasNoKey, IsOfKey, IsOfName, is_of, is_shown_of}
+use Rattle.fleet_cache.specs.steps.Noted.{HasNone}
+use Rattle.fleet_cache.specs.steps.Orders.{row_of_key}
 use Rattle.fleet_cache.proofs.Packed.{packed_exact}
 use Rattle.fleet_cache.proofs.Slots.{Around, over_words, in_slot, slot_of_key, covered_in_front, in_front, in_items}
 use Rattle.std.proofs.lemmas.Bool.{cases_Bool, not-true, or_left, or_right, and_parts, and_from}

@@ -10,7 +10,7 @@ use Rattle.std.proofs.lemmas.Cmp.{ranked, tied_itself, nat_cmp_total, nat_list_c
 use Rattle.std.proofs.lemmas.List.{length-drop}
 use Rattle.std.proofs.lemmas.Map.Lookups.{exact_unsigned, exact_bytes}
 use Rattle.fleet_cache.specs.declared.words.TheConstants.{WEIGHTS}
-use Rattle.fleet_cache.specs.Packed.{weigh, octet_words_within, octet_words, IsPackable}
+use Rattle.fleet_cache.specs.steps.Packed.{weigh, octet_words_within, octet_words, IsPackable}
 use Rattle.fleet_name.specs.Name.{wire, IsLabel}
 use Rattle.fleet_name.proofs.Lemmas.{wire_cons, wire_exact}
 use Rattle.fleet_observe.specs.Preference.{octets_cmp, name_cmp}

@@ -4,7 +4,7 @@ use Rattle.std.specs.List.{AllByRecursion}
 use Rattle.std.specs.Int.{w64, from_be_bytes}
 use Rattle.std.proofs.lemmas.List.{length-drop}
 use Rattle.fleet_cache.specs.declared.words.TheConstants.{WEIGHTS}
-use Rattle.fleet_cache.specs.Packed.{weigh, octet_words_within, octet_words}
+use Rattle.fleet_cache.specs.steps.Packed.{weigh, octet_words_within, octet_words}
 
 -- what is read as octets is below 256
 pub bytes_read : (xs : List ℕ) → ((i : ℕ) → Fits w8 (slice_index_or xs i 0))

@@ -12,8 +12,9 @@ use Rattle.fleet_observe.specs.declared.observation.kind.Kind.TheVariants.{Flush
 use Rattle.fleet_observe.specs.Observation.{ObservationData, IsObservation, AreObservations}
 use Rattle.fleet_cache.specs.Void.{IsVoid, is_flush, is_void}
 use Rattle.fleet_cache.specs.Live.{has_ended, lasts, is_live}
-use Rattle.fleet_cache.specs.Cut.{CutData, stamp_of, is_flushed, is_hidden, ShowsLiving, IsCutAt}
-use Rattle.fleet_cache.specs.Best.{IsBest, IsAbove}
+use Rattle.fleet_cache.specs.Cut.{CutData, is_flushed, is_hidden}
+use Rattle.fleet_cache.specs.steps.CutAt.{stamp_of, ShowsLiving, IsCutAt}
+use Rattle.fleet_cache.specs.steps.Best.{IsBest, IsAbove}
 use Rattle.fleet_cache.proofs.Best.{AtLeast}
 use Rattle.fleet_cache.proofs.Beats.{live_to}
 use Rattle.fleet_cache.proofs.Holdings.{gone_ended, gone_void}

@@ -11,7 +11,7 @@ use Rattle.fleet_observe.proofs.Lemmas.{then_parts, preference_exact}
 use Rattle.fleet_cache.specs.Live.{has_ended}
 use Rattle.fleet_cache.specs.Dominates.{dominates}
 use Rattle.fleet_cache.specs.Cached.{place}
-use Rattle.fleet_cache.specs.Orders.{over_from, over_chain, ended_below}
+use Rattle.fleet_cache.specs.steps.Orders.{over_from, over_chain, ended_below}
 
 pub place_total : IsTotalOrder place
 place_total =

@@ -15,12 +15,12 @@ use Rattle.fleet_observe.specs.Preference.{octets_cmp, name_cmp}
 use Rattle.fleet_observe.proofs.Lemmas.{key_exact}
 use Rattle.fleet_cache.specs.Front.{IsDescending, IsFront}
 use Rattle.fleet_cache.specs.Dominates.{dominates}
-use Rattle.fleet_cache.specs.Row.{row}
-use Rattle.fleet_cache.specs.Packed.{octet_words, words_of, IsPackable}
+use Rattle.fleet_cache.specs.steps.Row.{row}
+use Rattle.fleet_cache.specs.steps.Packed.{octet_words, words_of, IsPackable}
 use Rattle.fleet_cache.specs.Cached.{place, IsCovered}
-use Rattle.fleet_cache.specs.Slots.{items_of, concat, is_nil, IsSlot, IsLaid, IsPut}
+use Rattle.fleet_cache.specs.steps.Slots.{items_of, concat, is_nil, IsSlot, IsLaid, IsPut}
 use Rattle.fleet_cache.proofs.Packed.{packed_cmp, packed_exact}
-use Rattle.fleet_cache.specs.Orders.{row_laws, over_from}
+use Rattle.fleet_cache.specs.steps.Orders.{row_laws, over_from}
 use Rattle.fleet_cache.proofs.Keys.{place_of_name, place_before}
 use Rattle.fleet_cache.proofs.Places.{place_laws}
 use Rattle.std.proofs.lemmas.Bool.{cases_Bool}

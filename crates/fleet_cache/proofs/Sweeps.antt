@@ -8,11 +8,11 @@ use Rattle.fleet_observe.specs.Members.{Has}
 use Rattle.fleet_observe.specs.Observation.{ObservationData}
 use Rattle.fleet_cache.specs.Front.{IsDescending}
 use Rattle.fleet_cache.specs.Cut.{CutData, is_hidden}
-use Rattle.fleet_cache.specs.Packed.{words_of}
-use Rattle.fleet_cache.specs.Slots.{items_of, is_nil, IsSlot, IsLaid}
-use Rattle.fleet_cache.specs.Swept.{IsThinned}
+use Rattle.fleet_cache.specs.steps.Packed.{words_of}
+use Rattle.fleet_cache.specs.steps.Slots.{items_of, is_nil, IsSlot, IsLaid}
+use Rattle.fleet_cache.specs.steps.Swept.{IsThinned}
 use Rattle.fleet_cache.proofs.Holdings.{live_shorter}
-use Rattle.fleet_cache.specs.Orders.{cut_laws}
+use Rattle.fleet_cache.specs.steps.Orders.{cut_laws}
 use Rattle.fleet_observe.specs.Preference.{octets_cmp}
 use Rattle.std.proofs.lemmas.Bool.{cases_Bool}
 use Rattle.fleet_front.proofs.Lemmas.{front_itself, front_shown}

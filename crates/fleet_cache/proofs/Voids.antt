@@ -12,7 +12,7 @@ use Rattle.fleet_observe.specs.Observation.{ObservationData, IsObservation, expi
 use Rattle.fleet_cache.specs.Relevant.{is_under}
 use Rattle.fleet_cache.specs.Void.{Voids, IsVoid, is_flush, voids, is_void}
 use Rattle.fleet_cache.specs.Dominates.{dominates}
-use Rattle.fleet_cache.specs.Orders.{over_from}
+use Rattle.fleet_cache.specs.steps.Orders.{over_from}
 use Rattle.fleet_cache.proofs.SameKeys.{key_parts}
 use Rattle.fleet_cache.proofs.Under.{under_from, under_to}
 

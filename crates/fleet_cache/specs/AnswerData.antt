@@ -1,4 +1,5 @@
 -- What an answer says.
+-- Serves `Cache::answer`.
 use Rattle.std.specs.Prelude.{List, [], Option}
 use Rattle.fleet_cache.specs.Answer.{AnswerData, ShownData, Missed, Found as FoundPlain, NoData as NoDataPlain, NxDomain as NxDomainPlain}
 use Rattle.fleet_cache.specs.declared.answer.Answer.{Answer}

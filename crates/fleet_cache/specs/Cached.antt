@@ -1,4 +1,5 @@
 -- What a cache holds of a set of observations.
+-- Serves every call of `Cache`.
 use Rattle.std.specs.Prelude.{◌≡◌, ℕ, Bool, ◌≤◌, ◌⊎◌, slice_get, Some}
 use Rattle.std.specs.declared.cmp.Ordering.{Ordering}
 use Rattle.std.specs.Ordering.{ordering_then}
@@ -31,10 +32,6 @@ pub record CacheData : Type 0 where
 abbrev pub IsCovered : Observations → ObservationData → Type 0
 IsCovered items o = IsCoveredBy dominates items o
 
--- the same as a test
-abbrev pub is_covered : Observations → ObservationData → Bool
-is_covered items o = is_covered_by preference dominates o items
-
 -- o is past for a cache: it has ended at the floor, or is void
 abbrev pub IsPast : Seconds → Observations → ObservationData → Type 0
 IsPast floor items o = (expires o ≤ floor) ⊎ IsVoid items o
@@ -52,3 +49,9 @@ IsNeededAt floor items list at =
 pub record IsSameSet (s t : Observations) : Type 0 where
   pub into : (x : ObservationData) → Has s x → Has t x
   pub back : (x : ObservationData) → Has t x → Has s x
+
+-- What follows, private contracts alone cite.
+
+-- the same as a test
+abbrev pub is_covered : Observations → ObservationData → Bool
+is_covered items o = is_covered_by preference dominates o items

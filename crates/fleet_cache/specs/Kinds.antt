@@ -1,4 +1,5 @@
 -- The kinds of an answer's parts.
+-- Serves `Cache::answer`.
 use Rattle.std.specs.Prelude.{◌≡◌, List, [], ◌∷◌}
 use Rattle.fleet_observe.specs.declared.observation.kind.Kind.TheVariants.{NameError, NoData as WithoutData, Positive}
 use Rattle.fleet_cache.specs.Answer.{ShownData, AnswerData, Missed, Found, NoData, NxDomain}

@@ -1,4 +1,5 @@
 -- The links of an answer, which lie in place with room for more.
+-- Serves `Cache::answer`.
 use Rattle.std.specs.Prelude.{List, [], ◌∷◌, Option, Some, None}
 use Rattle.fleet_cache.specs.Answer.{ShownData}
 

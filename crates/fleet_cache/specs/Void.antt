@@ -1,4 +1,5 @@
 -- What flushes withdraw.
+-- Serves every call of `Cache`.
 use Rattle.std.specs.Prelude.{◌≡◌, ◌≢◌, ◌≤◌, Bool, true, false, ◌&&◌, not, nat_le}
 use Rattle.std.specs.List.{list_any}
 use Rattle.fleet_name.specs.Name.{IsUnder}

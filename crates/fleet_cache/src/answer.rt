@@ -6,7 +6,7 @@ ghost use Rattle.fleet_name.specs.Name.{wire, IsName, IsWire};
 ghost use Rattle.fleet_wire.specs.declared.rtype.TheConstants.{CNAME};
 ghost use Rattle.fleet_observe.specs.declared.observation.kind.Kind.TheVariants.{Positive};
 ghost use Rattle.fleet_cache.specs.Live.{shown_ttl as ttl_at};
-ghost use Rattle.fleet_cache.specs.Held.{IsHeld};
+ghost use Rattle.fleet_cache.specs.steps.Held.{IsHeld};
 ghost use Rattle.fleet_cache.specs.Answer.{answer_of, part_at, add_links, by_kind, is_link as leads_on, target as alias_target};
 ghost use Rattle.fleet_cache.specs.Shown.{shown_parts, AllSome};
 ghost use Rattle.fleet_cache.specs.AnswerData.{answer_data, chain_of};

@@ -6,11 +6,11 @@ ghost use Rattle.fleet_name.specs.Name.{wire, IsWire};
 ghost use Rattle.fleet_observe.specs.declared.observation.kind.Kind.{Kind};
 ghost use Rattle.fleet_observe.specs.declared.observation.kind.Kind.TheVariants.{NameError, Flush};
 ghost use Rattle.fleet_cache.specs.Cached.{IsCovered};
-ghost use Rattle.fleet_cache.specs.Held.{IsHeld, IsTaken};
-ghost use Rattle.fleet_cache.specs.Keyed.{HasNoKey, IsOfKey, IsOfName};
-ghost use Rattle.fleet_cache.specs.Noted.{HasNone, HasNoneShorter};
-ghost use Rattle.fleet_cache.specs.Swept.{IsTrimmed};
-ghost use Rattle.fleet_cache.specs.Slots.{concat};
+ghost use Rattle.fleet_cache.specs.steps.Held.{IsHeld, IsTaken};
+ghost use Rattle.fleet_cache.specs.steps.Keyed.{HasNoKey, IsOfKey, IsOfName};
+ghost use Rattle.fleet_cache.specs.steps.Noted.{HasNone, HasNoneShorter};
+ghost use Rattle.fleet_cache.specs.steps.Swept.{IsTrimmed};
+ghost use Rattle.fleet_cache.specs.steps.Slots.{concat};
 
 use crate::cut::Cut;
 use crate::item::Item;
@@ -39,9 +39,9 @@ impl<A: Allocator> Model for Held<A> {
     ghost use Rattle.std.specs.Prelude.{List};
     ghost use Rattle.fleet_observe.specs.Observation.{ObservationData};
     ghost use Rattle.fleet_observe.specs.declared.observation.kind.Kind.TheVariants.{NameError, Flush};
-    ghost use Rattle.fleet_cache.specs.Held.{IsHeld};
-    ghost use Rattle.fleet_cache.specs.Slots.{items_of, IsLaid};
-    ghost use Rattle.fleet_cache.specs.Noted.{AreNoted};
+    ghost use Rattle.fleet_cache.specs.steps.Held.{IsHeld};
+    ghost use Rattle.fleet_cache.specs.steps.Slots.{items_of, IsLaid};
+    ghost use Rattle.fleet_cache.specs.steps.Noted.{AreNoted};
 
     ghost Value = { List ObservationData };
 

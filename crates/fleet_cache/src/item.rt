@@ -4,7 +4,7 @@ ghost use Rattle.std.specs.Prelude.{◌≡◌, ◌||◌};
 ghost use Rattle.std.specs.Ordering.{is_eq};
 ghost use Rattle.fleet_observe.specs.Preference.{preference};
 ghost use Rattle.fleet_cache.specs.Dominates.{dominates as over, is_same_key};
-ghost use Rattle.fleet_cache.specs.Row.{row as row_of};
+ghost use Rattle.fleet_cache.specs.steps.Row.{row as row_of};
 
 use crate::cut::Cut;
 use fleet_front::Ranked;
@@ -96,10 +96,10 @@ fn row<A: Allocator>(one: &Observation<A>, other: &Observation<A>) -> Ordering
 impl<A: Allocator> Ranked for Item<A> {
     type Cut = Cut;
 
-    ghost use Rattle.fleet_cache.specs.Row.{row};
+    ghost use Rattle.fleet_cache.specs.steps.Row.{row};
     ghost use Rattle.fleet_cache.specs.Dominates.{dominates as is_over};
     ghost use Rattle.fleet_cache.specs.Cut.{is_hidden};
-    ghost use Rattle.fleet_cache.specs.Orders.{cut_laws};
+    ghost use Rattle.fleet_cache.specs.steps.Orders.{cut_laws};
 
     ghost order = { row };
 

@@ -4,7 +4,7 @@ ghost use Rattle.std.specs.Prelude.{◌≡◌, ◌≤◌, ◌<◌, false, [], �
 ghost use Rattle.fleet_name.specs.declared.bounds.TheConstants.{LONGEST_NAME};
 ghost use Rattle.fleet_observe.specs.Observation.{IsObservation, Observations};
 ghost use Rattle.fleet_observe.specs.declared.observation.kind.Kind.{Kind};
-ghost use Rattle.fleet_cache.specs.Noted.{AreNoted};
+ghost use Rattle.fleet_cache.specs.steps.Noted.{AreNoted};
 
 use fleet_name::bounds::LONGEST_NAME;
 use fleet_observe::{Kind, Observation};
@@ -25,7 +25,7 @@ pub(crate) struct Noted {
 }
 
 impl Model for Noted {
-    ghost use Rattle.fleet_cache.specs.Noted.{NotedData};
+    ghost use Rattle.fleet_cache.specs.steps.Noted.{NotedData};
 
     ghost Value = { NotedData };
 

@@ -3,11 +3,11 @@
 ghost use Rattle.std.specs.Prelude.{◌≡◌, ℕ, Bool, ◌≤◌, ◌↔◌, [], ◌∷◌, length, IsTrue, OnErr, IfOk};
 ghost use Rattle.fleet_cache.specs.Front.{IsFront};
 ghost use Rattle.fleet_cache.specs.Dominates.{dominates};
-ghost use Rattle.fleet_cache.specs.Row.{row};
+ghost use Rattle.fleet_cache.specs.steps.Row.{row};
 ghost use Rattle.fleet_cache.specs.Cached.{is_covered, IsCovered};
-ghost use Rattle.fleet_cache.specs.Packed.{words_of, IsPackable};
-ghost use Rattle.fleet_cache.specs.Slots.{items_of, IsLaid, IsPut};
-ghost use Rattle.fleet_cache.specs.Swept.{IsTrimmed};
+ghost use Rattle.fleet_cache.specs.steps.Packed.{words_of, IsPackable};
+ghost use Rattle.fleet_cache.specs.steps.Slots.{items_of, IsLaid, IsPut};
+ghost use Rattle.fleet_cache.specs.steps.Swept.{IsTrimmed};
 
 use crate::cut::Cut;
 use crate::item::Item;

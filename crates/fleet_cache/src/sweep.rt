@@ -2,8 +2,8 @@
 
 ghost use Rattle.std.specs.Prelude.{OnErr};
 ghost use Rattle.fleet_cache.specs.Cached.{IsCovered};
-ghost use Rattle.fleet_cache.specs.Held.{IsHeld};
-ghost use Rattle.fleet_cache.specs.Swept.{IsSwept};
+ghost use Rattle.fleet_cache.specs.steps.Held.{IsHeld};
+ghost use Rattle.fleet_cache.specs.steps.Swept.{IsSwept};
 
 use crate::held::Held;
 use crate::lookup::cut_at;

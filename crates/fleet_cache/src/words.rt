@@ -3,7 +3,7 @@
 ghost use Rattle.std.specs.Prelude.{◌≡◌, ◌<◌, ◌≤◌, ◌*◌, length};
 ghost use Rattle.std.specs.List.{AllByRecursion};
 ghost use Rattle.fleet_cache.specs.declared.words.TheConstants.{MOST_WORDS, WEIGHTS, WORD_OCTETS};
-ghost use Rattle.fleet_cache.specs.Packed.{weigh, octet_words};
+ghost use Rattle.fleet_cache.specs.steps.Packed.{weigh, octet_words};
 
 use arrayvec::ArrayVec;
 

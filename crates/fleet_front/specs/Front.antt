@@ -1,4 +1,5 @@
 -- What a front of a set is, for any order, dominance and cut that keep the laws.
+-- Serves every call of `Front`.
 use Rattle.std.specs.Prelude.{ℕ, suc, ◌≡◌, Bool, true, false, ◌⊎◌, ◌||◌, not, if◌then◌else◌, List, [], ◌∷◌}
 use Rattle.std.specs.List.{filter, list_any}
 use Rattle.std.specs.declared.cmp.Ordering.{Ordering}

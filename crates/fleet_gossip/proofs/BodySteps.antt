@@ -16,7 +16,7 @@ use Rattle.fleet_observe.specs.Checks.{IsCountOf}
 use Rattle.fleet_observe.specs.declared.bounds.TheConstants.{LONGEST_BODY}
 use Rattle.fleet_gossip.specs.Entry.{AreFirstRdatas}
 use Rattle.fleet_gossip.specs.Faults.{cut, refused, behind, OctetsFail, cut_octets, refused_octets, SizedFails, RdatasFail, rdata_fails, NegativeFails, stranger, soa_fails}
-use Rattle.fleet_gossip.specs.Steps.{AreMissing, IsSplitAfter, AnyRdata, IsAbove, IsPart, IsSizeOf, AreFirstOf, IsOwnerOf}
+use Rattle.fleet_gossip.specs.steps.Reading.{AreMissing, IsSplitAfter, AnyRdata, IsAbove, IsPart, IsSizeOf, AreFirstOf, IsOwnerOf}
 use Rattle.fleet_gossip.specs.declared.fault.FrameFault.{FrameFault}
 use Rattle.fleet_gossip.specs.declared.fault.FrameFault.TheVariants.{BadBody}
 use Rattle.fleet_name.proofs.Lemmas.{has_right, has_either}

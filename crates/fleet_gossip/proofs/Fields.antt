@@ -3,7 +3,7 @@
 use Rattle.std.proofs.Common.{◌≡◌, ℕ, ◌<◌, List, ◌++◌, length, sym, ap, ◌∙◌, subst, arith, length-append}
 use Rattle.fleet_name.proofs.Lemmas.{split_same}
 use Rattle.fleet_gossip.specs.Faults.{FieldFails, cut, refused, behind, OctetsFail, cut_octets, refused_octets}
-use Rattle.fleet_gossip.specs.Steps.{NoField}
+use Rattle.fleet_gossip.specs.steps.Reading.{NoField}
 use Rattle.fleet_gossip.specs.declared.fault.FrameFault.{FrameFault}
 
 module _ (spelled : ℕ → List ℕ) (size : ℕ) (Lawful : ℕ → Type 0) (refusal : FrameFault)

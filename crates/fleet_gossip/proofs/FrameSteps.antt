@@ -9,7 +9,7 @@ use Rattle.fleet_gossip.specs.Entry.{octet, entry_octets, IsVersion, IsIn, AreIn
 use Rattle.fleet_gossip.specs.Frame.{entries, SpellsFrame, HasEntries}
 use Rattle.fleet_gossip.specs.declared.frame.TheConstants.{MAGIC}
 use Rattle.fleet_gossip.specs.Faults.{cut, refused, behind, EntryFails, EntriesFail, entry_fails, more_octets, FrameFieldsFail, FrameFails}
-use Rattle.fleet_gossip.specs.Steps.{AreMissing, IsOpening, BeginsWithEntries, AreEntryOctets}
+use Rattle.fleet_gossip.specs.steps.Reading.{AreMissing, IsOpening, BeginsWithEntries, AreEntryOctets}
 use Rattle.fleet_gossip.specs.declared.fault.FrameFault.{FrameFault}
 use Rattle.fleet_gossip.specs.declared.fault.FrameFault.TheVariants.{BadMagic, BadVersion, Trailing}
 use Rattle.fleet_gossip.specs.declared.bounds.TheConstants.{LONGEST_FRAME}

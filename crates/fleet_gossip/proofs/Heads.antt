@@ -7,8 +7,8 @@ use Rattle.fleet_observe.specs.Checks.{IsRankOf, IsLifeOf, IsTypeOf}
 use Rattle.fleet_observe.specs.Observation.{ObservationData, IsObservation, kind_number}
 use Rattle.fleet_gossip.specs.Entry.{octet, u64_octets, entry_octets, IsKindIn, IsMoment, AreBodyOctets}
 use Rattle.fleet_gossip.specs.Faults.{behind, behind_name, BodyFails, EntryFails}
-use Rattle.fleet_gossip.specs.Steps.{IsField, IsKindAt, IsHead, IsPart}
-use Rattle.fleet_gossip.specs.EntryOf.{IsEntryOf}
+use Rattle.fleet_gossip.specs.steps.Reading.{IsField, IsKindAt, IsHead, IsPart}
+use Rattle.fleet_gossip.specs.steps.EntryOf.{IsEntryOf}
 use Rattle.fleet_gossip.specs.declared.fault.FrameFault.{FrameFault}
 use Rattle.fleet_gossip.specs.declared.head.Head.{Head}
 use Rattle.fleet_gossip.proofs.EntryLines.{NamedFails, TypeFails, LifeFails, StampFails, RankFails}

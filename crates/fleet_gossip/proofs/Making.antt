@@ -12,8 +12,8 @@ use Rattle.fleet_observe.specs.declared.bounds.TheConstants.{LONGEST_DENIAL, LON
 use Rattle.fleet_observe.specs.declared.observation.kind.Kind.TheVariants.{Positive}
 use Rattle.fleet_observe.specs.declared.observation.fault.ObservationFault.{ObservationFault}
 use Rattle.fleet_gossip.specs.Faults.{SizedFails, FrameNameFails}
-use Rattle.fleet_gossip.specs.Steps.{AnyRdata, IsPart, IsSoaBody}
-use Rattle.fleet_gossip.specs.EntryOf.{IsEntryOf}
+use Rattle.fleet_gossip.specs.steps.Reading.{AnyRdata, IsPart, IsSoaBody}
+use Rattle.fleet_gossip.specs.steps.EntryOf.{IsEntryOf}
 use Rattle.fleet_gossip.specs.declared.entry.FrameEntry.{FrameEntry}
 use Rattle.fleet_gossip.specs.declared.fault.FrameFault.{FrameFault}
 use Rattle.fleet_gossip.specs.declared.fault.FrameFault.TheVariants as refusal

@@ -8,7 +8,7 @@ use Rattle.std.specs.List.{flat_map}
 use Rattle.fleet_name.specs.Name.{label_octets, wire, lower, IsName, IsWire}
 use Rattle.fleet_name.specs.declared.bounds.TheConstants.{LONGEST_LABEL, LONGEST_NAME}
 use Rattle.fleet_gossip.specs.Faults.{refused, behind, cut_octets, refused_octets, IsRoom, LabelFails}
-use Rattle.fleet_gossip.specs.Steps.{AreMissing, IsSplitAfter, IsLabelAt, IsSizeOf}
+use Rattle.fleet_gossip.specs.steps.Reading.{AreMissing, IsSplitAfter, IsLabelAt, IsSizeOf}
 use Rattle.fleet_gossip.specs.declared.fault.FrameFault.{FrameFault}
 use Rattle.fleet_name.proofs.Lemmas.{named_push}
 use Rattle.fleet_gossip.proofs.Names.{wire-append}

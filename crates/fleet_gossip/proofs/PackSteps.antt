@@ -2,7 +2,7 @@
 use Rattle.std.proofs.Common.{◌≡◌, ℕ, ◌+◌, ◌<◌, ◌≤◌, List, [], ◌∷◌, ◌++◌, length, refl, sym, ap, ◌∙◌, subst, inl, inr, arith, length-append, append_assoc, take, drop, get_or, add-one, drop-cons}
 use Rattle.std.proofs.Math.ListN.{drop_of_length-le}
 use Rattle.std.proofs.lemmas.List.Folds.{length-flat_map-take}
-use Rattle.fleet_gossip.specs.Steps.{FitsFrame}
+use Rattle.fleet_gossip.specs.steps.Reading.{FitsFrame}
 use Rattle.std.proofs.lemmas.List.{append-nil, nil_from_length, take_more}
 use Rattle.fleet_wire.specs.Number.{u16_octets, u32_octets}
 use Rattle.fleet_observe.specs.Observation.{ObservationData, IsObservation, AreObservations}
@@ -10,7 +10,7 @@ use Rattle.fleet_gossip.specs.Entry.{octet, u64_octets, entry_octets}
 use Rattle.fleet_gossip.specs.Frame.{entries, frame_octets, WritesFrame}
 use Rattle.fleet_gossip.specs.declared.frame.TheConstants.{MAGIC, VERSION}
 use Rattle.fleet_gossip.specs.Packed.{IsPacked, none, more}
-use Rattle.fleet_gossip.specs.Packs.{Hold}
+use Rattle.fleet_gossip.specs.steps.Packs.{Hold}
 use Rattle.fleet_gossip.specs.declared.bounds.TheConstants.{LONGEST_ENTRY, LONGEST_FRAME}
 use Rattle.fleet_gossip.proofs.Frames.{all_pushed, are_written}
 use Rattle.fleet_gossip.proofs.Packing.{entries_push, frame_push, frame_length}

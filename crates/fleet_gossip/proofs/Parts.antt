@@ -1,6 +1,6 @@
 -- Parts at the front of octets.
 use Rattle.std.proofs.Common.{ℕ, List, length, sym, ap, ◌∙◌, subst, arith, length-append}
-use Rattle.fleet_gossip.specs.Steps.{AreMissing, IsSplitAfter, IsPart, IsSizeOf}
+use Rattle.fleet_gossip.specs.steps.Reading.{AreMissing, IsSplitAfter, IsPart, IsSizeOf}
 use Rattle.fleet_gossip.specs.declared.fault.FrameFault.{FrameFault}
 use Rattle.fleet_name.proofs.Lemmas.{split_same}
 

@@ -1,5 +1,6 @@
 -- An entry of a frame: one observation. All numbers are big-endian, all names in lower case and in
 -- full.
+-- Serves `encode`, `decode`.
 use Rattle.std.specs.Prelude.{◌≡◌, ℕ, ◌/◌, ◌%◌, ◌≤◌, List, [], ◌∷◌, ◌++◌, length}
 use Rattle.fleet_name.specs.Types.{Labels, OctetList}
 use Rattle.fleet_wire.specs.Types.{RType, Seconds}
@@ -64,6 +65,8 @@ pub record AreFirstRdatas (rtype : RType) (rdatas : List OctetList) : Type 0 whe
   pub ascending : IsAscending rdatas
   pub plain : (rdata : OctetList) → Has rdatas rdata → IsPlain rtype rdata
   pub short : length (positive_body rdatas) ≤ LONGEST_BODY
+
+-- What follows, private contracts alone cite.
 
 -- octets that are a body of the kind, of an observation of the name and the type
 abbrev pub AreBodyOctets : Kind → Labels → RType → OctetList → Type 0

@@ -1,5 +1,6 @@
 -- Why octets are no frame: the first fault, in reading order. The octets of each definition are
 -- those that are left.
+-- Serves `encode`, `decode`.
 use Rattle.std.specs.Prelude.{◌≡◌, ℕ, ◌+◌, ◌<◌, ◌≤◌, ◌⊎◌, List, [], ◌∷◌, ◌++◌, length}
 use Rattle.std.specs.List.{flat_map}
 use Rattle.fleet_name.specs.Types.{Label, Labels, OctetList}

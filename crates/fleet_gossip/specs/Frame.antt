@@ -1,4 +1,5 @@
 -- A frame: observations as octets.
+-- Serves `encode`, `decode`.
 use Rattle.std.specs.Prelude.{◌≡◌, ◌≢◌, ℕ, ◌≤◌, [], ◌++◌, length}
 use Rattle.std.specs.List.{flat_map}
 use Rattle.fleet_name.specs.Types.{OctetList}

@@ -1,4 +1,5 @@
 -- How a list of observations is packed into frames.
+-- Serves `pack`, `sweep`.
 use Rattle.std.specs.Prelude.{◌≡◌, ◌<◌, List, [], ◌∷◌, ◌++◌, length}
 use Rattle.fleet_name.specs.Types.{OctetList}
 use Rattle.fleet_observe.specs.Observation.{Observations}

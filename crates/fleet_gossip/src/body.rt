@@ -7,7 +7,7 @@ ghost use Rattle.fleet_observe.specs.Body.{octets_with_length, positive_body, Is
 ghost use Rattle.fleet_observe.specs.declared.bounds.TheConstants.{LONGEST_BODY};
 ghost use Rattle.fleet_gossip.specs.Entry.{AreFirstRdatas, AreBodyOctets};
 ghost use Rattle.fleet_gossip.specs.Faults.{SizedFails, RdatasFail, PositiveFails, NegativeFails, BodyFails};
-ghost use Rattle.fleet_gossip.specs.Steps.{AnyRdata, IsAbove, HasLast, IsPart, IsSizeOf, AreFirstOf, IsOwnerOf};
+ghost use Rattle.fleet_gossip.specs.steps.Reading.{AnyRdata, IsAbove, HasLast, IsPart, IsSizeOf, AreFirstOf, IsOwnerOf};
 
 use crate::fault::FrameFault;
 use crate::name::{is_under, read_name};

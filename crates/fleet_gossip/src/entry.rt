@@ -9,8 +9,8 @@ ghost use Rattle.fleet_observe.specs.declared.observation.kind.Kind.TheVariants.
 ghost use Rattle.fleet_observe.specs.Checks.{denied_kind, denied_type};
 ghost use Rattle.fleet_gossip.specs.Entry.{entry_octets, IsKindIn};
 ghost use Rattle.fleet_gossip.specs.Faults.{EntryFails};
-ghost use Rattle.fleet_gossip.specs.Steps.{IsRdatasBody, IsSoaBody};
-ghost use Rattle.fleet_gossip.specs.EntryOf.{IsEntryOf};
+ghost use Rattle.fleet_gossip.specs.steps.Reading.{IsRdatasBody, IsSoaBody};
+ghost use Rattle.fleet_gossip.specs.steps.EntryOf.{IsEntryOf};
 
 use crate::body::{read_body, read_sized};
 use crate::fault::FrameFault;

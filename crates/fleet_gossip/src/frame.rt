@@ -6,7 +6,7 @@ ghost use Rattle.fleet_observe.specs.Observation.{Observations};
 ghost use Rattle.fleet_gossip.specs.Entry.{IsVersion};
 ghost use Rattle.fleet_gossip.specs.Frame.{frame_octets, SpellsFrame, WritesFrame, HasEntries};
 ghost use Rattle.fleet_gossip.specs.Faults.{EntriesFail, FrameFieldsFail, FrameFails, IsTooLong};
-ghost use Rattle.fleet_gossip.specs.Steps.{IsOpening, BeginsWithEntries, AreEntryOctets, IsFrameOfEntries, FitsFrame};
+ghost use Rattle.fleet_gossip.specs.steps.Reading.{IsOpening, BeginsWithEntries, AreEntryOctets, IsFrameOfEntries, FitsFrame};
 ghost use Rattle.fleet_gossip.specs.declared.frame.TheConstants.{VERSION};
 ghost use Rattle.fleet_gossip.specs.declared.bounds.TheConstants.{LONGEST_FRAME};
 ghost use Rattle.fleet_gossip.specs.declared.fault.FrameFault.TheVariants.{TooLong, OutOfMemory};

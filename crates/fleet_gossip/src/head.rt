@@ -6,7 +6,7 @@ ghost use Rattle.fleet_observe.specs.declared.observation.kind.Kind.{Kind as Any
 ghost use Rattle.fleet_observe.specs.Checks.{IsRankOf, IsLifeOf, IsTypeOf};
 ghost use Rattle.fleet_gossip.specs.Entry.{octet, u64_octets, IsKind, IsKindIn, IsKindNumber, IsMoment};
 ghost use Rattle.fleet_gossip.specs.Faults.{EntryFails};
-ghost use Rattle.fleet_gossip.specs.Steps.{IsField, NoField, IsKindAt, IsHead};
+ghost use Rattle.fleet_gossip.specs.steps.Reading.{IsField, NoField, IsKindAt, IsHead};
 ghost use Rattle.fleet_gossip.specs.declared.fault.FrameFault.TheVariants.{BadKind, BadRank, BadMoment, BadLife};
 
 use crate::fault::FrameFault;

@@ -5,7 +5,7 @@ ghost use Rattle.fleet_name.specs.Types.{Labels};
 ghost use Rattle.fleet_name.specs.Name.{wire, IsName, IsUnder, IsWire};
 ghost use Rattle.fleet_name.specs.declared.bounds.TheConstants.{LONGEST_NAME};
 ghost use Rattle.fleet_gossip.specs.Faults.{LabelFails, FrameNameFails};
-ghost use Rattle.fleet_gossip.specs.Steps.{IsLabelAt, IsPart, IsSizeOf};
+ghost use Rattle.fleet_gossip.specs.steps.Reading.{IsLabelAt, IsPart, IsSizeOf};
 
 use crate::fault::FrameFault;
 use crate::reader::Reader;

@@ -6,7 +6,7 @@ ghost use Rattle.fleet_observe.specs.Observation.{Observations};
 ghost use Rattle.fleet_gossip.specs.Entry.{octet};
 ghost use Rattle.fleet_gossip.specs.declared.frame.TheConstants.{MAGIC, VERSION};
 ghost use Rattle.fleet_gossip.specs.Packed.{IsPacked};
-ghost use Rattle.fleet_gossip.specs.Packs.{Packs, IsPacking};
+ghost use Rattle.fleet_gossip.specs.steps.Packs.{Packs, IsPacking};
 ghost use Rattle.fleet_gossip.specs.declared.bounds.TheConstants.{LONGEST_FRAME};
 
 use crate::bounds::LONGEST_FRAME;

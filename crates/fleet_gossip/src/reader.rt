@@ -3,7 +3,7 @@
 ghost use Rattle.std.specs.Prelude.{◌≡◌, ℕ, ◌+◌, ◌<◌, ◌++◌, [], ◌↔◌, MatchResult, IsTrue};
 ghost use Rattle.fleet_wire.specs.Number.{u16_octets, u32_octets};
 ghost use Rattle.fleet_gossip.specs.Entry.{octet, u64_octets};
-ghost use Rattle.fleet_gossip.specs.Steps.{AreMissing, IsSplitAfter};
+ghost use Rattle.fleet_gossip.specs.steps.Reading.{AreMissing, IsSplitAfter};
 
 use crate::fault::FrameFault;
 use std::marker::Model;

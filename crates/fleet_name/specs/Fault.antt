@@ -1,4 +1,5 @@
 -- Why a label can't be added to a name.
+-- Serves `Name::push`, and what reads names.
 use Rattle.std.specs.Prelude.{◌≡◌, ◌⊎◌, ◌+◌, length, Option, Some, None, if◌then◌else◌, nat_eq, nat_lt}
 use Rattle.fleet_name.specs.Types.{Label, Labels}
 use Rattle.fleet_name.specs.Name.{wire}

@@ -1,4 +1,5 @@
 -- What a list has in it, and where.
+-- Serves lists in every crate above.
 use Rattle.std.specs.Prelude.{◌≡◌, ◌⊎◌, ℕ, List, [], ◌∷◌, Option, Some, None, slice_get}
 
 -- x is one of the values
@@ -22,6 +23,8 @@ NoTwo {X} Alike xs = (i j : ℕ) (x y : X) → At xs i x → At xs j y → Alike
 abbrev pub Finds : {X : Type 0} → (X → Type 0) → List X → Option X → Type 0
 Finds P xs None = NoneIs P xs
 Finds P xs (Some x) = (i : ℕ) × At xs i x × P x
+
+-- What follows, private contracts alone cite.
 
 -- the place of one that is like this, or none is
 abbrev pub IsPlace : {X : Type 0} → (X → Type 0) → List X → Option ℕ → Type 0

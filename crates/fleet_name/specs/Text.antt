@@ -1,4 +1,5 @@
 -- The text of a name, as master files have it (RFC 1035 5.1).
+-- Serves `Name::write_text`.
 use Rattle.std.specs.Prelude.{ℕ, ◌+◌, ◌/◌, ◌%◌, [], ◌∷◌, ◌++◌, if◌then◌else◌, nat_eq, nat_le, ◌||◌, ◌&&◌}
 use Rattle.std.specs.List.{flat_map}
 use Rattle.fleet_name.specs.Types.{Label, Labels, OctetList}

@@ -1,4 +1,5 @@
 -- What plain lists of octets stand for.
+-- Serves every crate: the types of what definitions speak of.
 use Rattle.std.specs.Prelude.{ℕ, List}
 
 -- octets, each of 0 to 255, as they stand in a message, a frame or a line

@@ -12,7 +12,8 @@ use Rattle.fleet_wire.specs.Message.{MessageData, IsRead}
 use Rattle.fleet_wire.specs.declared.rcode.TheConstants.{NO_ERROR, NAME_ERROR}
 use Rattle.fleet_observe.specs.Members.{Has, IsAscending}
 use Rattle.fleet_observe.specs.RrSet.{RrSetData, IsRrSet, InSet, IsOnly, read_ttl}
-use Rattle.fleet_observe.specs.Walk.{ArePlainRecords, IsPath, AreLinks, last, Ends, EndsFound}
+use Rattle.fleet_observe.specs.Walk.{IsPath, AreLinks, last, Ends, EndsFound}
+use Rattle.fleet_observe.specs.steps.Following.{ArePlainRecords}
 use Rattle.fleet_observe.specs.Soa.{SoaData}
 use Rattle.fleet_observe.specs.Digest.{EndData, WithRecords, WithoutData, WithoutName, WithCode, CutOff, DigestData, target_of, denied_by, IsLawfulSet, IsLawfulLink, IsLawfulSoa, IsLawfulEnd, IsLawful}
 use Rattle.fleet_observe.specs.Meaning.{IsSoaOf, TellsWalk, IsEnd, Tells, IsMeaning, IsAuthority, IsServed, AsksWalk}

@@ -6,7 +6,7 @@ use Rattle.fleet_name.proofs.Lemmas.{has_left, has_right}
 use Rattle.fleet_wire.specs.Record.{RecordData}
 use Rattle.fleet_observe.specs.Members.{Has}
 use Rattle.fleet_observe.specs.RrSet.{Belongs, InSet, IsEmpty, IsOnly}
-use Rattle.fleet_observe.specs.Walk.{IsOf}
+use Rattle.fleet_observe.specs.steps.Following.{IsOf}
 use Rattle.fleet_observe.proofs.Lists.{has_push}
 
 pub in_left : (s more : List RecordData) (n : List (List ℕ)) (t : ℕ) (d : List ℕ) → InSet s n t d

@@ -6,7 +6,8 @@ use Rattle.fleet_wire.specs.Record.{RecordData}
 use Rattle.fleet_observe.specs.declared.reply.walk.Step.{Step}
 use Rattle.fleet_observe.specs.declared.reply.walk.Step.TheVariants.{Records, Alias, Bare, Fork}
 use Rattle.fleet_observe.specs.RrSet.{RrSetData, IsRrSet, IsEmpty, IsOnly}
-use Rattle.fleet_observe.specs.Walk.{GoesOn, Ends, IsFork, IsPath, last, IsWalk, HasWalk, AreLinks, IsWalkStep, IsOf, IsAlias, ArePlainRecords}
+use Rattle.fleet_observe.specs.Walk.{GoesOn, Ends, IsPath, last, IsWalk, HasWalk, AreLinks}
+use Rattle.fleet_observe.specs.steps.Following.{IsFork, IsWalkStep, IsOf, IsAlias, ArePlainRecords}
 use Rattle.fleet_name.proofs.Lemmas.{wire_exact}
 use Rattle.fleet_observe.proofs.Spelling.{plain_alias}
 use Rattle.fleet_wire.specs.declared.rtype.TheConstants.{CNAME}

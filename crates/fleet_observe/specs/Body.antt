@@ -1,5 +1,6 @@
 -- The octets of bodies, and which of them are lawful. All numbers have two octets, the high one
 -- first.
+-- Serves `Observation::positive`, `Observation::negative`, `rdatas`, `soa`.
 use Rattle.std.specs.Prelude.{◌≡◌, ◌≢◌, ◌≤◌, List, [], ◌++◌, length}
 use Rattle.std.specs.List.{flat_map}
 use Rattle.fleet_name.specs.Types.{Labels, OctetList}

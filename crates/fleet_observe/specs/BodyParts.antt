@@ -1,4 +1,5 @@
 -- The parts of a body, as they are held.
+-- Serves the model of `Observation`.
 use Rattle.std.specs.Prelude.{◌≡◌, ℕ, []}
 use Rattle.fleet_name.specs.Types.{Labels, OctetList}
 use Rattle.fleet_wire.specs.Types.{RType, Seconds}
@@ -33,6 +34,8 @@ abbrev pub IsBodyOf : {A : Type 0} → Kind → Labels → RType → Body A → 
 IsBodyOf kind name rtype (Records rdatas) = (kind ≡ Positive) × AreRdatas rtype rdatas.items
 IsBodyOf kind name rtype (Authority owner rdata) = IsNegativeKind kind × IsDenial name owner rdata
 IsBodyOf kind name rtype Nothing = kind ≡ Flush
+
+-- What follows, private contracts alone cite.
 
 -- the bodies hold the same parts
 abbrev pub AreSameParts : {A : Type 0} → Body A → Body A → Type 0

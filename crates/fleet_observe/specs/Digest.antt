@@ -1,4 +1,5 @@
 -- What a digest says, as plain data.
+-- Serves `digest`, and every call of `Digest`.
 use Rattle.std.specs.Prelude.{◌≡◌, ◌≢◌, ℕ, length, ◌≤◌, ◌<◌, Bool, List, [], ◌∷◌, Option, Some, None}
 use Rattle.fleet_name.specs.Types.{Labels, OctetList}
 use Rattle.fleet_wire.specs.Types.{RType}
@@ -36,11 +37,6 @@ end_data (NoData soa) = WithoutData soa
 end_data (NxDomain soa) = WithoutName soa
 end_data (Code c) = WithCode c
 end_data Truncated = CutOff
-
--- the first of the RDATAs, or else these octets
-abbrev pub first_or : OctetList → List OctetList → OctetList
-first_or octets [] = octets
-first_or octets (d ∷ ds) = d
 
 -- the target of an alias: the name that its RDATA is
 abbrev pub target_of : Labels → Labels → Labels
@@ -91,3 +87,10 @@ pub record IsLawful (d : DigestData) : Type 0 where
   pub short : length d.chain ≤ MOST_LINKS
   pub end_is : IsLawfulEnd (denied_by d.name d.chain) d.end
   pub ns : (x : RrSetData) → Has d.ns x → IsLawfulSet x
+
+-- What follows, private contracts alone cite.
+
+-- the first of the RDATAs, or else these octets
+abbrev pub first_or : OctetList → List OctetList → OctetList
+first_or octets [] = octets
+first_or octets (d ∷ ds) = d

@@ -11,3 +11,4 @@ pub mod Digest
 pub mod Meaning
 pub mod Observations
 pub mod Relay
+pub mod steps

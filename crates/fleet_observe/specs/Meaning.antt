@@ -1,4 +1,5 @@
 -- What a reply means (RFC 1034 3.6.2, RFC 2308 2 and 5).
+-- Serves `digest`.
 use Rattle.std.specs.Prelude.{◌≡◌, ◌-◌, ◌⊎◌, true, false, List, [], ◌∷◌, ◌++◌, length, min, Option, Some, None}
 use Rattle.fleet_name.specs.Types.{Labels, OctetList}
 use Rattle.fleet_wire.specs.Types.{Seconds}
@@ -72,10 +73,6 @@ pub record CountsFor (s : List RecordData) (n : Labels) (r : RecordData) : Type 
   pub first : IsFirstSoa s r
   pub under : IsUnder n r.name
 
--- there is such an SOA
-abbrev pub HasSoa : List RecordData → Labels → Type 0
-HasSoa s n = (r : RecordData) × CountsFor s n r
-
 pub record IsSoaOf (s : List RecordData) (n : Labels) (x : SoaData) : Type 0 where
   pub carrier : RecordData
   pub counts : CountsFor s n carrier
@@ -119,10 +116,6 @@ pub record IsNs (q : Labels) (r : RecordData) : Type 0 where
   pub class : r.class ≡ IN
   pub rtype : r.rtype ≡ NS
   pub above : IsUnder q r.name
-
--- there is such a record
-abbrev pub HasNs : Labels → List RecordData → Type 0
-HasNs q s = (r : RecordData) × Has s r × IsNs q r
 
 -- an earlier one of such records has the owner of r
 pub record IsRepeated (q : Labels) (before : List RecordData) (r : RecordData) : Type 0 where
@@ -180,3 +173,13 @@ MeaningOrFault =
 
 abbrev pub MeaningIsSound : Type 0
 MeaningIsSound = (r : MessageData) (d : DigestData) → IsMeaning r d → IsSound r
+
+-- What follows, private contracts alone cite.
+
+-- there is such an SOA
+abbrev pub HasSoa : List RecordData → Labels → Type 0
+HasSoa s n = (r : RecordData) × CountsFor s n r
+
+-- there is such a record
+abbrev pub HasNs : Labels → List RecordData → Type 0
+HasNs q s = (r : RecordData) × Has s r × IsNs q r

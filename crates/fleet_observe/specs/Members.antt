@@ -1,4 +1,5 @@
 -- What lists have in them, and lists of octets in ascending order.
+-- Serves every module below.
 use Rattle.std.specs.Prelude.{◌≡◌, List, [], ◌∷◌}
 use Rattle.std.specs.declared.cmp.Ordering.TheVariants.{Less}
 use Rattle.std.specs.Ordering.{nat_cmp}

@@ -1,4 +1,5 @@
 -- An observation as plain data.
+-- Serves every call of `Observation`.
 use Rattle.std.specs.Prelude.{◌≡◌, ◌≢◌, ℕ, ◌+◌, ◌<◌, ◌≤◌, ◌⊎◌, List, [], ◌∷◌, ◌++◌}
 use Rattle.fleet_name.specs.Types.{Labels, OctetList}
 use Rattle.fleet_wire.specs.Types.{RType, Seconds}

@@ -1,4 +1,5 @@
 -- The observations of a reply (RFC 2181 5.4.1, RFC 2308 5).
+-- Serves `observations`.
 use Rattle.std.specs.Prelude.{◌≡◌, ℕ, Bool, ◌&&◌, List, [], ◌∷◌, ◌++◌, length, if◌then◌else◌, nat_eq, nat_lt, Option, Some, None}
 use Rattle.std.specs.Str.{bytes_eq}
 use Rattle.fleet_name.specs.Types.{Labels}

@@ -1,4 +1,5 @@
 -- Which of two observations is preferred.
+-- Serves the order of `Observation`.
 use Rattle.std.specs.declared.cmp.Ordering.{Ordering}
 use Rattle.std.specs.Ordering.{nat_cmp, ordering_then}
 use Rattle.std.specs.Cmp.{IsTotalOrder}

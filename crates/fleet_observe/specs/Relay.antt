@@ -1,4 +1,5 @@
 -- What a waiting client is told of a reply.
+-- Serves `relay`.
 use Rattle.std.specs.Prelude.{◌≡◌, ℕ, ◌<◌, length, take, Bool, true, false, List, [], ◌∷◌, ◌++◌, map, Option, Some, None}
 use Rattle.std.specs.List.{flat_map}
 use Rattle.fleet_wire.specs.Question.{QuestionData}
@@ -71,6 +72,8 @@ with_answer_lines o rs = record o { answer = o.answer ++ rs }
 -- all else is as it was
 abbrev pub HasFirstOf : OutlineData → List RecordData → OutlineData → Type 0
 HasFirstOf old rs new = (n : ℕ) × (n < length rs) × (new ≡ with_answer_lines old (take n rs))
+
+-- What follows, private contracts alone cite.
 
 abbrev pub with_authority_lines : OutlineData → List RecordData → OutlineData
 with_authority_lines o rs = record o { authority = o.authority ++ rs }

@@ -1,4 +1,5 @@
 -- The RRset of a section at a name and a type (RFC 2181 5).
+-- Serves `digest`, and every call of `RrSet`.
 use Rattle.std.specs.Prelude.{◌≡◌, ℕ, ◌≤◌, List, [], ◌∷◌, if◌then◌else◌, nat_le, min, suc}
 use Rattle.std.specs.Ordering.{nat_cmp, is_lt}
 use Rattle.std.specs.Cmp.Lexicographic.{slice_cmp}
@@ -11,11 +12,6 @@ use Rattle.fleet_observe.specs.Members.{Has, IsAscending}
 use Rattle.fleet_observe.specs.Observation.{IsDataType}
 use Rattle.fleet_observe.specs.declared.bounds.TheConstants.{LONGEST_LIFE}
 use Rattle.fleet_observe.specs.declared.reply.rows.Rows.{Rows}
-
--- octets that are a name in full
-pub record SpellsName (octets : OctetList) : Type 0 where
-  pub whole : octets ≡ wire (labels_of octets)
-  pub named : IsName (labels_of octets)
 
 -- the record is of the RRset at name n and type t
 pub record Belongs (n : Labels) (t : RType) (r : RecordData) : Type 0 where
@@ -71,6 +67,13 @@ pub record IsRrSet (s : List RecordData) (n : Labels) (t : RType) (x : RrSetData
 -- records of one owner and type that are lent
 abbrev pub rrset_of_rows : {A : Type 0} → Rows A → RrSetData
 rrset_of_rows r = record { name = r.name.now; rtype = r.rtype; ttl = r.ttl; rdatas = r.rdatas.now }
+
+-- What follows, private contracts alone cite.
+
+-- octets that are a name in full
+pub record SpellsName (octets : OctetList) : Type 0 where
+  pub whole : octets ≡ wire (labels_of octets)
+  pub named : IsName (labels_of octets)
 
 -- how many of the RDATAs at the front are less than d
 abbrev pub count_below : OctetList → List OctetList → ℕ

@@ -1,4 +1,5 @@
 -- What each call answers and leaves.
+-- Serves `Pending::ask`, `Pending::advance`, `Pending::settle`.
 use Rattle.std.specs.Prelude.{◌≡◌, ℕ, ◌+◌, ◌<◌, ◌≤◌, Bool, true, false, List, [], ◌∷◌, ◌++◌, Option, Some, None, Result, Ok, Err, length, slice_set}
 use Rattle.std.specs.List.{remove}
 use Rattle.fleet_wire.specs.Types.{Seconds}

@@ -1,4 +1,5 @@
 -- Any list of calls.
+-- Serves law `waiters_kept`.
 use Rattle.std.specs.Prelude.{◌≡◌, ℕ, Bool, List, [], ◌∷◌, ◌++◌, Option, Some, None, Result, Ok, Err}
 use Rattle.std.specs.List.{count_by, flat_map}
 use Rattle.fleet_wire.specs.Types.{Seconds}

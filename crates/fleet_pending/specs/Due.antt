@@ -1,14 +1,11 @@
 -- What is to be done first at a moment.
+-- Serves `Pending::due`.
 use Rattle.std.specs.Prelude.{◌≡◌, ℕ, ◌+◌, ◌<◌, ◌≤◌, ◌⊎◌, List, Option, Some, None, count_by, nat_le}
 use Rattle.fleet_wire.specs.Types.{Seconds}
 use Rattle.fleet_pending.specs.PendingData.{EntryData, PendingData}
 use Rattle.fleet_name.specs.Places.{At, NoneIs}
 use Rattle.fleet_pending.specs.declared.answer.Due.{Due}
 use Rattle.fleet_pending.specs.declared.answer.Due.TheVariants.{Retry, Failed}
-
--- a is served before b: an earlier deadline, or the same and a lesser id
-abbrev pub IsBefore : EntryData → EntryData → Type 0
-IsBefore a b = (a.deadline < b.deadline) ⊎ ((a.deadline ≡ b.deadline) × (a.id < b.id))
 
 -- an earlier deadline, or the same and an id not greater
 abbrev pub NotAfter : EntryData → EntryData → Type 0
@@ -40,3 +37,9 @@ due_entry (Failed id e) = e.now
 -- how many are due at this moment
 abbrev pub due_at : PendingData → Seconds → ℕ
 due_at o moment = count_by (λ e. nat_le e.deadline moment) o.entries
+
+-- What follows, private contracts alone cite.
+
+-- a is served before b: an earlier deadline, or the same and a lesser id
+abbrev pub IsBefore : EntryData → EntryData → Type 0
+IsBefore a b = (a.deadline < b.deadline) ⊎ ((a.deadline ≡ b.deadline) × (a.id < b.id))

@@ -1,4 +1,5 @@
 -- How many are due, as they are served.
+-- Serves law `serving_leaves_fewer_due`.
 use Rattle.std.specs.Prelude.{◌≡◌, ◌↔◌, ℕ, ◌+◌, ◌<◌, ◌≤◌, Bool, true, Option}
 use Rattle.fleet_wire.specs.Types.{Seconds}
 use Rattle.fleet_pending.specs.Asking.{Settles, Advances}

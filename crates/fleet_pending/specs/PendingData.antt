@@ -1,4 +1,5 @@
 -- The questions that are open.
+-- Serves every call of `Pending`.
 use Rattle.std.specs.Prelude.{◌≡◌, ℕ, ◌<◌, ◌≤◌, List, length}
 use Rattle.fleet_name.specs.Types.{Labels}
 use Rattle.fleet_wire.specs.Types.{RType, Seconds}

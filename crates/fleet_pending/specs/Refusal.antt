@@ -1,4 +1,5 @@
 -- What is refused, and where.
+-- Serves law `refusals_are_exact`.
 use Rattle.std.specs.Prelude.{◌≡◌, ◌↔◌, ℕ, ◌≤◌, Result, Err, length}
 use Rattle.fleet_wire.specs.Types.{Seconds}
 use Rattle.fleet_pending.specs.Waiter.{WaiterData, Waits}

@@ -1,4 +1,5 @@
 -- What settling gives back.
+-- Serves law `settling_gives_its_entry`.
 use Rattle.std.specs.Prelude.{◌≡◌, ℕ, Option, Some}
 use Rattle.std.specs.List.{remove}
 use Rattle.fleet_pending.specs.Asking.{Settles}

@@ -1,4 +1,5 @@
 -- Who waits, and for the answer to which question.
+-- Serves every call of `Pending`.
 use Rattle.std.specs.Prelude.{◌≡◌, ℕ, List}
 use Rattle.fleet_wire.specs.Question.{QuestionData}
 use Rattle.fleet_pending.specs.declared.waiter.Addr.{Addr}

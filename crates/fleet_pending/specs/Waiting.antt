@@ -1,4 +1,5 @@
 -- Who waits, over the calls that change a table.
+-- Serves law `waiters_stay`.
 use Rattle.std.specs.Prelude.{◌≡◌, ◌⊎◌, ℕ, Bool, Option, Result}
 use Rattle.fleet_wire.specs.Types.{Seconds}
 use Rattle.fleet_pending.specs.Waiter.{WaiterData}

@@ -4,8 +4,8 @@ use Rattle.fleet_observe.specs.Observation.{ObservationData, flush_at}
 use Rattle.fleet_cache.specs.Cached.{IsCached, CacheData}
 use Rattle.fleet_gossip.specs.Packed.{IsPacked}
 use Rattle.fleet_pending.specs.PendingData.{PendingData}
-use Rattle.fleet_site.specs.Carried.{Carries}
-use Rattle.fleet_site.specs.Flush.{Flushed}
+use Rattle.fleet_site.specs.steps.Carried.{Carries}
+use Rattle.fleet_site.specs.gossip.Flush.{Flushed}
 use Rattle.fleet_site.specs.OutcomeData.{OutcomeData, nothing}
 use Rattle.fleet_site.specs.SiteModel.{Deed}
 use Rattle.fleet_site.specs.declared.outcome.SiteFault.TheVariants.{OutOfMemory}

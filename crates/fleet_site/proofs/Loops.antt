@@ -8,9 +8,9 @@ use Rattle.fleet_site.specs.OutcomeData.{OutcomeData}
 use Rattle.fleet_site.specs.SiteData.{SiteData}
 use Rattle.fleet_site.specs.SiteModel.{SiteModel}
 use Rattle.fleet_site.specs.StandsFor.{StandsFor}
-use Rattle.fleet_site.specs.PortRecord.{PortState, Made}
-use Rattle.fleet_site.specs.Served.{Took}
-use Rattle.fleet_site.specs.Turn.{Act, Between, Deal, Deals, Ticks, Turns, start_of}
+use Rattle.fleet_site.specs.server.PortRecord.{PortState, Made}
+use Rattle.fleet_site.specs.steps.Turned.{Took}
+use Rattle.fleet_site.specs.server.Turn.{Act, Between, Deal, Deals, Ticks, Turns, start_of}
 use Rattle.fleet_site.specs.declared.outcome.SiteFault.{SiteFault}
 use Rattle.fleet_site.specs.declared.report.Report.{Report}
 

@@ -4,8 +4,9 @@ use Rattle.std.proofs.lemmas.List.{append-nil, take_more}
 use Rattle.fleet_pending.specs.declared.waiter.Addr.{Addr}
 use Rattle.fleet_site.specs.PacketData.{PacketData}
 use Rattle.fleet_site.specs.OutcomeData.{OutcomeData, nothing}
-use Rattle.fleet_site.specs.PortRecord.{PortCall, Received, NoDatagram, Fault, PacketSent, PacketLost, NotesAll, PortState, Made, failures_of, one_more}
-use Rattle.fleet_site.specs.Sending.{AreSent, count_call, count_calls, count_refusal_in, Sends, CarriesOut, to_each, to_peers}
+use Rattle.fleet_site.specs.server.PortRecord.{PortCall, Received, NoDatagram, Fault, PacketSent, PacketLost, NotesAll, PortState, Made, failures_of, one_more}
+use Rattle.fleet_site.specs.server.Sending.{AreSent, count_call, count_calls, count_refusal_in, to_each, to_peers}
+use Rattle.fleet_site.specs.steps.Sends.{Sends, CarriesOut}
 use Rattle.fleet_site.specs.declared.report.Report.{Report}
 
 pub failures_of-append : (cs ds : List PortCall) (n : ℕ)

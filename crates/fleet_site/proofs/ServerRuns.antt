@@ -6,10 +6,11 @@ use Rattle.fleet_site.specs.OutcomeData.{OutcomeData}
 use Rattle.fleet_site.specs.SiteModel.{SiteModel}
 use Rattle.fleet_site.specs.SiteData.{SiteData}
 use Rattle.fleet_site.specs.StandsFor.{StandsFor}
-use Rattle.fleet_site.specs.PortRecord.{PortCall, Received, NoDatagram, Fault, PacketSent, PacketLost, PortState, failures_of, one_more}
-use Rattle.fleet_site.specs.Sending.{count_call, count_calls, count_refusal_in, count_step}
-use Rattle.fleet_site.specs.Turn.{Act, calls_of, count_acts, Acts, Between, Turn, left_after, word_of, IsPast, IsMomentOfTurn, Turns, empty_report, start_of}
-use Rattle.fleet_site.specs.Served.{Served, FollowsSteps, Turned}
+use Rattle.fleet_site.specs.server.PortRecord.{PortCall, Received, NoDatagram, Fault, PacketSent, PacketLost, PortState, failures_of, one_more}
+use Rattle.fleet_site.specs.server.Sending.{count_call, count_calls, count_refusal_in, count_step}
+use Rattle.fleet_site.specs.server.Turn.{Act, calls_of, count_acts, Acts, Between, Turn, left_after, word_of, IsPast, IsMomentOfTurn, Turns, empty_report, start_of}
+use Rattle.fleet_site.specs.server.Served.{Served, FollowsSteps}
+use Rattle.fleet_site.specs.steps.Turned.{Turned}
 use Rattle.fleet_site.specs.declared.outcome.SiteFault.{SiteFault}
 use Rattle.fleet_site.specs.declared.report.Report.{Report}
 use Rattle.fleet_site.proofs.ServerLists.{made_none, made_both, failures_of-append}

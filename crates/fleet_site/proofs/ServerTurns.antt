@@ -11,14 +11,15 @@ use Rattle.fleet_site.specs.OutcomeData.{OutcomeData, packet_to, sends}
 use Rattle.fleet_site.specs.SiteModel.{SiteModel}
 use Rattle.fleet_site.specs.SiteData.{SiteData}
 use Rattle.fleet_site.specs.StandsFor.{StandsFor, Follows}
-use Rattle.fleet_site.specs.Hit.{RepliesOnly}
+use Rattle.fleet_site.specs.question.Hit.{RepliesOnly}
 use Rattle.fleet_site.specs.Step.{Call, datagram, tick}
-use Rattle.fleet_site.specs.Sweep.{IsSweep}
+use Rattle.fleet_site.specs.gossip.Sweep.{IsSweep}
 use Rattle.fleet_site.specs.Tick.{LeavesFewer}
-use Rattle.fleet_site.specs.PortRecord.{PortCall, Received, NoDatagram, Fault, NotesAll, PortState, Made, one_more}
-use Rattle.fleet_site.specs.Sending.{AreSent, packets_of, count_call, count_calls, count_step, goes_on, sweep_outcome, Sends, CarriesOut}
-use Rattle.fleet_site.specs.Turn.{Deal, calling, sweeping, Act, calls_of, count_acts, AllSent, Acts, Acted, ROOM, no_tick, next_tick, IsSweepDue}
-use Rattle.fleet_site.specs.Served.{Turned, Took, GivenOne, Heard, TickedAll, SweptOnce}
+use Rattle.fleet_site.specs.server.PortRecord.{PortCall, Received, NoDatagram, Fault, NotesAll, PortState, Made, one_more}
+use Rattle.fleet_site.specs.server.Sending.{AreSent, packets_of, count_call, count_calls, count_step, goes_on}
+use Rattle.fleet_site.specs.steps.Sends.{sweep_outcome, Sends, CarriesOut}
+use Rattle.fleet_site.specs.server.Turn.{Deal, calling, sweeping, Act, calls_of, count_acts, AllSent, Acts, Acted, ROOM, no_tick, next_tick, IsSweepDue}
+use Rattle.fleet_site.specs.steps.Turned.{Turned, Took, GivenOne, Heard, TickedAll, SweptOnce}
 use Rattle.fleet_site.specs.declared.outcome.SiteFault.{SiteFault}
 use Rattle.fleet_site.specs.declared.report.Report.{Report}
 use Rattle.fleet_site.proofs.ServerLists.{made_none, made_both}

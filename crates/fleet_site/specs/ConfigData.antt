@@ -1,4 +1,5 @@
 -- Which addresses a site may have for upstreams and peers.
+-- Serves `Config::new`.
 use Rattle.std.specs.Prelude.{◌≡◌, ℕ, ◌≤◌, List, ◌++◌, length}
 use Rattle.fleet_pending.specs.declared.bounds.TheConstants.{MOST_UPSTREAMS}
 use Rattle.fleet_pending.specs.declared.waiter.Addr.{Addr}

@@ -1,4 +1,5 @@
 -- What a step of a site says, without where it lies in memory.
+-- Serves every call of `Site` that sends.
 use Rattle.std.specs.Prelude.{ℕ, Bool, false, List, [], ◌∷◌, Option, Some, None}
 use Rattle.fleet_name.specs.Types.{OctetList}
 use Rattle.fleet_pending.specs.declared.waiter.Addr.{Addr}

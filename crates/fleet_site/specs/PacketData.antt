@@ -1,4 +1,5 @@
 -- Octets that are sent.
+-- Serves every call of `Site` that sends.
 use Rattle.fleet_name.specs.Types.{OctetList}
 use Rattle.fleet_pending.specs.declared.waiter.Addr.{Addr}
 

@@ -1,4 +1,5 @@
 -- What a site holds.
+-- Serves every call of `Site`.
 use Rattle.std.specs.Prelude.{◌≤◌}
 use Rattle.fleet_wire.specs.Types.{Seconds}
 use Rattle.fleet_cache.specs.Cached.{CacheData}

@@ -1,4 +1,5 @@
 -- The open questions of a site.
+-- Serves every call of `Site`.
 use Rattle.std.specs.Prelude.{◌≡◌, ℕ, List, length}
 use Rattle.fleet_wire.specs.declared.class.TheConstants.{IN}
 use Rattle.fleet_pending.specs.Waiter.{WaiterData}
@@ -6,10 +7,6 @@ use Rattle.fleet_pending.specs.PendingData.{EntryData, PendingData, IsPendingDat
 use Rattle.fleet_name.specs.Places.{At}
 use Rattle.fleet_pending.specs.Waiting.{IsWaiting}
 use Rattle.fleet_pending.specs.declared.waiter.Addr.{Addr}
-
--- who waits for it asked a question of the Internet (IN)
-abbrev pub IsOfClassOne : EntryData → Type 0
-IsOfClassOne e = (i : ℕ) (w : WaiterData) → At e.waiters i w → w.question.class ≡ IN
 
 -- so did all who wait
 abbrev pub AskClassOne : PendingData → Type 0
@@ -20,6 +17,12 @@ pub record IsTableOf (upstreams : List Addr) (o : PendingData) : Type 0 where
   pub pending : IsPendingData o
   pub counted : o.upstreams ≡ length upstreams
   pub class : AskClassOne o
+
+-- What follows, private contracts alone cite.
+
+-- who waits for it asked a question of the Internet (IN)
+abbrev pub IsOfClassOne : EntryData → Type 0
+IsOfClassOne e = (i : ℕ) (w : WaiterData) → At e.waiters i w → w.question.class ≡ IN
 
 -- what goes to some upstreams still goes to them
 abbrev pub KeepsTable : PendingData → PendingData → Type 0

@@ -4,7 +4,7 @@ ghost use Rattle.std.specs.Prelude.{◌≡◌, IfOk, IfErr};
 ghost use Rattle.fleet_wire.specs.Message.{IsReply};
 ghost use Rattle.fleet_observe.specs.Meaning.{IsMeaning, IsSound};
 ghost use Rattle.fleet_site.specs.declared.digested.Unheard.TheVariants.{NoMemory};
-ghost use Rattle.fleet_site.specs.Unheard.{IsUnread, IsUndigested};
+ghost use Rattle.fleet_site.specs.steps.Unheard.{IsUnread, IsUndigested};
 
 use crate::outcome::Refusal;
 use fleet_observe::{Digest, DigestFault, digest, meaning_or_fault};

@@ -4,8 +4,8 @@ ghost use Rattle.std.specs.Prelude.{◌≡◌};
 ghost use Rattle.fleet_observe.specs.Observation.{Observations};
 ghost use Rattle.fleet_cache.specs.Cached.{IsCached};
 ghost use Rattle.fleet_pending.specs.PendingData.{PendingData};
-ghost use Rattle.fleet_site.specs.Carried.{Carries};
-ghost use Rattle.fleet_site.specs.Flush.{Flushed};
+ghost use Rattle.fleet_site.specs.steps.Carried.{Carries};
+ghost use Rattle.fleet_site.specs.gossip.Flush.{Flushed};
 
 use crate::outcome::{Frames, Outcome, Packets, SiteFault};
 use fleet_cache::Cache;

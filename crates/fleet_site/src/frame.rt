@@ -5,8 +5,8 @@ ghost use Rattle.fleet_observe.specs.Observation.{Observations};
 ghost use Rattle.fleet_cache.specs.Cached.{IsCached};
 ghost use Rattle.fleet_gossip.specs.Frame.{HasEntries};
 ghost use Rattle.fleet_pending.specs.PendingData.{PendingData};
-ghost use Rattle.fleet_site.specs.Carried.{Carries, Takes};
-ghost use Rattle.fleet_site.specs.Frame.{Framed};
+ghost use Rattle.fleet_site.specs.steps.Carried.{Carries, Takes};
+ghost use Rattle.fleet_site.specs.gossip.Frame.{Framed};
 
 use crate::outcome::{Outcome, Refusal, SiteFault};
 use fleet_cache::Cache;

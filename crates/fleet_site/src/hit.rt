@@ -3,7 +3,7 @@
 ghost use Rattle.std.specs.Prelude.{◌≡◌, ◌≤◌, ◌↔◌, IsTrue};
 ghost use Rattle.fleet_observe.specs.Observation.{Observations};
 ghost use Rattle.fleet_cache.specs.Cached.{IsCached};
-ghost use Rattle.fleet_site.specs.Verdict.{Answer, Decides, IsPlainAsking};
+ghost use Rattle.fleet_site.specs.question.Verdict.{Answer, Decides, IsPlainAsking};
 
 use crate::verdict::is_served;
 use crate::writing::{is_miss, tell_into};

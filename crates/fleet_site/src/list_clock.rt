@@ -1,7 +1,7 @@
 //! A clock over a list.
 
 ghost use Rattle.std.specs.Prelude.{◌≡◌, ◌+◌, Some};
-ghost use Rattle.fleet_site.specs.MemoryPort.{moment_of};
+ghost use Rattle.fleet_site.specs.server.MemoryPort.{moment_of};
 
 use crate::port::Clock;
 use fleet_observe::Moment;

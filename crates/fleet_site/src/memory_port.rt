@@ -1,8 +1,8 @@
 //! A port over memory.
 
 ghost use Rattle.std.specs.Prelude.{◌≡◌, ◌↔◌, ◌≤◌, ◌∷◌, [], IsTrue, true, false, None, Some, Ok, IfOk, IfSome, length, MatchOption, map};
-ghost use Rattle.fleet_site.specs.PortRecord.{PacketSent, PacketLost, NotesAll, receive_of, send_of, failures_after, one_more};
-ghost use Rattle.fleet_site.specs.MemoryPort.{call_of, record_of, Arrives, Gives, IsCall, NotesAlone, one_call_fewer};
+ghost use Rattle.fleet_site.specs.server.PortRecord.{PacketSent, PacketLost, NotesAll, receive_of, send_of, failures_after, one_more};
+ghost use Rattle.fleet_site.specs.server.MemoryPort.{call_of, record_of, Arrives, Gives, IsCall, NotesAlone, one_call_fewer};
 
 use crate::port::{Port, PortFault};
 use fleet_name::Octets;

@@ -1,7 +1,7 @@
 //! What a server stands on: a port, and a clock.
 
 ghost use Rattle.std.specs.Prelude.{◌≡◌, ◌+◌, ◌≤◌, [], ◌∷◌, Option, Some, ℕ, length, IfOk, IfSome};
-ghost use Rattle.fleet_site.specs.PortRecord.{PortState, NotesAll, receive_of, send_of, failures_after};
+ghost use Rattle.fleet_site.specs.server.PortRecord.{PortState, NotesAll, receive_of, send_of, failures_after};
 
 use fleet_observe::Moment;
 use fleet_pending::Addr;

@@ -6,11 +6,11 @@ ghost use Rattle.fleet_wire.specs.declared.class.TheConstants.{IN};
 ghost use Rattle.fleet_observe.specs.Observation.{Observations};
 ghost use Rattle.fleet_cache.specs.Cached.{IsCached};
 ghost use Rattle.fleet_pending.specs.Asking.{Asks, ask_result};
-ghost use Rattle.fleet_site.specs.Carried.{Keeps, IsAskable, IsAnswered, TurnsAway, IsFirstSaid};
+ghost use Rattle.fleet_site.specs.steps.Carried.{Keeps, IsAskable, IsAnswered, TurnsAway, IsFirstSaid};
 ghost use Rattle.fleet_site.specs.OutcomeData.{sends};
-ghost use Rattle.fleet_site.specs.Question.{Reacts, Forwards, Questioned, turns_away};
+ghost use Rattle.fleet_site.specs.question.Question.{Reacts, Forwards, Questioned, turns_away};
 ghost use Rattle.fleet_site.specs.Table.{IsTableOf, KeepsTable};
-ghost use Rattle.fleet_site.specs.Verdict.{IsAsking, verdict};
+ghost use Rattle.fleet_site.specs.question.Verdict.{IsAsking, verdict};
 
 use crate::config::addr_of;
 use crate::outcome::{Outcome, Refusal, SiteFault};

@@ -7,10 +7,10 @@ ghost use Rattle.fleet_observe.specs.Observation.{Observations};
 ghost use Rattle.fleet_observe.specs.Observations.{reply_observations};
 ghost use Rattle.fleet_cache.specs.Cached.{IsCached};
 ghost use Rattle.fleet_pending.specs.PendingData.{PendingData};
-ghost use Rattle.fleet_site.specs.Carried.{Carries};
-ghost use Rattle.fleet_site.specs.Learn.{Learnt};
-ghost use Rattle.fleet_site.specs.Relayed.{IsRelayOf, IsMade, IsRelayFor, SaysRefusal, Unlearns};
-ghost use Rattle.fleet_site.specs.Reply.{IsAnswering, IsReplying, Replied, relay_to};
+ghost use Rattle.fleet_site.specs.steps.Carried.{Carries};
+ghost use Rattle.fleet_site.specs.reply.Learn.{Learnt};
+ghost use Rattle.fleet_site.specs.steps.Relayed.{IsRelayOf, IsMade, IsRelayFor, SaysRefusal, Unlearns};
+ghost use Rattle.fleet_site.specs.reply.Reply.{IsAnswering, IsReplying, Replied, relay_to};
 ghost use Rattle.fleet_site.specs.SiteModel.{takes};
 ghost use Rattle.fleet_site.specs.Table.{KeepsTable};
 

@@ -1,7 +1,7 @@
 //! What a server counted.
 
 ghost use Rattle.std.specs.Prelude.{◌≡◌};
-ghost use Rattle.fleet_site.specs.PortRecord.{one_more};
+ghost use Rattle.fleet_site.specs.server.PortRecord.{one_more};
 
 /// Counts of a run. Each stays at the greatest number.
 #[derive(Clone, Copy, Debug, PartialEq, Eq)]
@@ -23,7 +23,7 @@ pub struct Report {
 }
 
 impl Report {
-    ghost use Rattle.fleet_site.specs.Turn.{empty_report};
+    ghost use Rattle.fleet_site.specs.server.Turn.{empty_report};
 
     /// Nothing was counted yet.
     pub(crate) fn new() -> Report

@@ -2,9 +2,11 @@
 
 ghost use Rattle.std.specs.Prelude.{◌≡◌, ◌↔◌, IsTrue, ◌<◌, ◌+◌, ◌∷◌, [], map, is_some};
 ghost use Rattle.fleet_site.specs.declared.bounds.TheConstants.{MOST_COUNTED};
-ghost use Rattle.fleet_site.specs.Sending.{Sends, CarriesOut, to_each, to_peers, sweep_outcome, count_refusal_in, goes_on};
-ghost use Rattle.fleet_site.specs.Turn.{IsSweepDue, IsPast, left_after};
-ghost use Rattle.fleet_site.specs.Served.{Served, FollowsSteps, Turned, GivenOne, Heard, TickedAll, SweptOnce};
+ghost use Rattle.fleet_site.specs.server.Sending.{to_each, to_peers, count_refusal_in, goes_on};
+ghost use Rattle.fleet_site.specs.steps.Sends.{Sends, CarriesOut, sweep_outcome};
+ghost use Rattle.fleet_site.specs.server.Turn.{IsSweepDue, IsPast, left_after};
+ghost use Rattle.fleet_site.specs.server.Served.{Served, FollowsSteps};
+ghost use Rattle.fleet_site.specs.steps.Turned.{Turned, GivenOne, Heard, TickedAll, SweptOnce};
 
 use crate::outcome::{Outcome, Packet, Refusal, SiteFault};
 use crate::port::{Clock, Port};

@@ -3,13 +3,13 @@
 ghost use Rattle.std.specs.Prelude.{◌≡◌, ◌≢◌, ◌↔◌, max, IsTrue, false, IfOk, IfErr, OnErr, []};
 ghost use Rattle.fleet_site.specs.SiteModel.{SiteModel};
 ghost use Rattle.fleet_site.specs.StandsFor.{StandsFor, Follows, Answers, Gathers, opening};
-ghost use Rattle.fleet_site.specs.Sender.{IsSender};
+ghost use Rattle.fleet_site.specs.steps.Sender.{IsSender};
 ghost use Rattle.fleet_site.specs.SiteData.{IsSiteData};
-ghost use Rattle.fleet_site.specs.Hit.{RepliesOnly};
+ghost use Rattle.fleet_site.specs.question.Hit.{RepliesOnly};
 ghost use Rattle.fleet_site.specs.Step.{datagram as a_datagram, tick as a_tick, frame as a_frame, learn as a_reply, flush as a_flush};
-ghost use Rattle.fleet_site.specs.Sweep.{IsSweep};
+ghost use Rattle.fleet_site.specs.gossip.Sweep.{IsSweep};
 ghost use Rattle.fleet_site.specs.Tick.{LeavesFewer};
-ghost use Rattle.fleet_site.specs.Verdict.{IsAsking};
+ghost use Rattle.fleet_site.specs.question.Verdict.{IsAsking};
 ghost use Rattle.fleet_site.specs.declared.site.Sender.TheVariants.{Other};
 ghost use Rattle.fleet_site.specs.declared.outcome.SiteFault.TheVariants.{OutOfMemory};
 

@@ -3,8 +3,8 @@
 ghost use Rattle.std.specs.Prelude.{◌≡◌, ◌<◌, ◌+◌, IsTrue, IfOk, IfErr, Some, map};
 ghost use Rattle.fleet_pending.specs.Due.{NoneDue, Dues, due_entry};
 ghost use Rattle.fleet_pending.specs.PendingData.{IsEntryData};
-ghost use Rattle.fleet_site.specs.Carried.{Keeps};
-ghost use Rattle.fleet_site.specs.Serving.{IsPlan, SaysMore};
+ghost use Rattle.fleet_site.specs.steps.Carried.{Keeps};
+ghost use Rattle.fleet_site.specs.steps.Serving.{IsPlan, SaysMore};
 ghost use Rattle.fleet_site.specs.Table.{IsTableOf, KeepsTable};
 ghost use Rattle.fleet_site.specs.Tick.{Ticked, LeavesFewer, failure_to};
 

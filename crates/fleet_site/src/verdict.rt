@@ -6,8 +6,8 @@ ghost use Rattle.fleet_observe.specs.Observation.{Observations};
 ghost use Rattle.fleet_cache.specs.Cached.{IsCached};
 ghost use Rattle.fleet_cache.specs.Kinds.{HasKinds};
 ghost use Rattle.fleet_cache.specs.AnswerData.{answer_data};
-ghost use Rattle.fleet_site.specs.Carried.{IsAskable, IsAnswered, SaysUnread};
-ghost use Rattle.fleet_site.specs.Verdict.{IsAsking, verdict, IsServedQuestion, DecidesAnswer, DecidesQuestion, Decides};
+ghost use Rattle.fleet_site.specs.steps.Carried.{IsAskable, IsAnswered, SaysUnread};
+ghost use Rattle.fleet_site.specs.question.Verdict.{IsAsking, verdict, IsServedQuestion, DecidesAnswer, DecidesQuestion, Decides};
 
 use crate::writing::{bare_reply, is_miss, reply_without, tell};
 use fleet_cache::{Answer, Cache};

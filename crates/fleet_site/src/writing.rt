@@ -6,7 +6,8 @@ ghost use Rattle.fleet_cache.specs.Answer.{Missed};
 ghost use Rattle.fleet_cache.specs.AnswerData.{answer_data};
 ghost use Rattle.fleet_cache.specs.Kinds.{HasKinds, IsPositivePart, ArePositiveParts};
 ghost use Rattle.fleet_cache.specs.Shown.{shown_parts};
-ghost use Rattle.fleet_site.specs.Rows.{bare_outline, bare_octets, answer_rcode, AddsRows, AddsChainRows, AddsSoaRow, AddsAnswer, IsNegativePart, Writes};
+ghost use Rattle.fleet_site.specs.question.Rows.{bare_outline, bare_octets, Writes};
+ghost use Rattle.fleet_site.specs.steps.Writing.{answer_rcode, AddsRows, AddsChainRows, AddsSoaRow, AddsAnswer, IsNegativePart};
 
 use fleet_cache::{Answer, Shown};
 use fleet_name::Octets;

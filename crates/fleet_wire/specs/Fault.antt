@@ -1,5 +1,6 @@
 -- Why no name stands at a place of a message: the first fault on the way. RFC 1035 2.3.4, 3.1,
 -- 4.1.4.
+-- Serves `read_query` and `read_reply`.
 use Rattle.std.specs.Prelude.{◌≡◌, ℕ, ◌+◌, ◌<◌, ◌≤◌, length, slice_index}
 use Rattle.fleet_name.specs.Types.{Label, OctetList}
 use Rattle.fleet_wire.specs.Types.{Place}

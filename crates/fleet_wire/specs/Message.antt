@@ -1,4 +1,5 @@
 -- What messages say: a header, a question, and records (RFC 1035 4.1).
+-- Serves `read_query`, `read_plain_query`, `read_reply`.
 use Rattle.std.specs.Prelude.{◌≡◌, ◌≢◌, ◌/◌, ◌%◌, ◌<◌, ◌≤◌, ◌⊎◌, List, [], ◌∷◌, ◌++◌, length, drop, slice_index, Bool, true, false, nat_eq, nat_le, IsTrue}
 use Rattle.std.specs.List.{AllByRecursion}
 use Rattle.fleet_name.specs.Types.{OctetList}

@@ -1,4 +1,5 @@
 -- What name stands at a place of a message (RFC 1035 3.1, 4.1.4).
+-- Serves `read_query` and `read_reply`, law `one_name`.
 use Rattle.std.specs.Prelude.{◌≡◌, ◌+◌, ◌-◌, ◌*◌, ◌<◌, ◌≤◌, [], ◌∷◌, length, take, drop, slice_index}
 use Rattle.fleet_name.specs.Types.{Label, Labels, OctetList}
 use Rattle.fleet_wire.specs.Types.{Place}

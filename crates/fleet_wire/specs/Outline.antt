@@ -1,4 +1,5 @@
 -- What a reply that is to be written says, and its octets (RFC 1035 4.1).
+-- Serves `write_reply`, `write_reply_into`.
 use Rattle.std.specs.Prelude.{◌≡◌, ℕ, ◌+◌, ◌*◌, ◌<◌, ◌≤◌, List, [], ◌∷◌, ◌++◌, length, Bool, true, false, Option, Some, None, if◌then◌else◌, nat_le}
 use Rattle.std.specs.List.{flat_map, AllByRecursion}
 use Rattle.fleet_name.specs.Types.{Labels, OctetList}
@@ -75,10 +76,6 @@ whole_octets o = header_octets o o.tc (length o.answer) (length o.authority)
 abbrev pub cut_octets : OutlineData → OctetList
 cut_octets o = header_octets o true 0 0 ++ question_octets_if_any o.question
 
--- the records of a section, one after the other
-abbrev pub section_octets : List RecordData → OctetList
-section_octets rs = flat_map record_octets rs
-
 -- a record of the class IN
 abbrev pub line : Labels → RType → Seconds → OctetList → RecordData
 line name rtype ttl rdata =
@@ -142,3 +139,9 @@ message_of_outline o q = record {
   answer = o.answer;
   authority = o.authority;
 }
+
+-- What follows, private contracts alone cite.
+
+-- the records of a section, one after the other
+abbrev pub section_octets : List RecordData → OctetList
+section_octets rs = flat_map record_octets rs

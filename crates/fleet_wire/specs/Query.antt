@@ -1,4 +1,5 @@
 -- What a query to an upstream is, as octets (RFC 1035 4.1.1, 4.1.2).
+-- Serves `write_query`.
 use Rattle.std.specs.Prelude.{ℕ, [], ◌∷◌, ◌++◌, true, false}
 use Rattle.fleet_name.specs.Types.{OctetList}
 use Rattle.fleet_name.specs.Name.{wire}

@@ -1,4 +1,5 @@
 -- What a question is, without where it lies in memory (RFC 1035 4.1.2).
+-- Serves `read_query`, `read_plain_query`, `read_reply`.
 use Rattle.std.specs.Prelude.{◌≡◌, ℕ, ◌+◌, ◌<◌, ◌≤◌, ◌⊎◌, length}
 use Rattle.fleet_name.specs.Types.{Labels, OctetList}
 use Rattle.fleet_wire.specs.Types.{Place, RType}
@@ -16,15 +17,6 @@ pub record QuestionData : Type 0 where
   pub name : Labels
   pub rtype : RType
   pub class : ℕ
-
--- a question that has taken no memory yet
-abbrev pub spelled_question_data : SpelledQuestion → QuestionData
-spelled_question_data q = record {
-  spelled = q.name.octets.items;
-  name = lower_all (labels_of q.name.octets.items);
-  rtype = q.rtype;
-  class = q.class;
-}
 
 -- a question whose name is lent: as it is spelled, and in lower case
 abbrev pub lent_data : OctetList → OctetList → RType → ℕ → QuestionData
@@ -60,3 +52,14 @@ QuestionFails m p f = NameFails m p f
 pub record IsQuestionData (q : QuestionData) : Type 0 where
   pub spelled : lower q.spelled ≡ wire q.name
   pub named : IsName q.name
+
+-- What follows, private contracts alone cite.
+
+-- a question that has taken no memory yet
+abbrev pub spelled_question_data : SpelledQuestion → QuestionData
+spelled_question_data q = record {
+  spelled = q.name.octets.items;
+  name = lower_all (labels_of q.name.octets.items);
+  rtype = q.rtype;
+  class = q.class;
+}

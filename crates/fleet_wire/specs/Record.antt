@@ -1,5 +1,6 @@
 -- What a record is, without where it lies in memory, and what records stand at a place of a message
 -- (RFC 1035 4.1.3).
+-- Serves `read_reply`.
 use Rattle.std.specs.Prelude.{◌≡◌, ℕ, ◌+◌, ◌<◌, ◌≤◌, ◌⊎◌, List, [], ◌∷◌, length}
 use Rattle.fleet_name.specs.Types.{Labels, OctetList}
 use Rattle.fleet_wire.specs.Types.{Place, RType, Seconds}
@@ -19,16 +20,6 @@ pub record RecordData : Type 0 where
   pub class : ℕ
   pub ttl : Seconds
   pub rdata : OctetList
-
--- a record that has taken no memory yet
-abbrev pub spelled_record_data : SpelledRecord → RecordData
-spelled_record_data r = record {
-  name = lower_all (labels_of r.owner.octets.items);
-  rtype = r.rtype;
-  class = r.class;
-  ttl = r.ttl;
-  rdata = r.rdata.items;
-}
 
 -- the record r stands at p, and ends before e: a name, ten octets, and the RDATA that the last two
 -- of them count
@@ -62,10 +53,6 @@ abbrev pub RecordsAt : OctetList → Place → List RecordData → Place → Typ
 RecordsAt m p [] e = e ≡ p
 RecordsAt m p (r ∷ rs) e = (past : Place) × RecordAt m p r past × RecordsAt m past rs e
 
--- so many records stand at p in a row
-abbrev pub HasRecords : OctetList → Place → ℕ → Type 0
-HasRecords m p count = (rs : List RecordData) × (e : Place) × RecordsAt m p rs e × (length rs ≡ count)
-
 -- the first fault of so many records at p: behind fewer of them stands none
 abbrev pub RecordsFail : OctetList → Place → ℕ → ReadFault → Type 0
 RecordsFail m p count f = (rs : List RecordData) × (past : Place) × RecordsAt m p rs past
@@ -75,3 +62,19 @@ RecordsFail m p count f = (rs : List RecordData) × (past : Place) × RecordsAt 
 pub record IsPlainRecord (r : RecordData) : Type 0 where
   pub name : IsName r.name
   pub rdata : IsPlain r.rtype r.rdata
+
+-- What follows, private contracts alone cite.
+
+-- a record that has taken no memory yet
+abbrev pub spelled_record_data : SpelledRecord → RecordData
+spelled_record_data r = record {
+  name = lower_all (labels_of r.owner.octets.items);
+  rtype = r.rtype;
+  class = r.class;
+  ttl = r.ttl;
+  rdata = r.rdata.items;
+}
+
+-- so many records stand at p in a row
+abbrev pub HasRecords : OctetList → Place → ℕ → Type 0
+HasRecords m p count = (rs : List RecordData) × (e : Place) × RecordsAt m p rs e × (length rs ≡ count)

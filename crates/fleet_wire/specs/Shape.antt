@@ -1,5 +1,6 @@
 -- What RDATA holds: a table from types to parts, and what parts stand at a place of a message (RFC
 -- 1035 3.3, RFC 2782).
+-- Serves `read_reply`, `plain_rdata`.
 use Rattle.std.specs.Prelude.{◌≡◌, ◌≢◌, ℕ, ◌+◌, ◌<◌, ◌≤◌, ◌⊎◌, List, [], ◌∷◌, ◌++◌, length, take, drop, Option, Some, None, if◌then◌else◌, nat_eq, ◌||◌}
 use Rattle.fleet_name.specs.Types.{Labels, OctetList}
 use Rattle.fleet_wire.specs.Types.{Place, RType}
@@ -43,12 +44,6 @@ PartsFail m (Plain n ∷ parts) p f =
 PartsFail m (Name ∷ parts) p f = NameFails m p f
     ⊎ ((n : Labels) × (past : Place) × ReadsName m p n past × PartsFail m parts past f)
 
--- how many octets the parts have at most, with each name in full
-abbrev pub room_of : List Part → ℕ
-room_of [] = 0
-room_of (Plain n ∷ parts) = n + room_of parts
-room_of (Name ∷ parts) = LONGEST_NAME + room_of parts
-
 -- k octets of RDATA at p, read by their shape
 abbrev pub ShapeAt : OctetList → Place → ℕ → Option (List Part) → OctetList → Type 0
 ShapeAt m p k None octets = octets ≡ take k (drop p m)
@@ -75,3 +70,11 @@ HasShape (Some parts) octets = ArePlain parts octets
 -- RDATA of a type, without pointers and in lower case
 abbrev pub IsPlain : RType → OctetList → Type 0
 IsPlain rtype octets = HasShape (shape_of rtype) octets
+
+-- What follows, private contracts alone cite.
+
+-- how many octets the parts have at most, with each name in full
+abbrev pub room_of : List Part → ℕ
+room_of [] = 0
+room_of (Plain n ∷ parts) = n + room_of parts
+room_of (Name ∷ parts) = LONGEST_NAME + room_of parts

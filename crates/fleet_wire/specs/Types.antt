@@ -1,4 +1,5 @@
 -- What plain numbers stand for.
+-- Serves every crate above: the types of what definitions speak of.
 use Rattle.std.specs.Prelude.{ℕ}
 
 -- a place in a message: how many octets stand before it

@@ -5,7 +5,7 @@ ghost use Rattle.fleet_name.specs.Name.{label_octets, lower_all, labels_of, IsSp
 ghost use Rattle.fleet_name.specs.declared.bounds.TheConstants.{LONGEST_LABEL, LONGEST_NAME};
 ghost use Rattle.fleet_wire.specs.NameAt.{NameAt};
 ghost use Rattle.fleet_wire.specs.Fault.{FaultAt, NameFails};
-ghost use Rattle.fleet_wire.specs.Step.{IsStep};
+ghost use Rattle.fleet_wire.specs.steps.Step.{IsStep};
 
 use crate::fault::ReadFault;
 use arrayvec::ArrayVec;

@@ -3,7 +3,7 @@
 ghost use Rattle.std.specs.Prelude.{◌≡◌, ◌≤◌, [], ◌∷◌, ◌++◌, length, OnOk, OnErr};
 ghost use Rattle.fleet_name.specs.Name.{IsName};
 ghost use Rattle.fleet_wire.specs.Outline.{line};
-ghost use Rattle.fleet_wire.specs.Line.{record_of_line, records_of_lines};
+ghost use Rattle.fleet_wire.specs.steps.Line.{record_of_line, records_of_lines};
 ghost use Rattle.fleet_wire.specs.declared.bounds.TheConstants.{LONGEST_MESSAGE};
 
 use crate::line::Line;
@@ -23,7 +23,7 @@ pub(crate) struct Section<'a, A: Allocator> {
 impl<'a, A: Allocator> Model for Section<'a, A> {
     ghost use Rattle.std.specs.Prelude.{List, ◌++◌};
     ghost use Rattle.fleet_wire.specs.Record.{RecordData};
-    ghost use Rattle.fleet_wire.specs.Line.{records_of_lines};
+    ghost use Rattle.fleet_wire.specs.steps.Line.{records_of_lines};
 
     ghost Value = { List RecordData };
 

@@ -4,7 +4,7 @@ ghost use Rattle.std.specs.Prelude.{◌≡◌, ◌+◌, ◌<◌, ◌≤◌, ◌+
 ghost use Rattle.fleet_name.specs.declared.bounds.TheConstants.{LONGEST_NAME};
 ghost use Rattle.fleet_wire.specs.Number.{u16_octets, u32_octets};
 ghost use Rattle.fleet_wire.specs.Question.{QuestionData};
-ghost use Rattle.fleet_wire.specs.Line.{record_of_line, records_of_lines};
+ghost use Rattle.fleet_wire.specs.steps.Line.{record_of_line, records_of_lines};
 ghost use Rattle.fleet_wire.specs.Message.{IsReply};
 ghost use Rattle.fleet_wire.specs.Outline.{record_octets, question_octets_if_any, section_octets, whole_octets, cut_octets, header_octets, octets_of_outline, IsOutlineData, IsWhole, message_of_outline};
 ghost use Rattle.fleet_wire.specs.declared.bounds.TheConstants.{LONGEST_MESSAGE};

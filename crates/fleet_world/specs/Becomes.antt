@@ -1,4 +1,5 @@
 -- What an event makes of the site at which it happens.
+-- Serves `World::step`.
 use Rattle.std.specs.Prelude.{◌≡◌, ◌≢◌, ℕ, max, List, [], ◌++◌, Option, Some, None, Result, Ok, Err}
 use Rattle.fleet_name.specs.Types.{OctetList}
 use Rattle.fleet_wire.specs.Types.{Seconds}
@@ -7,12 +8,12 @@ use Rattle.fleet_name.specs.Places.{At}
 use Rattle.fleet_cache.specs.Cached.{IsCached}
 use Rattle.fleet_site.specs.Choice.{when◌then◌otherwise◌}
 use Rattle.fleet_site.specs.OutcomeData.{OutcomeData, nothing}
-use Rattle.fleet_site.specs.Merge.{Merges}
+use Rattle.fleet_site.specs.gossip.Merge.{Merges}
 use Rattle.fleet_site.specs.SiteModel.{SiteModel}
 use Rattle.fleet_site.specs.StandsFor.{opening as site_at_first}
 use Rattle.fleet_site.specs.Step.{Call, datagram, tick, frame, learn, flush}
 use Rattle.fleet_site.specs.Step.{Step as SiteStep}
-use Rattle.fleet_site.specs.Sweep.{IsSweep}
+use Rattle.fleet_site.specs.gossip.Sweep.{IsSweep}
 use Rattle.fleet_site.specs.declared.outcome.Refusal.{Refusal}
 use Rattle.fleet_site.specs.declared.outcome.SiteFault.{SiteFault}
 use Rattle.fleet_site.specs.declared.outcome.SiteFault.TheVariants.{OutOfMemory}

@@ -1,4 +1,5 @@
 -- What an event names: sites and frames, numbered from 0.
+-- Serves `World::step`.
 use Rattle.std.specs.Prelude.{ℕ, ◌<◌}
 use Rattle.fleet_world.specs.declared.event.Event.{Event}
 use Rattle.fleet_world.specs.declared.event.Event.TheVariants.{Datagram, Tick, Sweep, Frame, Deliver, Learn, Flush, Merge, Restart}

@@ -1,4 +1,5 @@
 -- What a world has.
+-- Serves every call of `World`.
 use Rattle.std.specs.Prelude.{List}
 use Rattle.fleet_name.specs.Types.{OctetList}
 use Rattle.fleet_site.specs.SiteData.{SiteData}

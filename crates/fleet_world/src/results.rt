@@ -2,7 +2,7 @@
 
 ghost use Rattle.std.specs.Prelude.{◌≡◌};
 ghost use Rattle.fleet_site.specs.OutcomeData.{nothing};
-ghost use Rattle.fleet_world.specs.Keeping.{SweepsAs, MergesAs, LooksAs};
+ghost use Rattle.fleet_world.specs.steps.Keeping.{SweepsAs, MergesAs, LooksAs};
 
 use crate::fault::WorldFault;
 use fleet_name::Octets;

@@ -3,7 +3,7 @@
 ghost use Rattle.std.specs.Prelude.{◌≡◌, ℕ, ◌≤◌, List, length, IfOk, IfErr, MatchOption};
 ghost use Rattle.fleet_wire.specs.Record.{RecordData};
 ghost use Rattle.fleet_observe.specs.Members.{Has};
-ghost use Rattle.fleet_observe.specs.Walk.{ArePlainRecords};
+ghost use Rattle.fleet_observe.specs.steps.Following.{ArePlainRecords};
 ghost use Rattle.fleet_observe.specs.Meaning.{IsSoaRecord, IsFirstSoa, IsSoa, HasSoa, minimum_of};
 
 use crate::bounds::LONGEST_DENIAL;

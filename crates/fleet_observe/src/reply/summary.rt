@@ -4,7 +4,8 @@ ghost use Rattle.std.specs.Prelude.{◌≡◌, ℕ, ◌⊎◌, List, [], IfOk};
 ghost use Rattle.fleet_name.specs.Name.{labels_of};
 ghost use Rattle.fleet_wire.specs.Message.{IsRead};
 ghost use Rattle.fleet_observe.specs.RrSet.{SpellsName};
-ghost use Rattle.fleet_observe.specs.Walk.{ArePlainRecords, HasWalk, IsFollowed, Ends};
+ghost use Rattle.fleet_observe.specs.Walk.{HasWalk, Ends};
+ghost use Rattle.fleet_observe.specs.steps.Following.{ArePlainRecords, IsFollowed};
 ghost use Rattle.fleet_observe.specs.Digest.{end_data, IsLawful};
 ghost use Rattle.fleet_observe.specs.Meaning.{IsServed, IsMeaning, IsEnd, Tells, AsksWalk, IsWalkable};
 

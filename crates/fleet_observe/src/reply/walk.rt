@@ -3,7 +3,8 @@
 ghost use Rattle.std.specs.Prelude.{◌≡◌, ℕ, ◌≤◌, ◌⊎◌, ◌↔◌, List, IsTrue, MatchOption};
 ghost use Rattle.fleet_name.specs.Name.{labels_of};
 ghost use Rattle.fleet_observe.specs.RrSet.{SpellsName};
-ghost use Rattle.fleet_observe.specs.Walk.{ArePlainRecords, IsFound, IsWalkStep, HasWalk, Ends, EndsFound, EndsBare, IsOf};
+ghost use Rattle.fleet_observe.specs.Walk.{HasWalk, Ends, EndsFound, EndsBare};
+ghost use Rattle.fleet_observe.specs.steps.Following.{ArePlainRecords, IsFound, IsWalkStep, IsOf};
 
 use crate::bounds::MOST_LINKS;
 use crate::reply::rrset::belongs;

@@ -1,7 +1,7 @@
 use Rattle.std.proofs.Common.{◌<◌, ◌≤◌, length, sym, ap, ◌∙◌, arith}
 use Rattle.std.proofs.lemmas.Bool.Decides.{nat_tests}
 use Rattle.fleet_observe.specs.declared.bounds.TheConstants.{MOST_LINKS}
-use Rattle.fleet_cache.specs.Best.{referent}
+use Rattle.fleet_cache.specs.steps.Best.{referent}
 use Rattle.fleet_cache.specs.Answer.{by_kind, add_links}
 use Rattle.fleet_cache.specs.Shown.{shown_parts}
 use Rattle.fleet_cache.proofs.Answers.{decider_of_held}

@@ -1,7 +1,7 @@
 use Rattle.std.proofs.Common.{arith}
 use Rattle.fleet_observe.specs.declared.observation.kind.Kind.TheVariants.{Flush}
 use Rattle.fleet_cache.specs.Live.{lasts}
-use Rattle.fleet_cache.specs.Best.{referent}
+use Rattle.fleet_cache.specs.steps.Best.{referent}
 use Rattle.fleet_cache.proofs.Climbing.{parent_wired, parent_shorter, above_longer, at_top, at_root, one_up}
 use Rattle.fleet_cache.proofs.lookup.+flush_above.Goals as goal
 

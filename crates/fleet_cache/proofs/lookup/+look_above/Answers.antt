@@ -1,7 +1,7 @@
 use Rattle.std.proofs.Common.{inl, inr, arith}
 use Rattle.fleet_observe.specs.declared.observation.kind.Kind.TheVariants.{NameError, Flush}
 use Rattle.fleet_cache.specs.Live.{lasts, is_live}
-use Rattle.fleet_cache.specs.Best.{IsBest, IsAbove, referent}
+use Rattle.fleet_cache.specs.steps.Best.{IsBest, IsAbove, referent}
 use Rattle.fleet_cache.proofs.Past.{moment_shows, flush_shows}
 use Rattle.fleet_cache.proofs.Climbing.{parent_wired, parent_shorter, at_top, one_up}
 use Rattle.fleet_cache.proofs.lookup.+look_above.Goals as goal

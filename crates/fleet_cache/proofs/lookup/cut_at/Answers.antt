@@ -1,6 +1,6 @@
 use Rattle.std.proofs.Common.{sym, subst}
-use Rattle.fleet_cache.specs.Cut.{IsCutAt}
-use Rattle.fleet_cache.specs.Best.{referent}
+use Rattle.fleet_cache.specs.steps.CutAt.{IsCutAt}
+use Rattle.fleet_cache.specs.steps.Best.{referent}
 use Rattle.fleet_cache.proofs.Past.{cut_of_flush}
 use Rattle.fleet_cache.proofs.lookup.cut_at.Goals as goal
 

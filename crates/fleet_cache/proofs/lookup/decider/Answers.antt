@@ -2,7 +2,7 @@ use Rattle.std.proofs.Common.{◌⊎◌}
 use Rattle.fleet_wire.specs.declared.rtype.TheConstants.{CNAME}
 use Rattle.fleet_observe.specs.declared.observation.kind.Kind.TheVariants.{NameError, NoData, Positive, Flush}
 use Rattle.fleet_cache.specs.Live.{is_live}
-use Rattle.fleet_cache.specs.Best.{IsOn, IsAbove, referent}
+use Rattle.fleet_cache.specs.steps.Best.{IsOn, IsAbove, referent}
 use Rattle.fleet_cache.proofs.Best.{best_or}
 use Rattle.fleet_cache.proofs.Past.{flush_shows}
 use Rattle.fleet_cache.proofs.lookup.decider.Goals as goal

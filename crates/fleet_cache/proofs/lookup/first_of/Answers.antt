@@ -1,7 +1,7 @@
 use Rattle.std.proofs.Common.{ℕ, zero, suc, ◌≡◌, ◌<◌, Bool, true, List, [], ◌∷◌, length, get_or, drop, sym, ap, ◌∙◌, arith}
 use Rattle.std.specs.List.{filter}
 use Rattle.fleet_observe.specs.Observation.{ObservationData}
-use Rattle.fleet_cache.specs.Keyed.{is_shown_of}
+use Rattle.fleet_cache.specs.steps.Keyed.{is_shown_of}
 use Rattle.fleet_cache.proofs.lookup.first_of.Goals as goal
 
 -- what passes is the next of those that do

@@ -1,6 +1,6 @@
 use Rattle.std.proofs.Common.{length, ◌≡◌, ◌≤◌, drop}
 use Rattle.std.specs.List.{filter}
-use Rattle.fleet_cache.specs.Keyed.{is_shown_of}
+use Rattle.fleet_cache.specs.steps.Keyed.{is_shown_of}
 use Rattle.fleet_cache.proofs.lookup.first_of.Given as goal
 
 abbrev pub invariant-loop-item : goal.invariant-loop-item

@@ -1,8 +1,8 @@
 use Rattle.std.proofs.Common.{◌≡◌, ℕ, List, [], inl, inr, Option, Some, None, Bor, MatchOption}
 use Rattle.fleet_name.specs.Name.{wire}
 use Rattle.fleet_observe.specs.Observation.{ObservationData}
-use Rattle.fleet_cache.specs.Best.{IsParent}
-use Rattle.fleet_cache.specs.Noted.{HasNoneAbove}
+use Rattle.fleet_cache.specs.steps.Best.{IsParent}
+use Rattle.fleet_cache.specs.steps.Noted.{HasNoneAbove}
 use Rattle.fleet_cache.proofs.Climbing.{root_alone, above_longer}
 use Rattle.fleet_cache.proofs.lookup.next_above.Goals as goal
 

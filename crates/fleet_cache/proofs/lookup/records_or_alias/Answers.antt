@@ -1,7 +1,7 @@
 use Rattle.std.proofs.Common.{◌⊎◌, inl, inr, subst, sym}
 use Rattle.fleet_wire.specs.declared.rtype.TheConstants.{CNAME}
 use Rattle.fleet_observe.specs.declared.observation.kind.Kind.TheVariants.{Positive}
-use Rattle.fleet_cache.specs.Best.{IsBest, IsOn, referent}
+use Rattle.fleet_cache.specs.steps.Best.{IsBest, IsOn, referent}
 use Rattle.fleet_cache.proofs.Best.{best_or, best_same}
 use Rattle.fleet_cache.proofs.lookup.records_or_alias.Goals as goal
 

@@ -1,6 +1,6 @@
 use Rattle.std.proofs.Common.{◌≡◌, sym, ap, ◌∙◌}
 use mathlib.Core.Bool.{false≢true}
-use Rattle.fleet_cache.specs.Packed.{words_of}
+use Rattle.fleet_cache.specs.steps.Packed.{words_of}
 use Rattle.fleet_cache.specs.Cached.{is_covered}
 use Rattle.fleet_cache.proofs.Looked.{none_covers, covered_from, covered_to, covered_there}
 use Rattle.fleet_cache.proofs.store.covers.Goals as goal

@@ -9,8 +9,8 @@ use Rattle.fleet_observe.specs.Observation.{ObservationData}
 use Rattle.fleet_observe.specs.Preference.{octets_cmp}
 use Rattle.fleet_cache.specs.Front.{without_hidden}
 use Rattle.fleet_cache.specs.Cut.{CutData, is_hidden}
-use Rattle.fleet_cache.specs.Packed.{words_of}
-use Rattle.fleet_cache.specs.Slots.{is_nil, IsLaid}
+use Rattle.fleet_cache.specs.steps.Packed.{words_of}
+use Rattle.fleet_cache.specs.steps.Slots.{is_nil, IsLaid}
 use Rattle.fleet_cache.proofs.Slots.{slot_of_key}
 use Rattle.fleet_cache.proofs.Sweeps.{IsTrim, written, taken_out, trim_laid, trim_thinned}
 use Rattle.fleet_cache.proofs.store.drop_hidden.Goals as goal

@@ -1,7 +1,7 @@
 use Rattle.std.proofs.Common.{[], ◌∷◌, sym, ap, subst, length, arith}
 use Rattle.fleet_front.specs.Front.{IsFront as IsFrontOf}
 use Rattle.fleet_cache.specs.Dominates.{dominates}
-use Rattle.fleet_cache.specs.Row.{row}
+use Rattle.fleet_cache.specs.steps.Row.{row}
 use Rattle.fleet_cache.proofs.Slots.{nil_front}
 use Rattle.fleet_cache.proofs.store.front_of.Goals as goal
 

@@ -5,11 +5,11 @@ use Rattle.std.proofs.lemmas.Result.{on_err_weaker}
 use Rattle.std.proofs.lemmas.Map.Steps.{set_value_same}
 use Rattle.fleet_front.specs.Front.{IsFront as IsFrontOf, IsCovered as IsCoveredBy}
 use Rattle.fleet_observe.specs.Observation.{ObservationData}
-use Rattle.fleet_cache.specs.Packed.{words_of, IsPackable}
+use Rattle.fleet_cache.specs.steps.Packed.{words_of, IsPackable}
 use Rattle.fleet_observe.specs.Preference.{octets_cmp}
 use Rattle.fleet_cache.specs.Dominates.{dominates}
-use Rattle.fleet_cache.specs.Row.{row}
-use Rattle.fleet_cache.specs.Slots.{IsLaid, IsPut}
+use Rattle.fleet_cache.specs.steps.Row.{row}
+use Rattle.fleet_cache.specs.steps.Slots.{IsLaid, IsPut}
 use Rattle.fleet_cache.proofs.Slots.{slot_of_key, put_edited, put_entered}
 use Rattle.fleet_cache.proofs.Looked.{none_covers, covered_there}
 use Rattle.fleet_front.proofs.Lemmas.{on_err}

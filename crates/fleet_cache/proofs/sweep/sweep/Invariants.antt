@@ -1,4 +1,4 @@
-use Rattle.fleet_cache.specs.Swept.{IsSwept}
+use Rattle.fleet_cache.specs.steps.Swept.{IsSwept}
 use Rattle.fleet_cache.proofs.sweep.sweep.Given as goal
 
 abbrev pub invariant-loop-left : goal.invariant-loop-left

@@ -3,7 +3,7 @@ use Rattle.fleet_name.specs.Name.{wire}
 use Rattle.fleet_observe.specs.Members.{Has}
 use Rattle.fleet_observe.specs.Observation.{ObservationData}
 use Rattle.fleet_cache.specs.Live.{is_live}
-use Rattle.fleet_cache.specs.Keyed.{IsOfKey}
+use Rattle.fleet_cache.specs.steps.Keyed.{IsOfKey}
 use Rattle.fleet_cache.proofs.Looked.{first_has, key_told}
 use Rattle.fleet_cache.proofs.Holdings.{thinned_swept}
 use Rattle.fleet_cache.proofs.sweep.trim.Goals as goal

@@ -2,7 +2,7 @@ use Rattle.std.proofs.Common.{◌≡◌, ◌<◌, ◌≤◌, ◌-◌, ◌*◌, �
 use Rattle.std.proofs.lemmas.Bool.Decides.{nat_tests}
 use Rattle.std.proofs.lemmas.List.{length-take}
 use Rattle.fleet_cache.specs.declared.words.TheConstants.{MOST_WORDS, WORD_OCTETS}
-use Rattle.fleet_cache.specs.Packed.{octet_words_within}
+use Rattle.fleet_cache.specs.steps.Packed.{octet_words_within}
 use Rattle.fleet_cache.proofs.Packing.{bytes_read, first_weighed, words_so_far, all_packed, last_packed}
 use Rattle.fleet_cache.proofs.words.pack.Goals as goal
 

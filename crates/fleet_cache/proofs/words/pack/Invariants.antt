@@ -1,6 +1,6 @@
 use Rattle.std.proofs.Common.{◌≡◌, ◌≤◌, ◌-◌, ◌*◌, ◌++◌, length}
 use Rattle.fleet_cache.specs.declared.words.TheConstants.{MOST_WORDS, WORD_OCTETS}
-use Rattle.fleet_cache.specs.Packed.{octet_words_within}
+use Rattle.fleet_cache.specs.steps.Packed.{octet_words_within}
 use Rattle.fleet_cache.proofs.words.pack.Given as goal
 
 abbrev pub invariant-loop-first : goal.invariant-loop-first

@@ -1,7 +1,7 @@
 use Rattle.std.proofs.Common.{◌*◌, ◌<◌, drop, slice_index_or, ap, ◌∙◌, arith, add-one}
 use Rattle.std.proofs.lemmas.List.{drop_all}
 use Rattle.fleet_cache.specs.declared.words.TheConstants.{WEIGHTS}
-use Rattle.fleet_cache.specs.Packed.{weigh}
+use Rattle.fleet_cache.specs.steps.Packed.{weigh}
 use Rattle.fleet_cache.proofs.Packed.{weigh_below, are_weights}
 use Rattle.fleet_cache.proofs.Packing.{bytes_read, weigh_none, weighed_more}
 use Rattle.fleet_cache.proofs.words.word_of.Goals as goal

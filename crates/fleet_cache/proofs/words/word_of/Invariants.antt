@@ -1,6 +1,6 @@
 use Rattle.std.proofs.Common.{◌≡◌, ◌+◌, drop}
 use Rattle.fleet_cache.specs.declared.words.TheConstants.{WEIGHTS}
-use Rattle.fleet_cache.specs.Packed.{weigh}
+use Rattle.fleet_cache.specs.steps.Packed.{weigh}
 use Rattle.fleet_cache.proofs.words.word_of.Given as goal
 
 abbrev pub invariant-loop-i : goal.invariant-loop-i

@@ -3,7 +3,7 @@ use Rattle.std.specs.Prelude.{MatchOption}
 use Rattle.std.specs.List.{flat_map}
 use Rattle.fleet_observe.specs.Body.{octets_with_length, positive_body}
 use Rattle.fleet_gossip.specs.Entry.{AreFirstRdatas}
-use Rattle.fleet_gossip.specs.Steps.{HasLast}
+use Rattle.fleet_gossip.specs.steps.Reading.{HasLast}
 use Rattle.fleet_gossip.proofs.body.read_rdatas.Given as goal
 
 abbrev pub invariant-loop : goal.invariant-loop

@@ -1,5 +1,5 @@
 use Rattle.std.proofs.Common.{take}
-use Rattle.fleet_gossip.specs.Steps.{FitsFrame}
+use Rattle.fleet_gossip.specs.steps.Reading.{FitsFrame}
 use Rattle.fleet_gossip.proofs.frame.frame_size.Given as goal
 
 abbrev pub invariant-loop-observation : goal.invariant-loop-observation

@@ -1,6 +1,6 @@
 use Rattle.std.proofs.Common.{◌≡◌, ◌++◌, List}
 use Rattle.fleet_observe.specs.Observation.{ObservationData}
-use Rattle.fleet_gossip.specs.Packs.{Packs}
+use Rattle.fleet_gossip.specs.steps.Packs.{Packs}
 use Rattle.fleet_gossip.proofs.packer.sweep.Given as goal
 
 abbrev pub invariant-loop-observation : goal.invariant-loop-observation

@@ -1,6 +1,6 @@
 use Rattle.std.proofs.Common.{List, sym, subst}
 use Rattle.fleet_observe.specs.Observation.{ObservationData}
-use Rattle.fleet_site.specs.Learn.{Learnt}
+use Rattle.fleet_site.specs.reply.Learn.{Learnt}
 use Rattle.fleet_site.specs.SiteModel.{takes}
 use Rattle.fleet_site.proofs.Hearing.{learns, unread_learnt, undigested_learnt}
 use Rattle.fleet_site.proofs.relay.read_observations.Goals as goal

@@ -1,5 +1,5 @@
 use Rattle.std.proofs.Common.{ap}
-use Rattle.fleet_site.specs.Sending.{to_peers}
+use Rattle.fleet_site.specs.server.Sending.{to_peers}
 use Rattle.fleet_site.proofs.ServerLists.{carries_frames}
 use Rattle.fleet_site.proofs.server.carry_out_sweep.Goals as goal
 

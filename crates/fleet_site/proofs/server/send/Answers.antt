@@ -1,5 +1,5 @@
 use Rattle.std.proofs.Common.{[], ◌∷◌, inl, inr, refl}
-use Rattle.fleet_site.specs.PortRecord.{PacketSent, PacketLost}
+use Rattle.fleet_site.specs.server.PortRecord.{PacketSent, PacketLost}
 use Rattle.fleet_site.proofs.server.send.Goals as goal
 
 pub returns-in-Ok : goal.returns-in-Ok

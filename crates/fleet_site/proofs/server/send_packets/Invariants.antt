@@ -1,5 +1,5 @@
 use Rattle.std.proofs.Common.{take}
-use Rattle.fleet_site.specs.Sending.{Sends}
+use Rattle.fleet_site.specs.steps.Sends.{Sends}
 use Rattle.fleet_site.proofs.server.send_packets.Given as goal
 
 abbrev pub invariant-loop-packet : goal.invariant-loop-packet

@@ -1,5 +1,6 @@
 use Rattle.std.proofs.Common.{take}
-use Rattle.fleet_site.specs.Sending.{Sends, to_each}
+use Rattle.fleet_site.specs.server.Sending.{to_each}
+use Rattle.fleet_site.specs.steps.Sends.{Sends}
 use Rattle.fleet_site.proofs.server.send_to_each.Given as goal
 
 abbrev pub invariant-loop-peer : goal.invariant-loop-peer

@@ -1,5 +1,5 @@
 use Rattle.std.proofs.Common.{◌≡◌}
-use Rattle.fleet_site.specs.Turn.{left_after, IsPast}
+use Rattle.fleet_site.specs.server.Turn.{left_after, IsPast}
 use Rattle.fleet_site.proofs.Loops.{Serves}
 use Rattle.fleet_site.proofs.server.serve.Given as goal
 

@@ -1,6 +1,6 @@
 use Rattle.std.proofs.Common.{sym, ◌∙◌}
 use mathlib.Core.Bool.{false≢true}
-use Rattle.fleet_site.specs.Sending.{sweep_outcome}
+use Rattle.fleet_site.specs.steps.Sends.{sweep_outcome}
 use Rattle.fleet_site.proofs.ServerTurns.{swept_now, swept_not, stepped_sweep}
 use Rattle.fleet_site.proofs.server.sweep_if_due.Goals as goal
 

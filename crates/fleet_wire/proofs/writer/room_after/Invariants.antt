@@ -1,5 +1,5 @@
 use Rattle.std.proofs.Common.{◌≡◌, ◌+◌, length, drop}
-use Rattle.fleet_wire.specs.Line.{records_of_lines}
+use Rattle.fleet_wire.specs.steps.Line.{records_of_lines}
 use Rattle.fleet_wire.specs.Outline.{section_octets}
 use Rattle.fleet_wire.proofs.writer.room_after.Given as goal
 

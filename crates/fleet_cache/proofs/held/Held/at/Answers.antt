@@ -1,6 +1,6 @@
 use Rattle.std.proofs.Common.{sym, ap, ◌∙◌, subst}
-use Rattle.fleet_cache.specs.Keyed.{IsOfName}
-use Rattle.fleet_cache.specs.Packed.{octet_words}
+use Rattle.fleet_cache.specs.steps.Keyed.{IsOfName}
+use Rattle.fleet_cache.specs.steps.Packed.{octet_words}
 use Rattle.fleet_cache.proofs.Looked.{none_of_name, all_of_name, packable_wire}
 use Rattle.fleet_cache.proofs.held.Held.at.Goals as goal
 

@@ -1,6 +1,6 @@
 use Rattle.std.proofs.Common.{IsTrue, ◌↔◌, subst}
 use Rattle.fleet_cache.specs.Cached.{IsCovered}
-use Rattle.fleet_cache.specs.Held.{IsHeld}
+use Rattle.fleet_cache.specs.steps.Held.{IsHeld}
 use Rattle.fleet_cache.proofs.held.Held.covers.Goals as goal
 
 pub returns-clause-covered : goal.returns-clause-covered

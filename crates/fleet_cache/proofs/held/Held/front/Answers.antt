@@ -4,9 +4,9 @@ use Rattle.std.specs.Option.{option_copied}
 use Rattle.std.specs.Ordering.{is_eq}
 use Rattle.fleet_observe.specs.Observation.{ObservationData}
 use Rattle.fleet_observe.specs.Preference.{octets_cmp}
-use Rattle.fleet_cache.specs.Held.{IsHeld}
-use Rattle.fleet_cache.specs.Keyed.{HasNoKey, IsOfKey}
-use Rattle.fleet_cache.specs.Slots.{items_of, IsLaid}
+use Rattle.fleet_cache.specs.steps.Held.{IsHeld}
+use Rattle.fleet_cache.specs.steps.Keyed.{HasNoKey, IsOfKey}
+use Rattle.fleet_cache.specs.steps.Slots.{items_of, IsLaid}
 use Rattle.fleet_cache.proofs.Looked.{look_none, look_some}
 use Rattle.fleet_cache.proofs.held.Held.front.Goals as goal
 

@@ -1,6 +1,6 @@
 use Rattle.std.proofs.Common.{ap, ◌∙◌, subst}
-use Rattle.fleet_cache.specs.Held.{IsHeld}
-use Rattle.fleet_cache.specs.Slots.{concat}
+use Rattle.fleet_cache.specs.steps.Held.{IsHeld}
+use Rattle.fleet_cache.specs.steps.Slots.{concat}
 use Rattle.fleet_cache.proofs.Slots.{joined_values}
 use Rattle.fleet_cache.proofs.held.Held.fronts.Goals as goal
 

@@ -1,7 +1,7 @@
 use Rattle.std.proofs.Common.{length, sym, ◌∙◌, subst}
 use Rattle.fleet_observe.specs.declared.observation.kind.Kind.TheVariants.{NameError}
-use Rattle.fleet_cache.specs.Noted.{HasNone}
-use Rattle.fleet_cache.specs.Slots.{items_of}
+use Rattle.fleet_cache.specs.steps.Noted.{HasNone}
+use Rattle.fleet_cache.specs.steps.Slots.{items_of}
 use Rattle.fleet_cache.proofs.Holdings.{noted_none}
 use Rattle.fleet_cache.proofs.held.Held.may_deny.Goals as goal
 

@@ -1,8 +1,8 @@
 use Rattle.std.proofs.Common.{length, sym, ◌∙◌, subst}
 use Rattle.fleet_observe.specs.declared.observation.kind.Kind.TheVariants.{NameError}
-use Rattle.fleet_cache.specs.Held.{IsHeld}
-use Rattle.fleet_cache.specs.Noted.{HasNoneShorter}
-use Rattle.fleet_cache.specs.Slots.{items_of}
+use Rattle.fleet_cache.specs.steps.Held.{IsHeld}
+use Rattle.fleet_cache.specs.steps.Noted.{HasNoneShorter}
+use Rattle.fleet_cache.specs.steps.Slots.{items_of}
 use Rattle.fleet_cache.proofs.Holdings.{noted_longer}
 use Rattle.fleet_cache.proofs.held.Held.may_deny_above.Goals as goal
 

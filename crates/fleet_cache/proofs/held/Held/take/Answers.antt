@@ -1,8 +1,8 @@
 use Rattle.std.proofs.Common.{IfOk, OnErr, ap, ◌∙◌, subst}
 use Rattle.std.proofs.lemmas.Result.{on_err_weaker}
 use Rattle.fleet_cache.specs.Cached.{IsCovered}
-use Rattle.fleet_cache.specs.Held.{IsHeld, IsTaken}
-use Rattle.fleet_cache.specs.Slots.{items_of}
+use Rattle.fleet_cache.specs.steps.Held.{IsHeld, IsTaken}
+use Rattle.fleet_cache.specs.steps.Slots.{items_of}
 use Rattle.fleet_cache.proofs.Holdings.{put_taken, stored_held}
 use Rattle.fleet_cache.proofs.held.Held.take.Goals as goal
 

@@ -1,5 +1,5 @@
 use Rattle.std.proofs.Common.{◌≡◌, ◌++◌, length}
-use Rattle.fleet_cache.specs.Slots.{concat}
+use Rattle.fleet_cache.specs.steps.Slots.{concat}
 use Rattle.fleet_cache.proofs.items.Stored.next.Given as goal
 
 abbrev pub invariant-loop-self : goal.invariant-loop-self

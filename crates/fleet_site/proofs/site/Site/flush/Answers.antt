@@ -1,7 +1,7 @@
 use Rattle.std.proofs.Common.{ℕ, List, refl, sym, subst, arith}
 use Rattle.fleet_observe.specs.Observation.{ObservationData}
-use Rattle.fleet_site.specs.Carried.{Carries}
-use Rattle.fleet_site.specs.Flush.{Flushed}
+use Rattle.fleet_site.specs.steps.Carried.{Carries}
+use Rattle.fleet_site.specs.gossip.Flush.{Flushed}
 use Rattle.fleet_site.specs.SiteModel.{SiteModel}
 use Rattle.fleet_site.specs.StandsFor.{Follows}
 use Rattle.fleet_site.specs.SiteData.{IsSiteData, site_data}

@@ -1,0 +1,10 @@
+pub mod Row
+pub mod Held
+pub mod Packed
+pub mod Best
+pub mod Orders
+pub mod Slots
+pub mod Noted
+pub mod Keyed
+pub mod Swept
+pub mod CutAt

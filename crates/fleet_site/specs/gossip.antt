@@ -1,0 +1,4 @@
+pub mod Frame
+pub mod Flush
+pub mod Merge
+pub mod Sweep

@@ -1,0 +1,19 @@
+-- What a site does with a name that is flushed.
+-- Serves `Site::flush`.
+use Rattle.std.specs.Prelude.{◌≡◌, List, [], ◌∷◌}
+use Rattle.fleet_name.specs.Types.{Labels, OctetList}
+use Rattle.fleet_wire.specs.Types.{Seconds}
+use Rattle.fleet_observe.specs.Observation.{flush_at}
+use Rattle.fleet_gossip.specs.Packed.{IsPacked}
+use Rattle.fleet_pending.specs.PendingData.{PendingData}
+use Rattle.fleet_site.specs.OutcomeData.{nothing}
+use Rattle.fleet_site.specs.SiteModel.{Deed}
+
+-- the flush of the name at the moment is taken, and goes out as its frame
+abbrev pub Flushed : PendingData → Labels → Seconds → Deed → Type 0
+Flushed o name t d = (frames : List OctetList) × IsPacked (flush_at name t ∷ []) frames
+    × (d ≡ record {
+      says = record nothing { frames = frames; taken = 1 };
+      brings = flush_at name t ∷ [];
+      asking = o;
+    })

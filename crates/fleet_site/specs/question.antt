@@ -1,0 +1,5 @@
+pub mod Rows
+pub mod Verdict
+pub mod Question
+pub mod Looking
+pub mod Hit

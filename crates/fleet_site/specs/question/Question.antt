@@ -1,0 +1,71 @@
+-- What a site does with a question.
+-- Serves `Site::datagram`.
+use Rattle.std.specs.Prelude.{◌≡◌, ◌≢◌, ◌⊎◌, ℕ, List, Some, false, Result, Ok, Err}
+use Rattle.fleet_name.specs.Types.{OctetList}
+use Rattle.fleet_wire.specs.Types.{Seconds}
+use Rattle.fleet_wire.specs.Query.{query_octets}
+use Rattle.fleet_wire.specs.Question.{QuestionData}
+use Rattle.fleet_wire.specs.declared.header.Header.{Header}
+use Rattle.fleet_wire.specs.declared.rcode.TheConstants.{SERVER_FAILURE, REFUSED}
+use Rattle.fleet_observe.specs.Observation.{Observations}
+use Rattle.fleet_pending.specs.Waiter.{WaiterData}
+use Rattle.fleet_pending.specs.Asking.{Asks}
+use Rattle.fleet_pending.specs.PendingData.{PendingData}
+use Rattle.fleet_name.specs.Places.{At}
+use Rattle.fleet_pending.specs.declared.waiter.Addr.{Addr}
+use Rattle.fleet_pending.specs.declared.answer.Asked.{Asked as Opened}
+use Rattle.fleet_pending.specs.declared.answer.Asked.TheVariants.{Again, Joined, Send}
+use Rattle.fleet_pending.specs.declared.answer.PendingFault.{PendingFault}
+use Rattle.fleet_pending.specs.declared.answer.PendingFault.TheVariants.{OutOfMemory}
+use Rattle.fleet_site.specs.Choice.{when◌then◌otherwise◌}
+use Rattle.fleet_site.specs.OutcomeData.{OutcomeData, nothing, sends}
+use Rattle.fleet_site.specs.question.Rows.{bare_octets}
+use Rattle.fleet_site.specs.SiteModel.{Deed, says_only, refuses}
+use Rattle.fleet_site.specs.question.Verdict.{Verdict, Silence, Answer, Unreadable, Unknown, Decides}
+use Rattle.fleet_site.specs.declared.outcome.Refusal.TheVariants.{Read, Full, Dropped}
+
+-- who waits for the answer to a question
+abbrev pub waiter : Addr → Header → QuestionData → WaiterData
+waiter from h q = record { from = from; id = h.id; question = q }
+
+-- the question is turned away
+abbrev pub turns_away : Addr → Header → QuestionData → OutcomeData
+turns_away from h q = record (sends from (bare_octets h SERVER_FAILURE (Some q)))
+    { refused = Some Full }
+
+-- what is said where the table of open questions answered this: a new entry's query goes to the
+-- upstream at its place, one who waits hears nothing yet, and one who was refused is turned away
+pub data Forwarded (upstreams : List Addr) (from : Addr) (h : Header) (q : QuestionData)
+    (answer : Result Opened PendingFault) (e : OutcomeData) : Type 0 where
+  is_asked : (upstream id : ℕ) (there : Addr) → At upstreams upstream there
+      → answer ≡ Ok (Send upstream id) → e ≡ sends there (query_octets id q)
+      → Forwarded upstreams from h q answer e
+  is_quiet : (answer ≡ Ok Joined) ⊎ (answer ≡ Ok Again) → e ≡ nothing
+      → Forwarded upstreams from h q answer e
+  is_turned_away : (f : PendingFault) → f ≢ OutOfMemory → answer ≡ Err f → e ≡ turns_away from h q
+      → Forwarded upstreams from h q answer e
+
+-- the question goes to the table of open questions
+pub record Forwards (upstreams : List Addr) (o : PendingData) (t : Seconds) (from : Addr) (word : ℕ)
+    (h : Header) (q : QuestionData) (d : Deed) : Type 0 where
+  pub answer : Result Opened PendingFault
+  pub asks : Asks o (waiter from h q) t word answer d.asking
+  pub says : Forwarded upstreams from h q answer d.says
+  pub brings : d ≡ says_only d.says d.asking
+
+-- what is done where this was decided: a question that nothing known answers is refused where
+-- recursion is not wanted
+abbrev pub Reacts : List Addr → PendingData → Seconds → Addr → ℕ → Verdict → Deed → Type 0
+Reacts upstreams o t from word Silence d = d ≡ refuses Dropped o
+Reacts upstreams o t from word (Answer octets) d = d ≡ says_only (sends from octets) o
+Reacts upstreams o t from word (Unreadable octets f) d =
+    d ≡ says_only (record (sends from octets) { refused = Some (Read f) }) o
+Reacts upstreams o t from word (Unknown h q) d =
+    when h.rd ≡ false then d ≡ says_only (sends from (bare_octets h REFUSED (Some q))) o otherwise
+    Forwards upstreams o t from word h q d
+
+-- octets from an address that is no upstream's and no peer's
+abbrev pub Questioned : Observations → List Addr → PendingData → Seconds → Addr → ℕ → OctetList
+    → Deed → Type 0
+Questioned taken upstreams o t from word octets d =
+    (v : Verdict) × Decides taken t octets v × Reacts upstreams o t from word v d

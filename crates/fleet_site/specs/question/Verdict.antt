@@ -1,0 +1,78 @@
+-- What a site that took in a set of observations makes of octets that are asked, before it looks at
+-- open questions.
+-- Serves `Site::datagram`, `Site::ask`.
+use Rattle.std.specs.Prelude.{◌≡◌, ◌≢◌, ◌<◌, ◌≤◌, Some, None, false, IsTrue, length}
+use Rattle.fleet_name.specs.Types.{OctetList}
+use Rattle.fleet_wire.specs.Types.{Place, Seconds}
+use Rattle.fleet_wire.specs.Message.{header_of, IsQuery, HasQuery, QueryFails}
+use Rattle.fleet_wire.specs.Question.{QuestionData}
+use Rattle.fleet_wire.specs.declared.fault.ReadFault.{ReadFault}
+use Rattle.fleet_wire.specs.declared.header.Header.{Header}
+use Rattle.fleet_wire.specs.declared.class.TheConstants.{IN}
+use Rattle.fleet_wire.specs.declared.rcode.TheConstants.{FORMAT_ERROR, NOT_IMPLEMENTED}
+use Rattle.fleet_observe.specs.Observation.{IsDataType, Observations}
+use Rattle.fleet_cache.specs.Answer.{AnswerData, Missed, Found, NoData, NxDomain, answer_of}
+use Rattle.fleet_site.specs.Choice.{when◌then◌otherwise◌}
+use Rattle.fleet_site.specs.question.Rows.{bare_octets, Writes}
+use Rattle.fleet_site.specs.declared.verdict.Decision.{Decision}
+use Rattle.fleet_site.specs.declared.verdict.Decision.TheVariants.{Dropped, Reply, Unread, Miss}
+
+-- no reply; a reply; one that says that they can't be read, for this fault; or nothing that is
+-- known answers the question
+pub data Verdict : Type 0 where
+  Silence : Verdict
+  Answer : OctetList → Verdict
+  Unreadable : OctetList → ReadFault → Verdict
+  Unknown : Header → QuestionData → Verdict
+
+-- a question that is answered: of class 1 (IN) and of a type that data can have
+pub record IsServedQuestion (q : QuestionData) : Type 0 where
+  pub class : q.class ≡ IN
+  pub typed : IsDataType q.rtype
+
+-- octets with the header of a question
+pub record IsAsking (octets : OctetList) : Type 0 where
+  pub long : 12 ≤ length octets
+  pub question : ¬ IsTrue (header_of octets).response
+
+-- by what the set answers
+abbrev pub DecidesAnswer : Header → QuestionData → AnswerData → Verdict → Type 0
+DecidesAnswer h q Missed v = v ≡ Unknown h q
+DecidesAnswer h q (Found chain set) v =
+    (octets : OctetList) × Writes h q (Found chain set) octets × (v ≡ Answer octets)
+DecidesAnswer h q (NoData chain soa) v =
+    (octets : OctetList) × Writes h q (NoData chain soa) octets × (v ≡ Answer octets)
+DecidesAnswer h q (NxDomain chain soa) v =
+    (octets : OctetList) × Writes h q (NxDomain chain soa) octets × (v ≡ Answer octets)
+
+-- a question that was read
+abbrev pub DecidesQuestion : Observations → Seconds → Header → QuestionData → Verdict → Type 0
+DecidesQuestion s t h q v =
+    when ¬ IsServedQuestion q then v ≡ Answer (bare_octets h NOT_IMPLEMENTED (Some q)) otherwise
+    DecidesAnswer h q (answer_of s t q.name q.rtype) v
+
+-- octets
+abbrev pub Decides : Observations → Seconds → OctetList → Verdict → Type 0
+Decides s t octets v =
+    when length octets < 12 then v ≡ Silence otherwise
+    when IsTrue (header_of octets).response then v ≡ Silence otherwise
+    when (header_of octets).opcode ≢ 0
+    then v ≡ Answer (bare_octets (header_of octets) NOT_IMPLEMENTED None) otherwise
+    when ¬ HasQuery octets
+    then ((f : ReadFault) × QueryFails octets f
+    × (v ≡ Unreadable (bare_octets (header_of octets) FORMAT_ERROR None) f)) otherwise
+    ((q : QuestionData) × (past : Place) × IsQuery octets (header_of octets) q past
+    × DecidesQuestion s t (header_of octets) q v)
+
+-- What follows, private contracts alone cite.
+
+abbrev pub verdict : {A : Type 0} → Decision A → Verdict
+verdict Dropped = Silence
+verdict (Reply octets) = Answer octets
+verdict (Unread octets f) = Unreadable octets f
+verdict (Miss h q) = Unknown h q
+
+-- the header of a plain question: QR is clear, and the Opcode is 0
+pub record IsPlainAsking (h : Header) : Type 0 where
+  pub question : h.response ≡ false
+  pub plain : h.opcode ≡ 0

@@ -1,0 +1,3 @@
+pub mod Digested
+pub mod Reply
+pub mod Learn

@@ -1,0 +1,5 @@
+pub mod PortRecord
+pub mod MemoryPort
+pub mod Sending
+pub mod Turn
+pub mod Served

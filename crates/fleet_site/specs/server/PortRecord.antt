@@ -1,0 +1,70 @@
+-- The record of a port: what it was asked, and how each call ended.
+-- Serves `Port`.
+use Rattle.std.specs.Prelude.{◌≡◌, ℕ, ◌+◌, min, List, [], ◌∷◌, ◌++◌, Option, Some, None, Result, Ok, Err, take}
+use Rattle.fleet_name.specs.Types.{OctetList}
+use Rattle.fleet_pending.specs.declared.waiter.Addr.{Addr}
+use Rattle.fleet_site.specs.declared.bounds.TheConstants.{MOST_COUNTED}
+use Rattle.fleet_site.specs.PacketData.{PacketData}
+use Rattle.fleet_site.specs.declared.port.PortFault.{PortFault}
+
+-- a datagram was received, or none, or the receive failed, each with how many octets were asked for;
+-- a packet was sent, or it was lost
+pub data PortCall : Type 0 where
+  Received : (asked : ℕ) → (from : Addr) → (octets : OctetList) → PortCall
+  NoDatagram : (asked : ℕ) → PortCall
+  Fault : (asked : ℕ) → PortCall
+  PacketSent : PacketData → PortCall
+  PacketLost : PacketData → PortCall
+
+-- where the port still tells its record, it told it before, and these calls are the last ones
+abbrev pub NotesAll : Option (List PortCall) → List PortCall → Option (List PortCall) → Type 0
+NotesAll old calls None = Unit {0}
+NotesAll old calls (Some now) =
+    (before : List PortCall) × (old ≡ Some before) × (now ≡ before ++ calls)
+
+-- what a receive into a buffer of so many octets was, which holds these octets afterwards
+abbrev pub receive_of : ℕ → Result (Option (Addr × ℕ)) PortFault → OctetList → PortCall
+receive_of asked (Ok None) buffer = NoDatagram asked
+receive_of asked (Ok (Some p)) buffer = Received asked p.0 (take p.1 buffer)
+receive_of asked (Err e) buffer = Fault asked
+
+-- a receive that asked for so many octets
+abbrev pub AsksFor : ℕ → PortCall → Type 0
+AsksFor n (Received asked from octets) = asked ≡ n
+AsksFor n (NoDatagram asked) = asked ≡ n
+AsksFor n (Fault asked) = asked ≡ n
+AsksFor n (PacketSent s) = ⊥
+AsksFor n (PacketLost s) = ⊥
+
+-- what a send was
+abbrev pub send_of : Result (Unit {0}) PortFault → PacketData → PortCall
+send_of (Ok u) s = PacketSent s
+send_of (Err e) s = PacketLost s
+
+-- a count stays at MOST_COUNTED
+abbrev pub one_more : ℕ → ℕ
+one_more n = min (n + 1) MOST_COUNTED
+
+-- a call that failed is counted
+abbrev pub failures_after : {T : Type 0} → Result T PortFault → ℕ → ℕ
+failures_after (Ok x) n = n
+failures_after (Err e) n = one_more n
+
+-- what a port counts after these calls, from n on
+abbrev pub failures_of : List PortCall → ℕ → ℕ
+failures_of [] n = n
+failures_of (Received asked from octets ∷ calls) n = failures_of calls n
+failures_of (NoDatagram asked ∷ calls) n = failures_of calls n
+failures_of (Fault asked ∷ calls) n = failures_of calls (one_more n)
+failures_of (PacketSent s ∷ calls) n = failures_of calls n
+failures_of (PacketLost s ∷ calls) n = failures_of calls (one_more n)
+
+-- what a port may tell: its record, while it tells it, and how many of its calls failed
+pub record PortState : Type 0 where
+  pub told : Option (List PortCall)
+  pub failed : ℕ
+
+-- between these two states a port made these calls
+pub record Made (old new : PortState) (calls : List PortCall) : Type 0 where
+  pub told : NotesAll old.told calls new.told
+  pub failed : new.failed ≡ failures_of calls old.failed

@@ -1,0 +1,64 @@
+-- What is sent of a step, and what a report counts of it.
+-- Serves `serve`.
+use Rattle.std.specs.Prelude.{◌≡◌, Bool, true, false, List, [], ◌∷◌, ◌++◌, Result, Ok, Err, is_some, ◌⊎◌}
+use Rattle.fleet_name.specs.Types.{OctetList}
+use Rattle.fleet_pending.specs.declared.waiter.Addr.{Addr}
+use Rattle.fleet_site.specs.PacketData.{PacketData}
+use Rattle.fleet_site.specs.OutcomeData.{OutcomeData}
+use Rattle.fleet_site.specs.server.PortRecord.{PortCall, Received, NoDatagram, Fault, PacketSent, PacketLost, one_more}
+use Rattle.fleet_site.specs.declared.outcome.SiteFault.{SiteFault}
+use Rattle.fleet_site.specs.declared.report.Report.{Report}
+
+-- a frame to each peer, in their order
+abbrev pub to_each : OctetList → List Addr → List PacketData
+to_each frame [] = []
+to_each frame (peer ∷ peers) = record { to = peer; octets = frame } ∷ to_each frame peers
+
+-- each frame to each peer
+abbrev pub to_peers : List Addr → List OctetList → List PacketData
+to_peers peers [] = []
+to_peers peers (frame ∷ frames) = to_each frame peers ++ to_peers peers frames
+
+-- what is sent of a step: its packets, then its frames
+abbrev pub packets_of : List Addr → Result OutcomeData SiteFault → List PacketData
+packets_of peers (Ok e) = e.packets ++ to_peers peers e.frames
+packets_of peers (Err f) = []
+
+-- sent or lost
+abbrev pub IsSend : PacketData → PortCall → Type 0
+IsSend s call = (call ≡ PacketSent s) ⊎ (call ≡ PacketLost s)
+
+-- each was sent or lost, in order
+abbrev pub AreSent : List PacketData → List PortCall → Type 0
+AreSent [] [] = Unit {0}
+AreSent [] (call ∷ calls) = ⊥
+AreSent (s ∷ ss) [] = ⊥
+AreSent (s ∷ ss) (call ∷ calls) = IsSend s call × AreSent ss calls
+
+-- a report counts a call of the port
+abbrev pub count_call : PortCall → Report → Report
+count_call (Received asked from octets) r = record r { received = one_more r.received }
+count_call (NoDatagram asked) r = r
+count_call (Fault asked) r = record r { faults = one_more r.faults }
+count_call (PacketSent s) r = record r { sent = one_more r.sent }
+count_call (PacketLost s) r = record r { lost = one_more r.lost }
+
+-- and each of these calls
+abbrev pub count_calls : List PortCall → Report → Report
+count_calls [] r = r
+count_calls (call ∷ calls) r = count_calls calls (count_call call r)
+
+-- it counts a refusal
+abbrev pub count_refusal_in : Bool → Report → Report
+count_refusal_in true r = record r { refused = one_more r.refused }
+count_refusal_in false r = r
+
+-- it counts a step: a refusal, and want of memory as short
+abbrev pub count_step : Result OutcomeData SiteFault → Report → Report
+count_step (Ok e) r = count_refusal_in (is_some e.refused) r
+count_step (Err f) r = record r { short = one_more r.short }
+
+-- whether a tick is to follow
+abbrev pub goes_on : Result OutcomeData SiteFault → Bool
+goes_on (Ok e) = e.more
+goes_on (Err f) = false

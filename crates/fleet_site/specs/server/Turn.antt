@@ -1,0 +1,172 @@
+-- A run of a server is its turns, one after the other.
+-- Serves `serve`.
+use Rattle.std.specs.Prelude.{◌≡◌, ℕ, suc, zero, ◌+◌, ◌%◌, ◌<◌, ◌≤◌, Bool, true, false, List, [], ◌∷◌, ◌++◌, Option, Some, None, Result, Ok, Err, length}
+use Rattle.std.specs.Option.{unwrap_or}
+use Rattle.fleet_name.specs.Types.{OctetList}
+use Rattle.fleet_wire.specs.Types.{Seconds}
+use Rattle.rand_core.specs.Stream.{Stream, next_u32}
+use Rattle.fleet_gossip.specs.declared.bounds.TheConstants.{LONGEST_FRAME}
+use Rattle.fleet_pending.specs.declared.bounds.TheConstants.{MOST_ENTRIES}
+use Rattle.fleet_pending.specs.declared.waiter.Addr.{Addr}
+use Rattle.fleet_site.specs.Choice.{when◌then◌otherwise◌}
+use Rattle.fleet_site.specs.OutcomeData.{OutcomeData, nothing}
+use Rattle.fleet_site.specs.SiteModel.{SiteModel}
+use Rattle.fleet_site.specs.SiteData.{SiteData}
+use Rattle.fleet_site.specs.StandsFor.{StandsFor}
+use Rattle.fleet_site.specs.gossip.Sweep.{IsSweep}
+use Rattle.fleet_site.specs.Step.{Call, datagram, tick, Step}
+use Rattle.fleet_site.specs.server.PortRecord.{PortCall, Received, NoDatagram, Fault, PacketSent, PacketLost, AsksFor, one_more}
+use Rattle.fleet_site.specs.server.Sending.{AreSent, packets_of, count_call, count_calls, count_step, goes_on}
+use Rattle.fleet_site.specs.declared.outcome.SiteFault.{SiteFault}
+use Rattle.fleet_site.specs.declared.outcome.SiteFault.TheVariants.{OutOfMemory}
+use Rattle.fleet_site.specs.declared.report.Report.{Report}
+
+-- a step of a turn: a call with a moment, or a sweep
+pub data Deal : Type 0 where
+  calling : Call → Deal
+  sweeping : Deal
+
+-- a sweep gives the frames of all that is held, and changes nothing
+abbrev pub SweepSays : SiteModel → Result OutcomeData SiteFault → SiteModel → Type 0
+SweepSays m (Ok e) n =
+    (frames : List OctetList) × IsSweep m frames × (e ≡ record nothing { frames = frames }) × (n ≡ m)
+SweepSays m (Err (OutOfMemory taken)) n = (taken ≡ 0) × (n ≡ m)
+
+-- from m the step says this and leads to n
+abbrev pub Deals : SiteModel → Deal → Result OutcomeData SiteFault → SiteModel → Type 0
+Deals m (calling c) a n = Step m c a n
+Deals m sweeping a n = SweepSays m a n
+
+-- a step, what it said, and the calls of the port that sent what it gave
+pub record Act : Type 0 where
+  pub deal : Deal
+  pub answer : Result OutcomeData SiteFault
+  pub calls : List PortCall
+
+-- all calls of the port
+abbrev pub calls_of : List Act → List PortCall
+calls_of [] = []
+calls_of (a ∷ acts) = a.calls ++ calls_of acts
+
+-- a report counts these steps and their calls
+abbrev pub count_acts : List Act → Report → Report
+count_acts [] r = r
+count_acts (a ∷ acts) r = count_acts acts (count_calls a.calls (count_step a.answer r))
+
+-- of each step all that it gave was sent or lost
+abbrev pub AllSent : List Addr → List Act → Type 0
+AllSent peers [] = Unit {0}
+AllSent peers (a ∷ acts) = AreSent (packets_of peers a.answer) a.calls × AllSent peers acts
+
+-- the steps in a row lead from m to n
+abbrev pub Acts : SiteModel → List Act → SiteModel → Type 0
+Acts m [] n = n ≡ m
+Acts m (a ∷ acts) n = (mid : SiteModel) × Deals m a.deal a.answer mid × Acts mid acts n
+
+-- the site took these steps, and what they gave was sent or lost
+pub record Acted (old new : SiteData) (acts : List Act) : Type 0 where
+  pub steps : (m : SiteModel) → StandsFor old m → (n : SiteModel) × Acts m acts n × StandsFor new n
+  pub config : new.config ≡ old.config
+  pub sent : AllSent old.config.peers acts
+
+-- what was received is given to the site, and nothing where nothing was
+abbrev pub Given : Seconds → ℕ → PortCall → List Act → Type 0
+Given t word (Received asked from octets) acts =
+    (a : Act) × (acts ≡ a ∷ []) × (a.deal ≡ calling (datagram t from octets word))
+Given t word (NoDatagram asked) acts = acts ≡ []
+Given t word (Fault asked) acts = acts ≡ []
+Given t word (PacketSent s) acts = ⊥
+Given t word (PacketLost s) acts = ⊥
+
+-- ticks at a moment, each but the last with another one to follow, and whether one follows the last
+pub data Ticks (t : Seconds) : List Act → Bool → Type 0 where
+  no_tick : Ticks t [] true
+  next_tick : {acts : List Act} (a : Act) → Ticks t acts true → a.deal ≡ calling (tick t)
+      → Ticks t (acts ++ a ∷ []) (goes_on a.answer)
+
+-- it is time to sweep: so many seconds after a moment, where they are not 0
+pub record IsSweepDue (every since t : Seconds) : Type 0 where
+  pub some : 0 < every
+  pub passed : since + every ≤ t
+
+-- a sweep where it is time, and the moment of the last one then
+abbrev pub SweepsWhenDue : Seconds → Seconds → Seconds → List Act → ℕ → Type 0
+SweepsWhenDue every since t acts last =
+    when IsSweepDue every since t
+    then ((a : Act) × (acts ≡ a ∷ []) × (a.deal ≡ sweeping) × (last ≡ t)) otherwise
+    ((acts ≡ []) × (last ≡ since))
+
+-- what stands between two turns: the site, the calls of the port so far, the moment that the next
+-- sweep is counted from, and the report
+pub record Between : Type 0 where
+  pub site : SiteData
+  pub calls : List PortCall
+  pub swept : Option Seconds
+  pub report : Report
+
+-- what a turn asks for: one octet more than the longest frame has, so that no frame is cut to one that
+-- could be read
+abbrev pub ROOM : ℕ
+ROOM = LONGEST_FRAME + 1
+
+-- one turn at a moment with a word: a receive, and the sends of the datagram, of the ticks, and of
+-- the sweep
+pub record Turn (t : Seconds) (word : ℕ) (every : Seconds) (a b : Between) : Type 0 where
+  pub arrival : PortCall
+  pub given : List Act
+  pub ticks : List Act
+  pub sweep : List Act
+  pub asks : AsksFor ROOM arrival
+  pub is_given : Given t word arrival given
+  pub are_ticks : Ticks t ticks false
+  pub few : length ticks ≤ MOST_ENTRIES
+  pub is_swept : (last : ℕ)
+      × SweepsWhenDue every (unwrap_or a.swept t) t sweep last
+      × (b.swept ≡ Some last)
+  pub acted : Acted a.site b.site (given ++ (ticks ++ sweep))
+  pub calls : b.calls ≡ a.calls ++ arrival ∷ calls_of (given ++ (ticks ++ sweep))
+  pub report : b.report
+      ≡ count_acts (given ++ (ticks ++ sweep))
+      (count_call arrival (record a.report { turns = one_more a.report.turns }))
+
+-- what a generator has left after n words
+abbrev pub left_after : ℕ → Stream → Stream
+left_after zero s = s
+left_after (suc n) s = (next_u32 (left_after n s)).1
+
+-- the word of the turn with this number: the low 16 bits of what the generator then gives
+abbrev pub word_of : Stream → ℕ → ℕ
+word_of s n = (next_u32 (left_after n s)).0 % 65536
+
+-- the moment of the turn with this number, where the clock tells its moments
+abbrev pub IsMomentOfTurn : Option (ℕ → ℕ) → ℕ → Seconds → Type 0
+IsMomentOfTurn None n t = Unit {0}
+IsMomentOfTurn (Some moments) n t = t ≡ moments n
+
+-- what a clock is going to tell after so many moments, where it tells that before
+abbrev pub IsPast : Option (ℕ → ℕ) → ℕ → Option (ℕ → ℕ) → Type 0
+IsPast None n now = Unit {0}
+IsPast (Some moments) n now =
+    (rest : ℕ → ℕ) × (now ≡ Some rest) × ((k : ℕ) → rest k ≡ moments (n + k))
+
+-- so many turns in a row, each with its moment and its word
+abbrev pub Turns : Option (ℕ → ℕ) → Stream → Seconds → ℕ → Between → Between → Type 0
+Turns moments s every zero a b = b ≡ a
+Turns moments s every (suc n) a b = (mid : Between) × (t : Seconds) × Turns moments s every n a mid
+    × IsMomentOfTurn moments n t × Turn t (word_of s n) every mid b
+
+-- nothing was counted yet
+abbrev pub empty_report : Report
+empty_report = record {
+  turns = 0;
+  received = 0;
+  sent = 0;
+  lost = 0;
+  faults = 0;
+  refused = 0;
+  short = 0;
+}
+
+-- where a run begins
+abbrev pub start_of : SiteData → Between
+start_of site = record { site = site; calls = []; swept = None; report = empty_report }

@@ -1,0 +1,91 @@
+-- What a part of a site did to its cache and its table.
+-- Serves the private calls of `Site`.
+use Rattle.std.specs.Prelude.{◌≡◌, ◌≢◌, ℕ, ◌<◌, ◌⊎◌, List, ◌++◌, Option, Some, None, Result, Ok, Err, length, take}
+use Rattle.fleet_wire.specs.Query.{query_octets}
+use Rattle.fleet_wire.specs.Question.{QuestionData}
+use Rattle.fleet_wire.specs.declared.header.Header.{Header}
+use Rattle.fleet_wire.specs.declared.fault.ReadFault.{ReadFault}
+use Rattle.fleet_wire.specs.declared.fault.ReadFault.TheVariants.{OutOfMemory as NoMemory}
+use Rattle.fleet_wire.specs.declared.class.TheConstants.{IN}
+use Rattle.fleet_wire.specs.declared.rcode.TheConstants.{FORMAT_ERROR}
+use Rattle.fleet_observe.specs.Observation.{Observations}
+use Rattle.fleet_cache.specs.Cached.{IsCached, CacheData}
+use Rattle.fleet_pending.specs.PendingData.{PendingData}
+use Rattle.fleet_pending.specs.QueryId.{TellsId}
+use Rattle.fleet_name.specs.Places.{At}
+use Rattle.fleet_pending.specs.declared.answer.PendingFault.{PendingFault}
+use Rattle.fleet_pending.specs.declared.answer.PendingFault.TheVariants.{OutOfMemory as NoRoom}
+use Rattle.fleet_pending.specs.declared.waiter.Addr.{Addr}
+use Rattle.fleet_site.specs.OutcomeData.{OutcomeData, nothing, sends}
+use Rattle.fleet_site.specs.question.Question.{turns_away}
+use Rattle.fleet_site.specs.question.Rows.{bare_octets}
+use Rattle.fleet_site.specs.SiteModel.{Deed, says_only}
+use Rattle.fleet_site.specs.question.Verdict.{Verdict, Unreadable}
+use Rattle.fleet_site.specs.declared.outcome.SiteFault.{SiteFault}
+use Rattle.fleet_site.specs.declared.outcome.SiteFault.TheVariants.{OutOfMemory}
+use Rattle.fleet_site.specs.declared.verdict.Decision.{Decision}
+use Rattle.fleet_site.specs.declared.verdict.Decision.TheVariants.{Dropped, Reply, Unread, Miss}
+
+-- Of a site that took in the set s: a deed of this rule was done whole, or stopped for want of
+-- memory, and then nothing was taken where memory was needed, or the first of what it brings.
+abbrev pub Carries : (Deed → Type 0) → Type 0 → Observations → PendingData
+    → Result OutcomeData SiteFault → CacheData → PendingData → Type 0
+Carries Rule Needed s old (Ok o) cache new =
+    (d : Deed) × Rule d × (o ≡ d.says)
+    × IsCached (d.brings ++ s) cache.floor cache.items
+    × (new ≡ d.asking)
+Carries Rule Needed s old (Err (OutOfMemory taken)) cache new =
+    (new ≡ old)
+    × (((taken ≡ 0) × IsCached s cache.floor cache.items × Needed)
+    ⊎ ((d : Deed) × Rule d × (taken < length d.brings)
+    × IsCached (take taken d.brings ++ s) cache.floor cache.items))
+
+-- the same where nothing is ever brought
+abbrev pub Keeps : (Deed → Type 0) → Type 0 → PendingData
+    → Result OutcomeData SiteFault → PendingData → Type 0
+Keeps Rule Needed old (Ok o) new = Rule (says_only o new)
+Keeps Rule Needed old (Err (OutOfMemory taken)) new = (taken ≡ 0) × (new ≡ old) × Needed
+
+-- a miss can be asked of an upstream
+abbrev pub IsAskable : {A : Type 0} → Decision A → Type 0
+IsAskable Dropped = Unit {0}
+IsAskable (Reply octets) = Unit {0}
+IsAskable (Unread octets f) = Unit {0}
+IsAskable (Miss h q) = (h.opcode < 16) × (q.class ≡ IN)
+
+-- they are answered, or go to an upstream
+abbrev pub IsAnswered : {A : Type 0} → Decision A → Type 0
+IsAnswered Dropped = ⊥
+IsAnswered (Reply octets) = Unit {0}
+IsAnswered (Unread octets f) = Unit {0}
+IsAnswered (Miss h q) = Unit {0}
+
+-- the reply says that the octets can't be read, for this fault, which is not want of memory
+abbrev pub SaysUnread : Header → ReadFault → Verdict → Type 0
+SaysUnread h f v = (f ≢ NoMemory) × (v ≡ Unreadable (bare_octets h FORMAT_ERROR None) f)
+
+-- a waiter that was not taken is told so, or no memory was found
+abbrev pub TurnsAway : Addr → Header → QuestionData → PendingFault
+    → Result OutcomeData SiteFault → Type 0
+TurnsAway from h q f (Ok o) = (f ≢ NoRoom) × (o ≡ turns_away from h q)
+TurnsAway from h q f (Err (OutOfMemory taken)) = taken ≡ 0
+
+-- with this id the query goes to the first upstream; without one nothing is sent
+abbrev pub SendsFirst : List Addr → QuestionData → Option ℕ → OutcomeData → Type 0
+SendsFirst upstreams q (Some id) e =
+    (there : Addr) × At upstreams 0 there × (e ≡ sends there (query_octets id q))
+SendsFirst upstreams q None e = e ≡ nothing
+
+-- the same with the id that the table tells
+abbrev pub IsFirstSaid : List Addr → PendingData → ℕ → QuestionData → OutcomeData → Type 0
+IsFirstSaid upstreams o word q e =
+    (told : Option ℕ) × TellsId o q word told × SendsFirst upstreams q told e
+
+-- these observations were taken, or without memory the first of them
+abbrev pub Takes : Observations → Observations
+    → Result OutcomeData SiteFault → CacheData
+    → Type 0
+Takes s list (Ok o) cache = (o ≡ record nothing { taken = length list })
+    × IsCached (list ++ s) cache.floor cache.items
+Takes s list (Err (OutOfMemory taken)) cache =
+    (taken < length list) × IsCached (take taken list ++ s) cache.floor cache.items

@@ -1,0 +1,14 @@
+-- What one step of reading a name finds.
+-- Serves the reader of names.
+use Rattle.std.specs.Prelude.{ℕ, ◌+◌, ◌<◌, ◌≤◌, length}
+use Rattle.fleet_name.specs.Types.{OctetList}
+use Rattle.fleet_wire.specs.Types.{Place}
+use Rattle.fleet_name.specs.declared.bounds.TheConstants.{LONGEST_NAME}
+use Rattle.fleet_wire.specs.NameAt.{LabelAt, EndAt, PointerAt}
+use Rattle.fleet_wire.specs.declared.name_reader.Step.{Step}
+use Rattle.fleet_wire.specs.declared.name_reader.Step.TheVariants.{End, Label, Pointer}
+
+abbrev pub IsStep : OctetList → Place → Place → ℕ → Step → Type 0
+IsStep m p s k End = EndAt m p
+IsStep m p s k (Label l) = LabelAt m p l.now × (k + length l.now + 1 ≤ LONGEST_NAME)
+IsStep m p s k (Pointer q) = PointerAt m p q × (q < s)
