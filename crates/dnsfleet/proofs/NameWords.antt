@@ -11,7 +11,7 @@ use Rattle.hex.proofs.HexLemmas.{decode_of-ok, decode_sized-twice}
 use Rattle.fleet_name.specs.Name.{wire, lower, labels_of, IsName, IsWire, IsSuffix}
 use Rattle.fleet_name.specs.declared.bounds.TheConstants.{LONGEST_NAME}
 use Rattle.fleet_name.proofs.Lemmas.{labels_of-spelled}
-use Rattle.dnsfleet.specs.Words.{SpellsName}
+use Rattle.dnsfleet.specs.Words.{IsNameWord}
 
 -- the octets of digits
 abbrev pub octets_of : List ℕ → List ℕ
@@ -66,7 +66,7 @@ suffix_found now octets (Some s) told =
 
 -- the name that octets spell
 pub spelled_name : (octets : List ℕ) → IsWire (lower octets)
-    → SpellsName octets (labels_of (lower octets))
+    → IsNameWord octets (labels_of (lower octets))
 spelled_name octets w =
     let same = labels_of-spelled (lower octets) w.name w.named.labels w.whole in
     record { named = subst IsName (sym same) w.named; whole = w.whole ∙ ap wire (sym same) }

@@ -7,7 +7,7 @@ use Rattle.fleet_wire.specs.declared.bounds.TheConstants.{LONGEST_MESSAGE}
 use Rattle.fleet_pending.specs.declared.waiter.Addr.{Addr}
 use Rattle.fleet_site.specs.declared.port.PortFault.{PortFault}
 use Rattle.dnsfleet.specs.declared.inbox.Inbox.{Inbox}
-use Rattle.dnsfleet.specs.Queue.{Datagram, Fills, HandsOn, Extends, TakesIn, Receives, Leaves, Keeps, Pushes}
+use Rattle.dnsfleet.specs.Queue.{Datagram, Fills, HandsOn, Extends, TakesIn, Receives, Leaves, Queues, Pushes}
 
 pub hands_message : {A : Type 0} (asked : ℕ) (messages frames : List Datagram) (got : Option (Addr × ℕ))
     (buffer : List ℕ) (new : Inbox A) (d : Datagram) → messages ≡ d ∷ new.messages → new.frames ≡ frames
@@ -46,7 +46,7 @@ same_extends : (old new : List Datagram) → new ≡ old → Extends old new
 same_extends old new e = record { came = []; joined = e ∙ sym (append-nil old) }
 
 -- what was kept came behind what waits
-pub keeps_takes : {A : Type 0} (old : Inbox A) (d : Datagram) (fits : Bool) (new : Inbox A) → Keeps old d fits new
+pub keeps_takes : {A : Type 0} (old : Inbox A) (d : Datagram) (fits : Bool) (new : Inbox A) → Queues old d fits new
     → TakesIn old new
 keeps_takes old d fits new k = by_size (cases_lt LONGEST_MESSAGE (length d.1))
   where

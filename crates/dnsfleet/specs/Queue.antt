@@ -17,7 +17,7 @@ Pushes old d true new = new ≡ old ++ d ∷ []
 Pushes old d false new = (length old ≡ MOST_WAITING) × (new ≡ old)
 
 -- a message waits among the messages, what is longer among the frames
-pub record Keeps {A : Type 0} (old : Inbox A) (d : Datagram) (fits : Bool) (new : Inbox A) : Type 0 where
+pub record Queues {A : Type 0} (old : Inbox A) (d : Datagram) (fits : Bool) (new : Inbox A) : Type 0 where
   pub message : length d.1 ≤ LONGEST_MESSAGE
       → Pushes old.messages d fits new.messages × (new.frames ≡ old.frames)
   pub frame : LONGEST_MESSAGE < length d.1

@@ -44,6 +44,6 @@ SpellsOctets word octets =
     ((word ≡ codes "-") × (octets ≡ [])) ⊎ ((word ≢ []) × (decode_of word ≡ Ok octets))
 
 -- the octets of a name in full, its letters of either case
-pub record SpellsName (octets : OctetList) (name : Labels) : Type 0 where
+pub record IsNameWord (octets : OctetList) (name : Labels) : Type 0 where
   pub named : IsName name
   pub whole : lower octets ≡ wire name

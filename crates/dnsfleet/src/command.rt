@@ -1,6 +1,6 @@
 //! What a line asks for.
 
-use crate::fault::What;
+use crate::fault::LineFault;
 use crate::words::{
     Hex, NameWord, SiteCount, address, moment, number, site_count, word_of_16_bits,
 };
@@ -167,11 +167,11 @@ fn first_words(line: &str) -> ArrayVec<&str, 7> {
 }
 
 /// What a line asks for.
-pub fn read_command(line: &str) -> Result<Command<'_>, What> {
+pub fn read_command(line: &str) -> Result<Command<'_>, LineFault> {
     let words = first_words(line);
     match words.as_slice() {
         ["sites", count] => Ok(Command::Sites {
-            count: site_count(count).ok_or(What::BadNumber)?,
+            count: site_count(count).ok_or(LineFault::BadNumber)?,
         }),
         ["ask", site, now, question] => Ok(Command::Ask {
             site: number_word(site)?,
@@ -190,7 +190,7 @@ pub fn read_command(line: &str) -> Result<Command<'_>, What> {
 }
 
 /// The event of a line's words.
-fn read_step<'a>(words: &[&'a str]) -> Result<Step<'a>, What> {
+fn read_step<'a>(words: &[&'a str]) -> Result<Step<'a>, LineFault> {
     match words {
         ["tick", site, now] => Ok(Step::Tick {
             site: number_word(site)?,
@@ -211,7 +211,7 @@ fn read_step<'a>(words: &[&'a str]) -> Result<Step<'a>, What> {
 }
 
 /// What comes to a site, of a line's words.
-fn read_arrival<'a>(words: &[&'a str]) -> Result<Step<'a>, What> {
+fn read_arrival<'a>(words: &[&'a str]) -> Result<Step<'a>, LineFault> {
     match words {
         ["learn", site, now, reply] => Ok(Step::Learn {
             site: number_word(site)?,
@@ -226,8 +226,8 @@ fn read_arrival<'a>(words: &[&'a str]) -> Result<Step<'a>, What> {
         ["datagram", site, now, from, word, octets] => Ok(Step::Datagram {
             site: number_word(site)?,
             now: moment_word(now)?,
-            from: address(from).ok_or(What::BadAddress)?,
-            word: word_of_16_bits(word).ok_or(What::BadNumber)?,
+            from: address(from).ok_or(LineFault::BadAddress)?,
+            word: word_of_16_bits(word).ok_or(LineFault::BadNumber)?,
             octets: hex_word(octets)?,
         }),
         ["frame", site, now, octets] => Ok(Step::Frame {
@@ -249,25 +249,25 @@ const EVENTS: &str =
     "sites learn ask show datagram tick sweep frame deliver merge restart same flush";
 
 /// What is wrong with words that are no line: their number, or the first of them.
-fn word_fault(words: &[&str]) -> What {
+fn word_fault(words: &[&str]) -> LineFault {
     match words.first() {
-        Some(first) if EVENTS.split(' ').any(|event| event == *first) => What::WordCount,
-        _ => What::UnknownEvent,
+        Some(first) if EVENTS.split(' ').any(|event| event == *first) => LineFault::WordCount,
+        _ => LineFault::UnknownEvent,
     }
 }
 
-fn number_word(word: &str) -> Result<usize, What> {
-    number(word).ok_or(What::BadNumber)
+fn number_word(word: &str) -> Result<usize, LineFault> {
+    number(word).ok_or(LineFault::BadNumber)
 }
 
-fn moment_word(word: &str) -> Result<Moment, What> {
-    moment(word).ok_or(What::BadNumber)
+fn moment_word(word: &str) -> Result<Moment, LineFault> {
+    moment(word).ok_or(LineFault::BadNumber)
 }
 
-fn name_word(word: &str) -> Result<NameWord<'_>, What> {
-    NameWord::new(hex_word(word)?).ok_or(What::BadName)
+fn name_word(word: &str) -> Result<NameWord<'_>, LineFault> {
+    NameWord::new(hex_word(word)?).ok_or(LineFault::BadName)
 }
 
-fn hex_word(word: &str) -> Result<Hex<'_>, What> {
-    Hex::new(word).ok_or(What::BadHex)
+fn hex_word(word: &str) -> Result<Hex<'_>, LineFault> {
+    Hex::new(word).ok_or(LineFault::BadHex)
 }

@@ -1,8 +1,8 @@
 //! Why a script ends early.
 
 ghost use Rattle.std.specs.Prelude.{◌≡◌};
-ghost use Rattle.dnsfleet.specs.Fault.{what_of};
-ghost use Rattle.dnsfleet.specs.declared.fault.What.TheVariants.{OutOfMemory};
+ghost use Rattle.dnsfleet.specs.Fault.{line_fault_of};
+ghost use Rattle.dnsfleet.specs.declared.fault.LineFault.TheVariants.{OutOfMemory};
 
 use fleet_world::WorldFault;
 use std::alloc::{AllocError, AllocFailed, Allocator};
@@ -12,7 +12,7 @@ use thiserror::Error;
 
 /// What is wrong with a line, in the order in which it is told.
 #[derive(Clone, Copy, Debug, PartialEq, Eq, Error)]
-pub enum What {
+pub enum LineFault {
     /// The reader failed, or was called too often.
     #[error("read")]
     Read,
@@ -57,31 +57,31 @@ pub enum What {
     Write,
 }
 
-impl From<AllocError> for What {
+impl From<AllocError> for LineFault {
     ghost from_gives = { λ _ w. w ≡ OutOfMemory };
 
-    fn from(_error: AllocError) -> What {
-        What::OutOfMemory
+    fn from(_error: AllocError) -> LineFault {
+        LineFault::OutOfMemory
     }
 }
 
-impl<T: Drop> From<AllocFailed<T>> for What {
+impl<T: Drop> From<AllocFailed<T>> for LineFault {
     ghost from_gives = { λ _ w. w ≡ OutOfMemory };
 
-    fn from(_error: AllocFailed<T>) -> What {
-        What::OutOfMemory
+    fn from(_error: AllocFailed<T>) -> LineFault {
+        LineFault::OutOfMemory
     }
 }
 
-impl<A: Allocator> From<WorldFault<A>> for What {
-    ghost from_gives = { λ f w. w ≡ what_of f };
+impl<A: Allocator> From<WorldFault<A>> for LineFault {
+    ghost from_gives = { λ f w. w ≡ line_fault_of f };
 
-    fn from(fault: WorldFault<A>) -> What {
+    fn from(fault: WorldFault<A>) -> LineFault {
         match fault {
-            WorldFault::NoSite => What::NoSuchSite,
-            WorldFault::NoFrame => What::NoSuchFrame,
-            WorldFault::Memory { .. } => What::OutOfMemory,
-            WorldFault::FramesLost(_) => What::OutOfMemory,
+            WorldFault::NoSite => LineFault::NoSuchSite,
+            WorldFault::NoFrame => LineFault::NoSuchFrame,
+            WorldFault::Memory { .. } => LineFault::OutOfMemory,
+            WorldFault::FramesLost(_) => LineFault::OutOfMemory,
         }
     }
 }
@@ -93,7 +93,7 @@ pub struct ScriptFault {
     /// The line, from 1.
     pub line: u64,
     /// What is wrong with it.
-    pub what: What,
+    pub what: LineFault,
 }
 
 /// Tells on standard error what ends a run, and gives its status, 1. What is told may be lost.

@@ -6,7 +6,7 @@ ghost use Rattle.fleet_world.specs.StandsFor.{StandsFor};
 ghost use Rattle.dnsfleet.specs.Settings.{local_addr, peers_of, config_of, configs_of, upstreams};
 ghost use Rattle.dnsfleet.specs.declared.words.TheConstants.{MOST_SITES};
 
-use crate::fault::What;
+use crate::fault::LineFault;
 use crate::words::SiteCount;
 use fleet_pending::Addr;
 use fleet_site::Config;
@@ -43,35 +43,35 @@ impl<A: Allocator + Copy> Fleet<A> {
     }
 
     /// Makes so many sites, if this is the first event.
-    pub fn begin(&mut self, count: SiteCount) -> Result<(), What>
+    pub fn begin(&mut self, count: SiteCount) -> Result<(), LineFault>
         ensures begun { OnOk result (BeginsWith count.value self.new.world) }
-        ensures late { IsErrOf result What.SitesNotFirst ↔ IsSome self.old.world }
+        ensures late { IsErrOf result LineFault.SitesNotFirst ↔ IsSome self.old.world }
         ensures refused { IfErr result (λ what.
-            (what ≡ What.SitesNotFirst) ⊎ (what ≡ What.OutOfMemory)) }
+            (what ≡ LineFault.SitesNotFirst) ⊎ (what ≡ LineFault.OutOfMemory)) }
     {
         if self.world.is_some() {
-            return Err(What::SitesNotFirst);
+            return Err(LineFault::SitesNotFirst);
         }
         self.world = Some(new_world(self.alloc, count.value)?);
         Ok(())
     }
 
     /// Checks that there is a site of this number: 0 alone before the first event.
-    pub fn check_site(&self, site: usize) -> Result<(), What>
+    pub fn check_site(&self, site: usize) -> Result<(), LineFault>
         ensures there { IsOk result ↔ (site < site_count self.now.world) }
-        ensures refused { IfErr result (λ what. what ≡ What.NoSuchSite) }
+        ensures refused { IfErr result (λ what. what ≡ LineFault.NoSuchSite) }
     {
         let there = match &self.world {
             Some(world) => world.site(site).is_some(),
             None => site == 0,
         };
-        if there { Ok(()) } else { Err(What::NoSuchSite) }
+        if there { Ok(()) } else { Err(LineFault::NoSuchSite) }
     }
 
     /// Checks that a frame was sent under this number: none before the first event.
-    pub fn check_frame(&self, number: usize) -> Result<(), What>
+    pub fn check_frame(&self, number: usize) -> Result<(), LineFault>
         ensures there { IsOk result ↔ (number < frame_count self.now.world) }
-        ensures refused { IfErr result (λ what. what ≡ What.NoSuchFrame) }
+        ensures refused { IfErr result (λ what. what ≡ LineFault.NoSuchFrame) }
     {
         let there = match &self.world {
             Some(world) => world.frame(number).is_some(),
@@ -80,7 +80,7 @@ impl<A: Allocator + Copy> Fleet<A> {
         if there {
             Ok(())
         } else {
-            Err(What::NoSuchFrame)
+            Err(LineFault::NoSuchFrame)
         }
     }
 

@@ -1,7 +1,7 @@
 //! What came in while a port's socket was emptied.
 
 ghost use Rattle.std.specs.Prelude.{◌≡◌, ◌↔◌, ◌≤◌, [], min, length, take, IsTrue, IfOk, OnErr, IfSome};
-ghost use Rattle.dnsfleet.specs.Queue.{Keeps, HandsOn};
+ghost use Rattle.dnsfleet.specs.Queue.{Queues, HandsOn};
 
 use crate::queue::Queue;
 use fleet_name::Octets;
@@ -39,7 +39,7 @@ impl<A: Allocator + Copy> Inbox<A> {
     /// Keeps a copy of a datagram, behind those of its kind. `false` where so many of them wait as
     /// may; where there is no memory for it, nothing changes either.
     pub fn keep(&mut self, from: Addr, octets: &[u8]) -> Result<bool, AllocError>
-        ensures kept { IfOk result (λ fits. Keeps self.old (from, octets.now) fits self.new) }
+        ensures kept { IfOk result (λ fits. Queues self.old (from, octets.now) fits self.new) }
         ensures memory { OnErr result (self.new ≡ self.old) }
     {
         if octets.len() <= LONGEST_MESSAGE {

@@ -4,7 +4,7 @@ ghost use Rattle.std.specs.Prelude.{◌≡◌, ◌<◌, ◌≤◌, length, vec_l
 ghost use Rattle.dnsfleet.specs.declared.lines.TheConstants.{CHUNK, LONGEST, MOST_CALLS};
 
 use crate::calls::Calls;
-use crate::fault::What;
+use crate::fault::LineFault;
 use std::alloc::Allocator;
 use std::io::{ErrorKind, Read};
 
@@ -43,7 +43,7 @@ impl<'a, R: Read> Lines<'a, R> {
 
     /// Reads the next line, without its LF, and says whether there is one. The last may lack its
     /// LF.
-    pub fn read<A: Allocator>(&mut self, line: &mut Vec<u8, A>) -> Result<bool, What> {
+    pub fn read<A: Allocator>(&mut self, line: &mut Vec<u8, A>) -> Result<bool, LineFault> {
         line.clear();
         loop {
             if self.read_piece(line)? {
@@ -56,7 +56,7 @@ impl<'a, R: Read> Lines<'a, R> {
     }
 
     /// Adds what is at hand up to the next LF to a line, and says whether there is an LF.
-    fn read_piece<A: Allocator>(&mut self, line: &mut Vec<u8, A>) -> Result<bool, What>
+    fn read_piece<A: Allocator>(&mut self, line: &mut Vec<u8, A>) -> Result<bool, LineFault>
         requires { vec_len line.old ≤ LONGEST }
         ensures calls { self.new.calls.left ≡ self.old.calls.left }
         ensures short { vec_len line.new ≤ LONGEST }
@@ -68,7 +68,7 @@ impl<'a, R: Read> Lines<'a, R> {
     }
 
     /// Asks the reader for the next octets, and says whether there are any.
-    fn fill(&mut self) -> Result<bool, What>
+    fn fill(&mut self) -> Result<bool, LineFault>
         ensures { IfOk result (λ _. self.new.calls.left < self.old.calls.left) }
     {
         self.start = 0;
@@ -81,18 +81,18 @@ impl<'a, R: Read> Lines<'a, R> {
                 }
                 Err(error) => {
                     if error.kind() != ErrorKind::Interrupted {
-                        return Err(What::Read);
+                        return Err(LineFault::Read);
                     }
                 }
             }
         }
-        Err(What::Read)
+        Err(LineFault::Read)
     }
 }
 
 /// Adds the octets before the first LF to a line. Says how many octets this was, with the LF, and
 /// whether there is one.
-fn add_piece<A: Allocator>(rest: &[u8], line: &mut Vec<u8, A>) -> Result<(usize, bool), What>
+fn add_piece<A: Allocator>(rest: &[u8], line: &mut Vec<u8, A>) -> Result<(usize, bool), LineFault>
     requires { vec_len line.old ≤ LONGEST }
     ensures within { IfOk result (λ taken. taken.0 ≤ length rest.now) }
     ensures short { vec_len line.new ≤ LONGEST }
@@ -103,7 +103,7 @@ fn add_piece<A: Allocator>(rest: &[u8], line: &mut Vec<u8, A>) -> Result<(usize,
         None => rest,
     };
     if piece.len() > LONGEST - line.len() {
-        return Err(What::LineTooLong);
+        return Err(LineFault::LineTooLong);
     }
     line.extend_from_slice(piece)?;
     match found {

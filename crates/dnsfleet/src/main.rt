@@ -29,7 +29,7 @@ ghost use Rattle.dnsfleet.specs.declared.TheConstants.{BAD_WORDS};
 use clap::error::ErrorKind as Mistake;
 use clap::{Command, Error};
 use fault::fail;
-pub use fault::{ScriptFault, What};
+pub use fault::{ScriptFault, LineFault};
 pub use script::run_script;
 use serve::{Words, run_server};
 pub use settings::{Settings, SettingsFault, read_settings};
@@ -153,8 +153,8 @@ fn end_run<R: Eprint>(rt: &R, ran: io::Result<ExitCode>) -> ExitCode
 {
     match ran {
         Ok(code) => code,
-        Err(error) if error.kind() == ErrorKind::OutOfMemory => fail(rt, What::OutOfMemory),
-        Err(_) => fail(rt, What::Write),
+        Err(error) if error.kind() == ErrorKind::OutOfMemory => fail(rt, LineFault::OutOfMemory),
+        Err(_) => fail(rt, LineFault::Write),
     }
 }
 

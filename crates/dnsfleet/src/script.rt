@@ -3,7 +3,7 @@
 ghost use Rattle.std.specs.Prelude.{◌<◌, IfErr};
 
 use crate::command::{Command, Step, read_command};
-use crate::fault::{ScriptFault, What};
+use crate::fault::{ScriptFault, LineFault};
 use crate::fleet::Fleet;
 use crate::lines::Lines;
 use crate::print::{print_looked, print_same, print_site, print_stepped};
@@ -32,7 +32,7 @@ impl<A: Allocator + Copy> Script<A> {
     }
 
     /// Does what a line asks for, and makes what it prints.
-    fn run_line(&mut self, line: &[u8]) -> Result<(), What> {
+    fn run_line(&mut self, line: &[u8]) -> Result<(), LineFault> {
         self.out.clear();
         match command_of(line)? {
             Some(command) => self.run_command(command),
@@ -41,7 +41,7 @@ impl<A: Allocator + Copy> Script<A> {
     }
 
     /// Does what a line asks for, and adds what it prints.
-    fn run_command(&mut self, command: Command<'_>) -> Result<(), What> {
+    fn run_command(&mut self, command: Command<'_>) -> Result<(), LineFault> {
         match command {
             Command::Sites { count } => self.fleet.begin(count),
             Command::Ask {
@@ -56,7 +56,7 @@ impl<A: Allocator + Copy> Script<A> {
     }
 
     /// Asks a site a question.
-    fn ask(&mut self, site: usize, now: Moment, question: &Hex<'_>) -> Result<(), What> {
+    fn ask(&mut self, site: usize, now: Moment, question: &Hex<'_>) -> Result<(), LineFault> {
         self.fleet.check_site(site)?;
         let world = self.fleet.world()?;
         let question = question.octets(self.alloc)?;
@@ -66,29 +66,29 @@ impl<A: Allocator + Copy> Script<A> {
     }
 
     /// Shows what a site holds.
-    fn show(&mut self, site: usize) -> Result<(), What> {
+    fn show(&mut self, site: usize) -> Result<(), LineFault> {
         self.fleet.check_site(site)?;
         let world = self.fleet.world()?;
         match world.site(site) {
             Some(site) => print_site(&mut self.out, site)?,
-            None => return Err(What::NoSuchSite),
+            None => return Err(LineFault::NoSuchSite),
         }
         Ok(())
     }
 
     /// Compares two sites.
-    fn compare(&mut self, one: usize, other: usize) -> Result<(), What> {
+    fn compare(&mut self, one: usize, other: usize) -> Result<(), LineFault> {
         self.fleet.check_site(usize::max(one, other))?;
         let world = self.fleet.world()?;
         match (world.site(one), world.site(other)) {
             (Some(one), Some(other)) => print_same(&mut self.out, one.cache().same(other.cache()))?,
-            _ => return Err(What::NoSuchSite),
+            _ => return Err(LineFault::NoSuchSite),
         }
         Ok(())
     }
 
     /// Lets something happen in the world.
-    fn step(&mut self, step: Step<'_>) -> Result<(), What> {
+    fn step(&mut self, step: Step<'_>) -> Result<(), LineFault> {
         self.fleet.check_site(step.site())?;
         if let Some(frame) = step.frame() {
             self.fleet.check_frame(frame)?;
@@ -102,13 +102,13 @@ impl<A: Allocator + Copy> Script<A> {
 }
 
 /// What a line asks for, if anything: an empty line and one that begins with `#` ask for nothing.
-fn command_of(line: &[u8]) -> Result<Option<Command<'_>>, What> {
+fn command_of(line: &[u8]) -> Result<Option<Command<'_>>, LineFault> {
     let line = match str::from_utf8(line) {
         Ok(text) => text,
-        Err(_) => return Err(What::NotAscii),
+        Err(_) => return Err(LineFault::NotAscii),
     };
     if !line.is_ascii() {
-        return Err(What::NotAscii);
+        return Err(LineFault::NotAscii);
     }
     if line.is_empty() || line.starts_with('#') {
         return Ok(None);
@@ -123,14 +123,14 @@ fn run_next<A: Allocator + Copy, R: Read, W: Write>(
     line: &mut Vec<u8, A>,
     script: &mut Script<A>,
     writer: &mut W,
-) -> Result<bool, What> {
+) -> Result<bool, LineFault> {
     if !lines.read(line)? {
         return Ok(false);
     }
     script.run_line(line)?;
     match write_text(writer, script.out.as_str()) {
         Ok(()) => Ok(true),
-        Err(_) => Err(What::Write),
+        Err(_) => Err(LineFault::Write),
     }
 }
 
@@ -167,6 +167,6 @@ pub fn run_script<A: Allocator + Copy, R: Read, W: Write>(
     }
     Err(ScriptFault {
         line: u64::MAX,
-        what: What::Read,
+        what: LineFault::Read,
     })
 }

@@ -15,7 +15,7 @@ mod serving;
 mod settings;
 mod told;
 
-use crate::{ScriptFault, What, end_script, run_script};
+use crate::{ScriptFault, LineFault, end_script, run_script};
 use examples::{Example, all_examples, example_of};
 use messages::message_of;
 use readers::{Failing, Full, Slow};
@@ -351,7 +351,7 @@ fn run_long(alloc: Global, length: usize) -> Result<Result<(), ScriptFault>, Fai
 #[test]
 fn bounds_a_line(rt: HostRuntime) -> Result<(), Fail> {
     assert_eq!(rt; run_long(rt.alloc(), 65536)?, Ok(()));
-    let what = What::LineTooLong;
+    let what = LineFault::LineTooLong;
     let wanted = Err(ScriptFault { line: 2, what });
     assert_eq!(rt; run_long(rt.alloc(), 65537)?, wanted);
     Ok(())
@@ -367,7 +367,7 @@ fn check_failing(rt: &impl Abort, alloc: Global, rest: &str, line: u64, printed:
     let mut reader = Failing {
         rest: rest.as_bytes(),
     };
-    let what = What::Read;
+    let what = LineFault::Read;
     let ended = run_script(alloc, &mut reader, &mut out);
     assert_eq!(rt; ended, Err(ScriptFault { line, what }));
     assert_eq!(rt; out.as_slice(), printed.as_bytes());
@@ -375,7 +375,7 @@ fn check_failing(rt: &impl Abort, alloc: Global, rest: &str, line: u64, printed:
 
 /// A writer fails after so many calls, in this line.
 fn check_full(rt: &impl Abort, alloc: Global, lines: &str, left: u32, line: u64) {
-    let what = What::Write;
+    let what = LineFault::Write;
     let ended = run_script(alloc, &mut lines.as_bytes(), &mut Full { left });
     assert_eq!(rt; ended, Err(ScriptFault { line, what }));
 }
@@ -410,7 +410,7 @@ fn check_end(
 fn ends_with_a_status(rt: HostRuntime) -> Result<(), Fail> {
     let fault = ScriptFault {
         line: 7,
-        what: What::BadHex,
+        what: LineFault::BadHex,
     };
     check_end(&rt, rt.alloc(), Ok(()), 0, "")?;
     check_end(
@@ -423,7 +423,7 @@ fn ends_with_a_status(rt: HostRuntime) -> Result<(), Fail> {
 }
 
 /// What is told of a fault in line 7.
-fn check_name(rt: &impl Abort, alloc: Global, what: What, text: &str) -> Result<(), Fail> {
+fn check_name(rt: &impl Abort, alloc: Global, what: LineFault, text: &str) -> Result<(), Fail> {
     let fault = ScriptFault { line: 7, what };
     let told = format!(in alloc; "{fault}")?;
     assert_eq!(rt; told.as_str(), text);
@@ -433,27 +433,27 @@ fn check_name(rt: &impl Abort, alloc: Global, what: What, text: &str) -> Result<
 #[test]
 fn names_each_fault_of_words(rt: HostRuntime) -> Result<(), Fail> {
     let alloc = rt.alloc();
-    check_name(&rt, alloc, What::NotAscii, "line 7: not ASCII")?;
-    check_name(&rt, alloc, What::UnknownEvent, "line 7: unknown event")?;
-    check_name(&rt, alloc, What::WordCount, "line 7: wrong number of words")?;
-    check_name(&rt, alloc, What::BadNumber, "line 7: bad number")?;
-    check_name(&rt, alloc, What::BadAddress, "line 7: bad address")?;
-    check_name(&rt, alloc, What::BadHex, "line 7: bad hex")
+    check_name(&rt, alloc, LineFault::NotAscii, "line 7: not ASCII")?;
+    check_name(&rt, alloc, LineFault::UnknownEvent, "line 7: unknown event")?;
+    check_name(&rt, alloc, LineFault::WordCount, "line 7: wrong number of words")?;
+    check_name(&rt, alloc, LineFault::BadNumber, "line 7: bad number")?;
+    check_name(&rt, alloc, LineFault::BadAddress, "line 7: bad address")?;
+    check_name(&rt, alloc, LineFault::BadHex, "line 7: bad hex")
 }
 
 #[test]
 fn names_each_other_fault(rt: HostRuntime) -> Result<(), Fail> {
     let alloc = rt.alloc();
-    check_name(&rt, alloc, What::Read, "line 7: read")?;
-    check_name(&rt, alloc, What::LineTooLong, "line 7: line too long")?;
+    check_name(&rt, alloc, LineFault::Read, "line 7: read")?;
+    check_name(&rt, alloc, LineFault::LineTooLong, "line 7: line too long")?;
     check_name(
         &rt,
         alloc,
-        What::SitesNotFirst,
+        LineFault::SitesNotFirst,
         "line 7: sites must come first",
     )?;
-    check_name(&rt, alloc, What::NoSuchSite, "line 7: no such site")?;
-    check_name(&rt, alloc, What::NoSuchFrame, "line 7: no such frame")?;
-    check_name(&rt, alloc, What::OutOfMemory, "line 7: out of memory")?;
-    check_name(&rt, alloc, What::Write, "line 7: write")
+    check_name(&rt, alloc, LineFault::NoSuchSite, "line 7: no such site")?;
+    check_name(&rt, alloc, LineFault::NoSuchFrame, "line 7: no such frame")?;
+    check_name(&rt, alloc, LineFault::OutOfMemory, "line 7: out of memory")?;
+    check_name(&rt, alloc, LineFault::Write, "line 7: write")
 }

@@ -231,7 +231,7 @@ impl<'a, C: time::Clock, A: Allocator + Copy> UdpPort<'a, C, A> {
     {
         self.set_waiting(true);
         match self.receive(buffer) {
-            Ok(Some((from, len))) => self.gather(from, len, buffer),
+            Ok(Some((from, len))) => self.receive_burst(from, len, buffer),
             Ok(None) => Ok(None),
             Err(fault) => Err(fault),
         }
@@ -239,7 +239,7 @@ impl<'a, C: time::Clock, A: Allocator + Copy> UdpPort<'a, C, A> {
 
     /// Hands a datagram on that came, and where it is long first takes in what came behind it.
     #[tactic(auto, using(crate::proofs::Queues::receives_one, crate::proofs::Queues::receives_fault, crate::proofs::Queues::receives_next, crate::proofs::Queues::takes_more))]
-    fn gather(
+    fn receive_burst(
         &mut self,
         from: Addr,
         len: usize,

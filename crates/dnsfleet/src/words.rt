@@ -6,7 +6,7 @@ ghost use Rattle.std.specs.List.{AllPass};
 ghost use Rattle.std.specs.Option.{SomeIff};
 ghost use Rattle.fleet_name.specs.Types.{Labels, OctetList};
 ghost use Rattle.hex.specs.Hex.{is_hex_digit};
-ghost use Rattle.dnsfleet.specs.Words.{IsNumber, number_of, IsPort, SpellsAddress, SpellsOctets, SpellsName};
+ghost use Rattle.dnsfleet.specs.Words.{IsNumber, number_of, IsPort, SpellsAddress, SpellsOctets, IsNameWord};
 ghost use Rattle.dnsfleet.specs.declared.words.TheConstants.{MOST_SITES, LARGEST_16_BITS};
 ghost use Rattle.fleet_name.specs.Name.{lower, IsWire};
 ghost use Rattle.fleet_observe.specs.declared.bounds.TheConstants.{LATEST};
@@ -209,8 +209,8 @@ impl<'a> Model for NameWord<'a> {
 impl<'a> NameWord<'a> {
     /// The name that octets are in full, and nothing behind it.
     pub fn new(octets: Hex<'a>) -> Option<NameWord<'a>>
-        ensures { MatchOption result ((name : Labels) → SpellsName octets.entry name → ⊥)
-            (λ name. SpellsName octets.entry name) }
+        ensures { MatchOption result ((name : Labels) → IsNameWord octets.entry name → ⊥)
+            (λ name. IsNameWord octets.entry name) }
     {
         if !octets.spells_name() {
             return None;

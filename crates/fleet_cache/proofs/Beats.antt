@@ -23,7 +23,7 @@ use Rattle.fleet_cache.specs.Front.{IsFront, IsUndominated, without_hidden}
 use Rattle.fleet_cache.specs.Void.{Voids, voids, is_void}
 use Rattle.fleet_cache.specs.Live.{has_ended, is_live, live_of}
 use Rattle.fleet_cache.specs.Dominates.{dominates}
-use Rattle.fleet_cache.specs.Cached.{place, IsCached}
+use Rattle.fleet_cache.specs.Cached.{item_order, IsCached}
 use Rattle.fleet_cache.specs.steps.Orders.{over_from, over_chain}
 use Rattle.fleet_cache.proofs.SameKeys.{key_parts}
 use Rattle.fleet_cache.proofs.Voids.{voids_from, voids_to, void_from, void_to, unvoided_by, voids_below, void_outlived}
@@ -134,8 +134,8 @@ beats_laws = record {
 }
 
 -- a front is the front of its own items
-pub beats_itself : (s items : List ObservationData) → IsFront place beats s items
-    → IsFront place beats items items
+pub beats_itself : (s items : List ObservationData) → IsFront item_order beats s items
+    → IsFront item_order beats items items
 beats_itself s items front = record {
   descending = front.descending;
   of_set = λ y h. h;
@@ -144,10 +144,10 @@ beats_itself s items front = record {
 }
 
 -- a moment commutes with the front
-pub beats_shown : (t : ℕ) (s items : List ObservationData) → IsFront place beats s items
-    → IsFront place beats (without_hidden has_ended t s) (without_hidden has_ended t items)
+pub beats_shown : (t : ℕ) (s items : List ObservationData) → IsFront item_order beats s items
+    → IsFront item_order beats (without_hidden has_ended t s) (without_hidden has_ended t items)
 beats_shown t s items front = record {
-  descending = IsDescending-filter place _ items front.descending;
+  descending = IsDescending-filter item_order _ items front.descending;
   of_set = λ y h. let k = Has-filter (λ o. not (has_ended t o)) items y h
       in Has-in_filter (λ o. not (has_ended t o)) s y (front.of_set y k.0) k.1;
   undominated = λ i h w m. front.undominated i (Has-filter (λ o. not (has_ended t o)) items i h).0 w
@@ -225,8 +225,8 @@ module _ (s items : List ObservationData) (f : ℕ) (lawful : AreObservations s)
   void_below w x over e = let v = void_from s w e
       in void_to s x (v.0, v.1, voids_below v.0 w x v.2 over)
 
-  pub front_to_beats : IsFront place dominates (live_of s f) items
-      → IsFront place beats (without_hidden has_ended f s) items
+  pub front_to_beats : IsFront item_order dominates (live_of s f) items
+      → IsFront item_order beats (without_hidden has_ended f s) items
   front_to_beats front = record {
     descending = front.descending;
     of_set = λ x h. let l = lives_in s f x (front.of_set x h) in shown_of s f x l.member l.lasts;
@@ -270,8 +270,8 @@ module _ (s items : List ObservationData) (f : ℕ) (lawful : AreObservations s)
             (sym (free w (shown_of s f w l.member l.lasts)) ∙ dominates_beats w x over))
       ]
 
-  pub front_from_beats : IsFront place beats (without_hidden has_ended f s) items
-      → IsFront place dominates (live_of s f) items
+  pub front_from_beats : IsFront item_order beats (without_hidden has_ended f s) items
+      → IsFront item_order dominates (live_of s f) items
   front_from_beats front = record {
     descending = front.descending;
     of_set = λ x h. live_in s f x (spared x h);
@@ -312,11 +312,11 @@ module _ (s items : List ObservationData) (f : ℕ) (lawful : AreObservations s)
 
 -- a cache is the front of what its set shows, by what beats
 pub cached_front : (s items : List ObservationData) (f : ℕ) → IsCached s f items
-    → IsFront place beats (without_hidden has_ended f s) items
+    → IsFront item_order beats (without_hidden has_ended f s) items
 cached_front s items f cached = front_to_beats s items f cached.lawful cached.front
 
 pub cached_from : (s items : List ObservationData) (f : ℕ) → AreObservations s
-    → IsFront place beats (without_hidden has_ended f s) items → IsCached s f items
+    → IsFront item_order beats (without_hidden has_ended f s) items → IsCached s f items
 cached_from s items f lawful front = record {
   lawful = lawful;
   front = front_from_beats s items f lawful front;

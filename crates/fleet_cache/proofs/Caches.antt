@@ -9,7 +9,7 @@ use Rattle.fleet_observe.specs.Observation.{ObservationData, IsObservation, AreO
 use Rattle.fleet_cache.specs.Front.{IsUndominated, IsFront, without_hidden}
 use Rattle.fleet_cache.specs.Live.{has_ended}
 use Rattle.fleet_cache.specs.Void.{IsVoid, is_void}
-use Rattle.fleet_cache.specs.Cached.{place, CacheData, IsCached, IsCovered, IsNeedless, IsSameSet}
+use Rattle.fleet_cache.specs.Cached.{item_order, CacheData, IsCached, IsCovered, IsNeedless, IsSameSet}
 use Rattle.fleet_cache.proofs.Places.{place_laws}
 use Rattle.fleet_cache.proofs.Voids.{unvoided_to, unvoided_by, void_outlived}
 use Rattle.fleet_cache.proofs.Beats.{beats, dominates_beats, outlasts_beats, beats_chain, beaten_hidden, beats_laws, beats_itself, beats_shown, shown_parts, shown_of, lives_in, cached_front, cached_from}
@@ -40,7 +40,7 @@ all_shown m (x ∷ s) h = rw (h x (inl refl)) (ap (λ t. x ∷ t) (all_shown m s
 
 -- one that is there, or is beaten
 front_covered : (s items : List ObservationData) (x : ObservationData) → IsCoveredBy beats items x
-    → IsFront place beats s items → IsFront place beats (x ∷ s) items
+    → IsFront item_order beats s items → IsFront item_order beats (x ∷ s) items
 front_covered s items x c front = record {
   descending = front.descending;
   of_set = λ y h. inr (front.of_set y h);
@@ -142,14 +142,14 @@ pub cached_itself : (s items : List ObservationData) (f : ℕ) → IsCached s f 
     → IsCached items f items
 cached_itself s items f cached = cached_from items items f
     (λ o h. cached.lawful o (item_of_set s items f cached o h).0)
-    (subst (λ v. IsFront place beats v items)
+    (subst (λ v. IsFront item_order beats v items)
     (sym (all_shown f items (λ o h. (item_of_set s items f cached o h).1)))
     (beats_itself (without_hidden has_ended f s) items (cached_front s items f cached)))
 
 pub cached_purged : (s items : List ObservationData) (f m : ℕ) → f ≤ m → IsCached s f items
     → IsCached s m (without_hidden has_ended m items)
 cached_purged s items f m le cached = cached_from s (without_hidden has_ended m items) m
-    cached.lawful (subst (λ v. IsFront place beats v (without_hidden has_ended m items))
+    cached.lawful (subst (λ v. IsFront item_order beats v (without_hidden has_ended m items))
     (shown_twice f m s le) (beats_shown m (without_hidden has_ended f s) items
     (cached_front s items f cached)))
 
@@ -178,10 +178,10 @@ cached_both s u theirs items f g le from cached =
       whole = λ x m free. held.whole x (narrow x m free) (λ w h. free w (widen w h));
     })
   where
-    held : IsFront place beats (without_hidden has_ended f (theirs ++ s)) items
+    held : IsFront item_order beats (without_hidden has_ended f (theirs ++ s)) items
     held = cached_front (theirs ++ s) items f cached
 
-    theirs_held : IsFront place beats (without_hidden has_ended g u) theirs
+    theirs_held : IsFront item_order beats (without_hidden has_ended g u) theirs
     theirs_held = cached_front u theirs g from
 
     later : (x : ObservationData) → has_ended f x ≡ false → has_ended g x ≡ false

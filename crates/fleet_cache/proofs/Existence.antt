@@ -10,7 +10,7 @@ use Rattle.fleet_observe.specs.Observation.{ObservationData, AreObservations}
 use Rattle.fleet_cache.specs.Front.{IsDescending, IsUndominated}
 use Rattle.fleet_cache.specs.Live.{live_of}
 use Rattle.fleet_cache.specs.Dominates.{dominates}
-use Rattle.fleet_cache.specs.Cached.{place, IsCached}
+use Rattle.fleet_cache.specs.Cached.{item_order, IsCached}
 use Rattle.fleet_cache.proofs.Places.{place_total, place_exact, place_laws}
 use Rattle.std.proofs.lemmas.Bool.{cases_Bool, not-true}
 use Rattle.fleet_front.proofs.Lemmas.{ordering_cases, IsDescending-filter, above}
@@ -19,18 +19,18 @@ use Rattle.fleet_name.proofs.Lemmas.{Has-filter, Has-in_filter}
 -- the members of a list, each once, in order
 record Ranked (s : List ObservationData) : Type 0 where
   pub items : List ObservationData
-  pub descending : IsDescending place items
+  pub descending : IsDescending item_order items
   pub from : (z : ObservationData) → Has items z → Has s z
   pub to : (z : ObservationData) → Has s z → Has items z
 
 -- behind the first
-ranked_behind : (x y : ObservationData) (items : List ObservationData) → place y x ≡ Greater
-    → IsDescending place (y ∷ items) → Ranked (x ∷ items) → Ranked (x ∷ y ∷ items)
+ranked_behind : (x y : ObservationData) (items : List ObservationData) → item_order y x ≡ Greater
+    → IsDescending item_order (y ∷ items) → Ranked (x ∷ items) → Ranked (x ∷ y ∷ items)
 ranked_behind x y items over down rest = record {
   items = y ∷ rest.items;
   descending = (
     (λ z h. elim (rest.from z h) [
-      | inl same ↦ subst (λ v. place y v ≡ Greater) same over
+      | inl same ↦ subst (λ v. item_order y v ≡ Greater) same over
       | inr old ↦ down.0 z old
     ]),
     rest.descending,
@@ -46,7 +46,7 @@ ranked_behind x y items over down rest = record {
 }
 
 -- one more
-ranked_more : (x : ObservationData) (items : List ObservationData) → IsDescending place items
+ranked_more : (x : ObservationData) (items : List ObservationData) → IsDescending item_order items
     → Ranked (x ∷ items)
 ranked_more x [] down = record {
   items = x ∷ [];
@@ -54,7 +54,7 @@ ranked_more x [] down = record {
   from = λ z h. h;
   to = λ z h. h;
 }
-ranked_more x (y ∷ items) down = elim (ordering_cases (place x y)) [
+ranked_more x (y ∷ items) down = elim (ordering_cases (item_order x y)) [
   | inl less ↦ ranked_behind x y items (place_total.antisymm y x ∙ ap ordering_reverse less) down
       (ranked_more x items down.1)
   | inr more ↦ elim more [
@@ -68,7 +68,7 @@ ranked_more x (y ∷ items) down = elim (ordering_cases (place x y)) [
       items = x ∷ y ∷ items;
       descending = (
         (λ z h. elim h [
-          | inl same ↦ subst (λ v. place x v ≡ Greater) same greater
+          | inl same ↦ subst (λ v. item_order x v ≡ Greater) same greater
           | inr far ↦ above place_laws x y z greater (down.0 z far)
         ]),
         down,
@@ -122,7 +122,7 @@ cache_of s f lawful =
       record {
         lawful = lawful;
         front = record {
-          descending = IsDescending-filter place test all.items all.descending;
+          descending = IsDescending-filter item_order test all.items all.descending;
           of_set = λ x h. all.from x (Has-filter test all.items x h).0;
           undominated = λ x h. none_over seen x (not-true _ (Has-filter test all.items x h).1);
           whole = λ x m free. Has-in_filter test all.items x (all.to x m)

@@ -13,11 +13,11 @@ use Rattle.fleet_cache.specs.Front.{IsDescending, IsFront, IsUndominated, withou
 use Rattle.fleet_cache.specs.Void.{Voids, IsVoid, is_void}
 use Rattle.fleet_cache.specs.Live.{has_ended, is_live, live_of}
 use Rattle.fleet_cache.specs.Dominates.{dominates}
-use Rattle.fleet_cache.specs.Cached.{place, IsCached, IsCovered, IsPast, IsNeedless, IsSameSet}
+use Rattle.fleet_cache.specs.Cached.{item_order, IsCached, IsCovered, IsPast, IsNeedless, IsSameSet}
 use Rattle.fleet_cache.specs.steps.Held.{IsHeld, IsTaken}
 use Rattle.fleet_cache.specs.steps.Slots.{items_of, IsLaid, IsPut}
 use Rattle.fleet_cache.specs.steps.Noted.{NotedData, AreNoted, HasNone, HasNoneShorter}
-use Rattle.fleet_cache.specs.steps.Swept.{IsThinned, IsSwept}
+use Rattle.fleet_cache.specs.steps.Reclaimed.{IsThinned, IsReclaimed}
 use Rattle.fleet_cache.specs.steps.Orders.{over_from}
 use Rattle.fleet_cache.proofs.Places.{place_laws}
 use Rattle.fleet_cache.proofs.Voids.{void_from, void_to, unvoided_by, unvoided_to, voids_below, voids_over, flush_stays, void_outlived}
@@ -54,7 +54,7 @@ live_longer s t p o over live =
     ])
 
 -- pruning loses no flush that withdraws
-module _ (s items : List ObservationData) (front : IsFront place dominates s items) where
+module _ (s items : List ObservationData) (front : IsFront item_order dominates s items) where
   peak_of : (g : ObservationData) → Has s g → (p : ObservationData) × Has items p
       × ((x : ObservationData) → Voids g x → Voids p x)
   peak_of g h = let c = climb place_laws s g in elim c.1 [
@@ -87,7 +87,7 @@ module _ (s items : List ObservationData) (front : IsFront place dominates s ite
   pruned_cached f lawful = record {
     lawful = lawful;
     front = record {
-      descending = IsDescending-filter place (is_live items f) items front.descending;
+      descending = IsDescending-filter item_order (is_live items f) items front.descending;
       of_set = λ x h. let k = Has-filter (is_live items f) items x h
           in Has-in_filter (is_live s f) s x (front.of_set x k.0) (live_pruned f x ∙ k.1);
       undominated = λ x h w m. front.undominated x (Has-filter (is_live items f) items x h).0 w
@@ -134,7 +134,7 @@ swapped s u items w more f a b both =
 
 -- one more was taken in
 module _ (items new : List ObservationData) (x : ObservationData) (held : IsHeld items)
-    (one : IsObservation x) (front : IsFront place dominates (x ∷ items) new) where
+    (one : IsObservation x) (front : IsFront item_order dominates (x ∷ items) new) where
   pub taken_held : IsHeld new
   taken_held = record {
     lawful = λ o h. more_lawful items x one held.lawful o (front.of_set o h);
@@ -240,9 +240,9 @@ filtered_alike p q (x ∷ s) same = elim (cases_Bool (q x)) [
 ]
 
 -- where none was dropped but what is not live, what is live stays
-pub thinned_swept : (m : ℕ) (items rest : List ObservationData) → AreObservations items
-    → IsThinned (is_live items m) items rest → IsSwept m items rest
-thinned_swept m items rest lawful thin = record {
+pub thinned_reclaimed : (m : ℕ) (items rest : List ObservationData) → AreObservations items
+    → IsThinned (is_live items m) items rest → IsReclaimed m items rest
+thinned_reclaimed m items rest lawful thin = record {
   live_still = filtered_alike (is_live rest m) (is_live items m) rest alike ∙ thin.live_still;
   of_items = thin.of_items;
   size = thin.size;
@@ -277,7 +277,7 @@ thinned_swept m items rest lawful thin = record {
     ]
 
 -- in order, what is left of what is held is held
-pub thinned_held : (items rest : List ObservationData) → IsHeld items → IsDescending place rest
+pub thinned_held : (items rest : List ObservationData) → IsHeld items → IsDescending item_order rest
     → ((x : ObservationData) → Has rest x → Has items x) → IsHeld rest
 thinned_held items rest held order of_items = record {
   lawful = λ x h. held.lawful x (of_items x h);

@@ -12,7 +12,7 @@ pub mod Lemmas
 mod Packed
 mod Packing
 mod Slots
-mod Sweeps
+mod Reclaiming
 mod Best
 mod Past
 mod Looked

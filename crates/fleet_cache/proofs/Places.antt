@@ -10,26 +10,26 @@ use Rattle.fleet_observe.specs.Preference.{octets_cmp, preference, preference_to
 use Rattle.fleet_observe.proofs.Lemmas.{then_parts, preference_exact}
 use Rattle.fleet_cache.specs.Live.{has_ended}
 use Rattle.fleet_cache.specs.Dominates.{dominates}
-use Rattle.fleet_cache.specs.Cached.{place}
+use Rattle.fleet_cache.specs.Cached.{item_order}
 use Rattle.fleet_cache.specs.steps.Orders.{over_from, over_chain, ended_below}
 
-pub place_total : IsTotalOrder place
+pub place_total : IsTotalOrder item_order
 place_total =
     then_total (on_total (λ (x : ObservationData). key_of x) (back_total nat_list_cmp_total))
     preference_total
 
-pub place_exact : (x y : ObservationData) → place x y ≡ Equal → x ≡ y
+pub place_exact : (x y : ObservationData) → item_order x y ≡ Equal → x ≡ y
 place_exact x y e =
     preference_exact x y (then_parts (octets_cmp (key_of y) (key_of x)) (preference x y) e).1
 
-place_over : (x y : ObservationData) → dominates x y ≡ true → place x y ≡ Greater
+place_over : (x y : ObservationData) → dominates x y ≡ true → item_order x y ≡ Greater
 place_over x y e =
     let a = over_from x y e in
     let same : octets_cmp (key_of y) (key_of x) ≡ Equal =
     ap (octets_cmp (key_of y)) a.same_key ∙ tied_itself nat_list_cmp_total (key_of y) in
     ap (λ o. ordering_then o (preference x y)) same ∙ a.preferred
 
-pub place_laws : RankedLaws place dominates has_ended
+pub place_laws : RankedLaws item_order dominates has_ended
 place_laws = record {
   total = place_total;
   exact = place_exact;

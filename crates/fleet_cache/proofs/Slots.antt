@@ -17,7 +17,7 @@ use Rattle.fleet_cache.specs.Front.{IsDescending, IsFront}
 use Rattle.fleet_cache.specs.Dominates.{dominates}
 use Rattle.fleet_cache.specs.steps.Row.{row}
 use Rattle.fleet_cache.specs.steps.Packed.{octet_words, words_of, IsPackable}
-use Rattle.fleet_cache.specs.Cached.{place, IsCovered}
+use Rattle.fleet_cache.specs.Cached.{item_order, IsCovered}
 use Rattle.fleet_cache.specs.steps.Slots.{items_of, concat, is_nil, IsSlot, IsLaid, IsPut}
 use Rattle.fleet_cache.proofs.Packed.{packed_cmp, packed_exact}
 use Rattle.fleet_cache.specs.steps.Orders.{row_laws, over_from}
@@ -44,7 +44,7 @@ over_words p o e =
 descend_within_name : (xs : List ObservationData) (k : List ℕ)
     → ((x : ObservationData) → Has xs x → (words_of x) ≡ k)
     → ((x : ObservationData) → Has xs x → IsPackable x.name) → IsDescending row xs
-    → IsDescending place xs
+    → IsDescending item_order xs
 descend_within_name [] k same fits d = tt
 descend_within_name (x ∷ xs) k same fits d = (
   (λ y h. let a = fits x (inl refl) in let b = fits y (inr h) in
@@ -96,9 +96,9 @@ module _ {K : Type 0} (octets : K → List ℕ) where
   by_key a b = octets_cmp (octets b.0) (octets a.0)
 
   -- the items descend by place
-  pub items_descend : (es : List Slot) → IsLaid octets es → IsDescending place (items_of es)
+  pub items_descend : (es : List Slot) → IsLaid octets es → IsDescending item_order (items_of es)
   items_descend [] laid = tt
-  items_descend (e ∷ es) laid = IsDescending-append place e.1 (items_of es)
+  items_descend (e ∷ es) laid = IsDescending-append item_order e.1 (items_of es)
       (descend_within_name e.1 (octets e.0) (laid.slots e (inl refl)).one_key
       (laid.slots e (inl refl)).packable (laid.slots e (inl refl)).own_front.descending)
       (items_descend es (record {
@@ -121,9 +121,9 @@ module _ {K : Type 0} (octets : K → List ℕ) where
       → ((y : ObservationData) → Has b y → (words_of y) ≡ (words_of x) → ⊥)
       → ((y : ObservationData) → Has f y → (words_of y) ≡ (words_of x))
       → IsFront row dominates (x ∷ f) g
-      → IsDescending place (a ++ (g ++ b))
-      → IsFront place dominates s (a ++ (f ++ b))
-      → IsFront place dominates (x ∷ s) (a ++ (g ++ b))
+      → IsDescending item_order (a ++ (g ++ b))
+      → IsFront item_order dominates s (a ++ (f ++ b))
+      → IsFront item_order dominates (x ∷ s) (a ++ (g ++ b))
   one_front s a f g b x in_a in_b in_f new d front = record {
     descending = d;
     of_set = λ y h. elim (three a g b y h) [
@@ -464,14 +464,14 @@ module _ {K : Type 0} (octets : K → List ℕ) where
       items_of-append a.pre ((k, g) ∷ a.post) in
       record {
         laid = laid_new;
-        taken = λ s front. subst (IsFront place dominates (x ∷ s)) (sym lies)
+        taken = λ s front. subst (IsFront item_order dominates (x ∷ s)) (sym lies)
             (one_front s (items_of a.pre) f g (items_of a.post) x
             (not_before es (words_of x) f a)
             (not_behind es (words_of x) f a)
             in_f
             new
-            (subst (IsDescending place) lies (items_descend _ laid_new))
-            (subst (IsFront place dominates s) a.lies front));
+            (subst (IsDescending item_order) lies (items_descend _ laid_new))
+            (subst (IsFront item_order dominates s) a.lies front));
         size =
             let p = items_of a.pre in
             let q = items_of a.post in

@@ -14,14 +14,14 @@ use Rattle.fleet_cache.specs.Live.{live_of}
 use Rattle.fleet_cache.specs.Dominates.{dominates}
 
 -- by key, and the preferred first within a key: what is greater comes first
-abbrev pub place : ObservationData → ObservationData → Ordering
-place x y = ordering_then (octets_cmp (key_of y) (key_of x)) (preference x y)
+abbrev pub item_order : ObservationData → ObservationData → Ordering
+item_order x y = ordering_then (octets_cmp (key_of y) (key_of x)) (preference x y)
 
 -- the items are the undominated observations of s that are live at the floor, in order
 pub record IsCached (s : Observations) (floor : Seconds) (items : Observations) : Type 0
   where
     pub lawful : AreObservations s
-    pub front : IsFront place dominates (live_of s floor) items
+    pub front : IsFront item_order dominates (live_of s floor) items
 
 -- what a cache holds: its floor, and its items in order
 pub record CacheData : Type 0 where

@@ -10,5 +10,5 @@ pub mod Shown
 pub mod AnswerData
 pub mod Kinds
 pub mod Laws
-pub mod Rows
+pub mod WorkedRows
 pub mod steps

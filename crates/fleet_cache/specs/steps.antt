@@ -6,5 +6,5 @@ pub mod Orders
 pub mod Slots
 pub mod Noted
 pub mod Keyed
-pub mod Swept
+pub mod Reclaimed
 pub mod CutAt

@@ -14,7 +14,7 @@ use crate::answer::{Answer, follow};
 use crate::held::Held;
 use crate::items::Items;
 use crate::lookup::is_past;
-use crate::sweep::{Cursor, sweep};
+use crate::reclaim::{Cursor, reclaim};
 use fleet_observe::{Moment, Observation};
 use fleet_wire::{LentQuestion, Question};
 use std::alloc::{AllocError, Allocator, Global};
@@ -171,7 +171,7 @@ impl<A: Allocator> Cache<A> {
             return;
         }
         self.floor = moment;
-        sweep(&mut self.held, &mut self.cursor, moment);
+        reclaim(&mut self.held, &mut self.cursor, moment);
     }
 
     /// Drops all items and sets the floor back to 0: it is then as a new cache. This takes no

@@ -9,7 +9,7 @@ ghost use Rattle.fleet_cache.specs.Cached.{IsCovered};
 ghost use Rattle.fleet_cache.specs.steps.Held.{IsHeld, IsTaken};
 ghost use Rattle.fleet_cache.specs.steps.Keyed.{HasNoKey, IsOfKey, IsOfName};
 ghost use Rattle.fleet_cache.specs.steps.Noted.{HasNone, HasNoneShorter};
-ghost use Rattle.fleet_cache.specs.steps.Swept.{IsTrimmed};
+ghost use Rattle.fleet_cache.specs.steps.Reclaimed.{IsTrimmed};
 ghost use Rattle.fleet_cache.specs.steps.Slots.{concat};
 
 use crate::cut::Cut;

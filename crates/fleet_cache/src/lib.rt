@@ -16,7 +16,7 @@ mod lookup;
 mod noted;
 mod shown;
 mod store;
-mod sweep;
+mod reclaim;
 mod words;
 
 pub use answer::{Answer, Chain};

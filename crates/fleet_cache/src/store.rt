@@ -7,7 +7,7 @@ ghost use Rattle.fleet_cache.specs.steps.Row.{row};
 ghost use Rattle.fleet_cache.specs.Cached.{is_covered, IsCovered};
 ghost use Rattle.fleet_cache.specs.steps.Packed.{words_of, IsPackable};
 ghost use Rattle.fleet_cache.specs.steps.Slots.{items_of, IsLaid, IsPut};
-ghost use Rattle.fleet_cache.specs.steps.Swept.{IsTrimmed};
+ghost use Rattle.fleet_cache.specs.steps.Reclaimed.{IsTrimmed};
 
 use crate::cut::Cut;
 use crate::item::Item;

@@ -96,7 +96,7 @@ impl<T: Ranked, A: Allocator> Front<T, A> {
         }
         make_room(&mut self.items)?;
         drop_dominated(&mut self.items, &value);
-        let at = place(&self.items, &value);
+        let at = insertion_index(&self.items, &value);
         self.items.insert(at, value)?;
         Ok(true)
     }
@@ -183,7 +183,7 @@ fn first_kept<'a, T: Ranked>(items: &'a [T], cut: &T::Cut) -> Option<&'a T>
 }
 
 /// How many items at the front are greater than the value.
-fn place<T: Ranked>(items: &[T], value: &T) -> usize
+fn insertion_index<T: Ranked>(items: &[T], value: &T) -> usize
     ensures count { result ≡ count_above T.order value.now items.now }
     ensures within { result ≤ length items.now }
 {

@@ -16,7 +16,7 @@ use Rattle.fleet_observe.specs.Checks.{IsCountOf}
 use Rattle.fleet_observe.specs.declared.bounds.TheConstants.{LONGEST_BODY}
 use Rattle.fleet_gossip.specs.Entry.{AreFirstRdatas}
 use Rattle.fleet_gossip.specs.Faults.{cut, refused, behind, OctetsFail, cut_octets, refused_octets, SizedFails, RdatasFail, rdata_fails, NegativeFails, stranger, soa_fails}
-use Rattle.fleet_gossip.specs.steps.Reading.{AreMissing, IsSplitAfter, AnyRdata, IsAbove, IsPart, IsSizeOf, AreFirstOf, IsOwnerOf}
+use Rattle.fleet_gossip.specs.steps.Reading.{AreMissing, IsSplitAfter, AnyRdata, ComesAfterLast, IsPart, IsSizeOf, AreFirstOf, IsOwnerOf}
 use Rattle.fleet_gossip.specs.declared.fault.FrameFault.{FrameFault}
 use Rattle.fleet_gossip.specs.declared.fault.FrameFault.TheVariants.{BadBody}
 use Rattle.fleet_name.proofs.Lemmas.{has_right, has_either}
@@ -53,10 +53,10 @@ the_one x y (inr h) = absurd h
 abbrev IsBelow : List ℕ → List ℕ → Type 0
 IsBelow x y = slice_cmp nat_cmp x y ≡ Less
 
-above_rest : (x : List ℕ) (xs : List (List ℕ)) (d : List ℕ) → IsAbove (x ∷ xs) d → IsAbove xs d
+above_rest : (x : List ℕ) (xs : List (List ℕ)) (d : List ℕ) → ComesAfterLast (x ∷ xs) d → ComesAfterLast xs d
 above_rest x xs d h = λ before last e. h (x ∷ before) last (ap (λ (zs : List (List ℕ)). x ∷ zs) e)
 
-ascending_push : (xs : List (List ℕ)) (d : List ℕ) → IsAscending xs → IsAbove xs d
+ascending_push : (xs : List (List ℕ)) (d : List ℕ) → IsAscending xs → ComesAfterLast xs d
     → IsAscending (xs ++ d ∷ [])
 ascending_push [] d all above = (λ y h. absurd h, tt)
 ascending_push (x ∷ []) d all above = (
@@ -80,7 +80,7 @@ last_below : (before : List (List ℕ)) (last d : List ℕ)
 last_below [] last d all = all.0 d (inl refl)
 last_below (x ∷ before) last d all = last_below before last d all.1
 
-pub above_from : (xs : List (List ℕ)) (d : List ℕ) → IsAscending (xs ++ d ∷ []) → IsAbove xs d
+pub above_from : (xs : List (List ℕ)) (d : List ℕ) → IsAscending (xs ++ d ∷ []) → ComesAfterLast xs d
 above_from xs d all = λ before last e. last_below before last d
     (subst (λ (zs : List (List ℕ)). IsAscending (zs ++ d ∷ [])) e all)
 
@@ -93,7 +93,7 @@ positive_body-push xs d = omega (
 )
 
 pub next_from : (rtype : ℕ) (xs : List (List ℕ)) (d : List ℕ) (size : ℕ) → AreFirstRdatas rtype xs
-    → size ≡ length (positive_body xs) → IsAbove xs d → IsPlain rtype d
+    → size ≡ length (positive_body xs) → ComesAfterLast xs d → IsPlain rtype d
     → size + 2 + length d ≤ LONGEST_BODY → AreFirstRdatas rtype (xs ++ d ∷ [])
 next_from rtype xs d size first n above plain fits = record {
   ascending = ascending_push xs d first.ascending above;

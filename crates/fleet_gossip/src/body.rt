@@ -7,7 +7,7 @@ ghost use Rattle.fleet_observe.specs.Body.{octets_with_length, positive_body, Is
 ghost use Rattle.fleet_observe.specs.declared.bounds.TheConstants.{LONGEST_BODY};
 ghost use Rattle.fleet_gossip.specs.Entry.{AreFirstRdatas, AreBodyOctets};
 ghost use Rattle.fleet_gossip.specs.Faults.{SizedFails, RdatasFail, PositiveFails, NegativeFails, BodyFails};
-ghost use Rattle.fleet_gossip.specs.steps.Reading.{AnyRdata, IsAbove, HasLast, IsPart, IsSizeOf, AreFirstOf, IsOwnerOf};
+ghost use Rattle.fleet_gossip.specs.steps.Reading.{AnyRdata, ComesAfterLast, HasLast, IsPart, IsSizeOf, AreFirstOf, IsOwnerOf};
 
 use crate::fault::FrameFault;
 use crate::name::{is_under, read_name};
@@ -30,7 +30,7 @@ pub(crate) fn read_sized<'a>(reader: &mut Reader<'a>) -> Result<&'a [u8], FrameF
 fn is_above(last: Option<&[u8]>, rdata: &[u8]) -> bool
     ensures { (before : Labels)
         → MatchOption last.entry (before ≡ []) (λ r. HasLast before r.now)
-        → (IsTrue result ↔ IsAbove before rdata.now) }
+        → (IsTrue result ↔ ComesAfterLast before rdata.now) }
 {
     match last {
         None => true,

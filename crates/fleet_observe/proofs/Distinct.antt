@@ -9,7 +9,7 @@ use Rattle.fleet_observe.specs.RrSet.{RrSetData}
 use Rattle.fleet_observe.specs.Walk.{last, IsWalk, AreLinks}
 use Rattle.fleet_observe.specs.Soa.{SoaData}
 use Rattle.fleet_observe.specs.Digest.{EndData, WithRecords, WithoutData, WithoutName, WithCode, CutOff, DigestData, denied_by}
-use Rattle.fleet_observe.specs.Meaning.{Tells, IsNs, AreOwners, owners_of, IsAuthority, IsMeaning}
+use Rattle.fleet_observe.specs.DigestOf.{Tells, IsNs, AreOwners, owners_of, IsAuthority, IsDigest}
 use Rattle.fleet_observe.specs.Observations.{living_observation, set_observation, soa_observation, positive_observations, denial_observations, answer_rank, denial_rank, link_observations, end_observations, ns_observations, reply_observations}
 use Rattle.fleet_name.proofs.Lemmas.{has_left, has_right, has_either}
 use Rattle.fleet_observe.proofs.Walks.{walk_is}
@@ -289,7 +289,7 @@ authority_distinct r sets (inr h) = subst (λ (xs : List RrSetData). AllDistinct
     (sym h.1) tt
 
 -- no two observations of a reply are equal
-pub observed_distinct : (r : MessageData) (d : DigestData) (stamp : ℕ) → IsMeaning r d
+pub observed_distinct : (r : MessageData) (d : DigestData) (stamp : ℕ) → IsDigest r d
     → AllDistinct (reply_observations d stamp)
 observed_distinct r d stamp m =
     let links = link_observations d.aa d.name stamp d.chain in

@@ -5,7 +5,7 @@ use Rattle.fleet_observe.specs.declared.reply.ending.DigestFault.{DigestFault}
 use Rattle.fleet_observe.specs.declared.reply.ending.DigestFault.TheVariants.{OutOfMemory}
 use Rattle.fleet_observe.specs.RrSet.{RrSetData}
 use Rattle.fleet_observe.specs.Digest.{EndData, WithRecords, WithoutData, WithoutName, WithCode, CutOff, DigestData}
-use Rattle.fleet_observe.specs.Meaning.{AsksWalk, IsWalkable, IsFault, not_reply, bad_chain, no_memory, IsMeaning, IsSound, Tells}
+use Rattle.fleet_observe.specs.DigestOf.{AsksWalk, IsWalkable, IsFault, not_reply, bad_chain, no_memory, IsDigest, IsSound, Tells}
 use Rattle.fleet_observe.proofs.LawfulMeanings.{no_walk_cut, no_walk_coded}
 
 tells_walkable : (r : MessageData) (chain : List RrSetData) (e : EndData) → Tells r chain e
@@ -17,12 +17,12 @@ tells_walkable r chain (WithRecords x) tells asks = (tells.later, tells.walk)
 tells_walkable r chain (WithoutData soa) tells asks = (tells.later, tells.walk)
 tells_walkable r chain (WithoutName soa) tells asks = (tells.later, tells.walk)
 
-pub meaning_sound : (r : MessageData) (d : DigestData) → IsMeaning r d → IsSound r
+pub meaning_sound : (r : MessageData) (d : DigestData) → IsDigest r d → IsSound r
 meaning_sound r d meaning = (meaning.served, tells_walkable r d.chain d.end meaning.tells)
 
-pub meaning_or_fault : (r : MessageData) (d : DigestData) (f : DigestFault) → IsMeaning r d
+pub digest_or_fault : (r : MessageData) (d : DigestData) (f : DigestFault) → IsDigest r d
     → IsFault r f → f ≡ OutOfMemory
-meaning_or_fault r d f meaning (not_reply unserved told) = absurd (unserved meaning.served)
-meaning_or_fault r d f meaning (bad_chain served asks none told) =
+digest_or_fault r d f meaning (not_reply unserved told) = absurd (unserved meaning.served)
+digest_or_fault r d f meaning (bad_chain served asks none told) =
     absurd (none (tells_walkable r d.chain d.end meaning.tells asks))
-meaning_or_fault r d f meaning (no_memory sound told) = told
+digest_or_fault r d f meaning (no_memory sound told) = told

@@ -16,7 +16,7 @@ use Rattle.fleet_observe.specs.Walk.{IsPath, AreLinks, last, Ends, EndsFound}
 use Rattle.fleet_observe.specs.steps.Following.{ArePlainRecords}
 use Rattle.fleet_observe.specs.Soa.{SoaData}
 use Rattle.fleet_observe.specs.Digest.{EndData, WithRecords, WithoutData, WithoutName, WithCode, CutOff, DigestData, target_of, denied_by, IsLawfulSet, IsLawfulLink, IsLawfulSoa, IsLawfulEnd, IsLawful}
-use Rattle.fleet_observe.specs.Meaning.{IsSoaOf, TellsWalk, IsEnd, Tells, IsMeaning, IsAuthority, IsServed, AsksWalk}
+use Rattle.fleet_observe.specs.DigestOf.{IsSoaOf, TellsWalk, IsEnd, Tells, IsDigest, IsAuthority, IsServed, AsksWalk}
 use Rattle.fleet_observe.proofs.Sets.{read_bound}
 use Rattle.fleet_observe.proofs.Soas.{first_member}
 use Rattle.fleet_name.proofs.Lemmas.{labels_of-wire}
@@ -55,7 +55,7 @@ set_some s n t x is = (
   record {
     carrier = is.ttl.carrier;
     member = is.ttl.member;
-    belongs = is.ttl.belongs;
+    is_of_rrset = is.ttl.is_of_rrset;
     rdata = refl;
   },
 )
@@ -66,17 +66,17 @@ pub set_lawful : (s : List RecordData) (n : List (List ℕ)) (t : ℕ) (x : RrSe
     → InSet s n t e → d ≡ e) → IsLawfulSet x
 set_lawful s n t x plain is single =
     let one = set_some s n t x is in let carrier = is.ttl.carrier in
-    let named : IsName n = subst IsName is.ttl.belongs.owner (plain carrier is.ttl.member).name in
+    let named : IsName n = subst IsName is.ttl.is_of_rrset.owner (plain carrier is.ttl.member).name in
     let some : ¬ (x.rdatas ≡ []) = some_of x.rdatas one.0 (is.whole one.0 one.1) in
     record {
       name = rw is.name named;
-      typed = rw is.rtype is.ttl.belongs.typed;
+      typed = rw is.rtype is.ttl.is_of_rrset.typed;
       ttl = rw is.ttl.is (read_bound carrier.ttl);
       some = some;
       ascending = is.ascending;
       plain = λ d h.
           let m = is.of_section d h in
-          rw (is.rtype, ← m.rdata, ← m.belongs.rtype) ((plain m.carrier m.member).rdata);
+          rw (is.rtype, ← m.rdata, ← m.is_of_rrset.rtype) ((plain m.carrier m.member).rdata);
       alone = λ alias. ap length (alone_of x.rdatas is.ascending some
           (λ d e h k. single (sym is.rtype ∙ alias) d e (is.of_section d h) (is.of_section e k))).1;
     }
@@ -217,7 +217,7 @@ pub meaning_without_walk : (r : MessageData) (name : List (List ℕ)) (rtype : �
     (chain : List RrSetData) (e : EndData) (ns : List RrSetData) → IsServed r
     → name ≡ r.question.name → rtype ≡ r.question.rtype → aa ≡ r.header.aa
     → chain ≡ [] → Tells r [] e → ¬ AsksWalk r → ns ≡ []
-    → IsMeaning r (record {
+    → IsDigest r (record {
       name = name;
       rtype = rtype;
       aa = aa;
@@ -239,7 +239,7 @@ pub meaning_along_walk : (r : MessageData) (name : List (List ℕ)) (rtype : ℕ
     (chain : List RrSetData) (e : EndData) (ns : List RrSetData) → IsServed r
     → name ≡ r.question.name → rtype ≡ r.question.rtype → aa ≡ r.header.aa
     → TellsWalk r chain e → IsAuthority r ns
-    → IsMeaning r (record {
+    → IsDigest r (record {
       name = name;
       rtype = rtype;
       aa = aa;
@@ -256,7 +256,7 @@ meaning_along_walk r name rtype aa chain e ns served one two three tells authori
   authority = authority;
 }
 
-pub lawful_meaning : (r : MessageData) (d : DigestData) → IsRead r → IsMeaning r d → IsLawful d
+pub lawful_meaning : (r : MessageData) (d : DigestData) → IsRead r → IsDigest r d → IsLawful d
 lawful_meaning r d read is =
     let w = tells_lawful r d.chain d.end read is.tells in
     record {

@@ -14,5 +14,5 @@ pub mod LawfulMeanings
 pub mod Kept
 pub mod Lines
 pub mod Faults
-pub mod OneMeaning
+pub mod OneDigest
 pub mod Distinct

@@ -5,7 +5,7 @@ use Rattle.fleet_wire.specs.declared.rtype.TheConstants.{NS}
 use Rattle.fleet_observe.specs.Members.{Has}
 use Rattle.fleet_observe.specs.RrSet.{RrSetData, IsRrSet, InSet}
 use Rattle.fleet_observe.specs.Observation.{IsDataType}
-use Rattle.fleet_observe.specs.Meaning.{IsNs, IsRepeated, AreOwners, owners_of}
+use Rattle.fleet_observe.specs.DigestOf.{IsNs, IsRepeated, AreOwners, owners_of}
 use Rattle.fleet_observe.proofs.Lists.{has_push}
 
 pub owners_of-append : (xs ys : List RrSetData) → owners_of (xs ++ ys) ≡ owners_of xs
@@ -137,7 +137,7 @@ pub ns_in : (s : List RecordData) (q : List (List ℕ)) (r : RecordData) → Has
 ns_in s q r member ns = record {
   carrier = r;
   member = member;
-  belongs = record {
+  is_of_rrset = record {
     class = ns.class;
     rtype = ns.rtype;
     typed = ns_typed;

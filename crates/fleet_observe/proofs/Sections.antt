@@ -14,7 +14,7 @@ pub in_left : (s more : List RecordData) (n : List (List ℕ)) (t : ℕ) (d : Li
 in_left s more n t d h = record {
   carrier = h.carrier;
   member = has_left s more h.carrier h.member;
-  belongs = h.belongs;
+  is_of_rrset = h.is_of_rrset;
   rdata = h.rdata;
 }
 
@@ -23,16 +23,16 @@ pub in_last : (s : List RecordData) (n : List (List ℕ)) (t : ℕ) (r : RecordD
 in_last s n t r b = record {
   carrier = r;
   member = has_right s (r ∷ []) r (inl refl);
-  belongs = b;
+  is_of_rrset = b;
   rdata = refl;
 }
 
 pub in_cases : (s : List RecordData) (n : List (List ℕ)) (t : ℕ) (r : RecordData) (d : List ℕ)
     → InSet (s ++ r ∷ []) n t d → InSet s n t d ⊎ (Belongs n t r × (r.rdata ≡ d))
 in_cases s n t r d h = elim (has_push s r h.carrier h.member) [
-  | inl a ↦ inl (record { carrier = h.carrier; member = a; belongs = h.belongs; rdata = h.rdata })
+  | inl a ↦ inl (record { carrier = h.carrier; member = a; is_of_rrset = h.is_of_rrset; rdata = h.rdata })
   | inr e ↦ inr (
-    subst (λ (x : RecordData). Belongs n t x) (sym e) h.belongs,
+    subst (λ (x : RecordData). Belongs n t x) (sym e) h.is_of_rrset,
     ap (λ (x : RecordData). x.rdata) e ∙ h.rdata,
   )
 ]
@@ -80,15 +80,15 @@ pub record IsOne (s : List RecordData) (n : List (List ℕ)) (t : ℕ) (r : Reco
 
 pub of_left : (s more : List RecordData) (n : List (List ℕ)) (t : ℕ) (r : RecordData)
     → IsOf s n t r → IsOf (s ++ more) n t r
-of_left s more n t r h = record { member = has_left s more r h.member; belongs = h.belongs }
+of_left s more n t r h = record { member = has_left s more r h.member; is_of_rrset = h.is_of_rrset }
 
 pub of_last : (s : List RecordData) (n : List (List ℕ)) (t : ℕ) (r : RecordData) → Belongs n t r
     → IsOf (s ++ r ∷ []) n t r
-of_last s n t r b = record { member = has_right s (r ∷ []) r (inl refl); belongs = b }
+of_last s n t r b = record { member = has_right s (r ∷ []) r (inl refl); is_of_rrset = b }
 
 pub in_of : (s : List RecordData) (n : List (List ℕ)) (t : ℕ) (r : RecordData) → IsOf s n t r
     → InSet s n t r.rdata
-in_of s n t r h = record { carrier = r; member = h.member; belongs = h.belongs; rdata = refl }
+in_of s n t r h = record { carrier = r; member = h.member; is_of_rrset = h.is_of_rrset; rdata = refl }
 
 pub one_first : (s : List RecordData) (n : List (List ℕ)) (t : ℕ) (r : RecordData) → IsEmpty s n t
     → Belongs n t r → IsOne (s ++ r ∷ []) n t r
@@ -118,10 +118,10 @@ pub in_of_own : (s : List RecordData) (n : List (List ℕ)) (t : ℕ) (r : Recor
 in_of_own s n t r h = record {
   carrier = r;
   member = h.member;
-  belongs = record {
-    class = h.belongs.class;
-    rtype = h.belongs.rtype;
-    typed = h.belongs.typed;
+  is_of_rrset = record {
+    class = h.is_of_rrset.class;
+    rtype = h.is_of_rrset.rtype;
+    typed = h.is_of_rrset.typed;
     owner = refl;
   };
   rdata = refl;

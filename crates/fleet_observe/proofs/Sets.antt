@@ -229,12 +229,12 @@ least_all s n t least some is = elim is.found [
   | inl day ↦ record {
     carrier = some.1.carrier;
     member = some.1.member;
-    belongs = some.1.belongs;
+    is_of_rrset = some.1.is_of_rrset;
     is = exact (read_ttl some.1.carrier.ttl) least day (is.under some.1.carrier some.1.member
-        some.1.belongs) (read_bound some.1.carrier.ttl);
+        some.1.is_of_rrset) (read_bound some.1.carrier.ttl);
     least = is.under;
   }
-  | inr f ↦ record { carrier = f.0; member = f.1; belongs = f.2; is = f.3; least = is.under }
+  | inr f ↦ record { carrier = f.0; member = f.1; is_of_rrset = f.2; is = f.3; least = is.under }
 ]
   where
     exact : (r least : ℕ) → least ≡ LONGEST_LIFE → least ≤ r → r ≤ LONGEST_LIFE → least ≡ r

@@ -5,7 +5,7 @@ use Rattle.fleet_name.specs.Name.{wire, IsUnder}
 use Rattle.fleet_wire.specs.Record.{RecordData}
 use Rattle.fleet_wire.specs.Shape.{IsPlain}
 use Rattle.fleet_observe.specs.Members.{Has}
-use Rattle.fleet_observe.specs.Meaning.{IsSoaRecord, IsFirstSoa, CountsFor}
+use Rattle.fleet_observe.specs.DigestOf.{IsSoaRecord, IsFirstSoa, CountsFor}
 use Rattle.fleet_observe.proofs.Lists.{split_at}
 use Rattle.fleet_wire.specs.declared.rtype.TheConstants.{SOA}
 

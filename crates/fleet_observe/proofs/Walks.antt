@@ -206,7 +206,7 @@ pub alias_is : (s : List RecordData) (t : ℕ) (n : List (List ℕ)) (r : Record
     → ArePlainRecords s → IsEmpty s n t → IsOf s n CNAME r → IsOnly s n CNAME r.rdata
     → IsAlias s t n r
 alias_is s t n r plain none of_set only =
-    let spelled = plain_alias r.rdata (rw of_set.belongs.rtype at (plain r of_set.member).rdata) in
+    let spelled = plain_alias r.rdata (rw of_set.is_of_rrset.rtype at (plain r of_set.member).rdata) in
     record {
       of_set = of_set;
       goes = record { without = none; target = rw (← spelled.whole) only; named = spelled.named };

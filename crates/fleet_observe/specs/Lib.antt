@@ -8,7 +8,7 @@ pub mod RrSet
 pub mod Soa
 pub mod Walk
 pub mod Digest
-pub mod Meaning
+pub mod DigestOf
 pub mod Observations
 pub mod Relay
 pub mod steps

@@ -12,7 +12,7 @@ use Rattle.fleet_observe.specs.Observation.{ObservationData, Observations}
 use Rattle.fleet_observe.specs.RrSet.{RrSetData}
 use Rattle.fleet_observe.specs.Soa.{SoaData}
 use Rattle.fleet_observe.specs.Digest.{EndData, WithRecords, WithoutData, WithoutName, WithCode, CutOff, DigestData, denied_by}
-use Rattle.fleet_observe.specs.Meaning.{IsMeaning}
+use Rattle.fleet_observe.specs.DigestOf.{IsDigest}
 use Rattle.fleet_observe.specs.declared.bounds.TheConstants.{LONGEST_BODY}
 use Rattle.fleet_observe.specs.declared.observation.kind.Kind.{Kind}
 use Rattle.fleet_observe.specs.declared.rank.TheConstants.{OTHER, AUTHORITY, ANSWER}
@@ -100,12 +100,12 @@ reply_observations d stamp =
 -- these are the observations of the reply at the moment, in order
 pub record IsObserved (r : MessageData) (stamp : Seconds) (os : Observations) : Type 0 where
   pub digest : DigestData
-  pub meaning : IsMeaning r digest
+  pub meaning : IsDigest r digest
   pub are : os ≡ reply_observations digest stamp
 
 -- a reply means one thing
-abbrev pub OneMeaning : Type 0
-OneMeaning = (r : MessageData) (a b : DigestData) → IsMeaning r a → IsMeaning r b → a ≡ b
+abbrev pub OneDigest : Type 0
+OneDigest = (r : MessageData) (a b : DigestData) → IsDigest r a → IsDigest r b → a ≡ b
 
 -- and one list of observations is its list at a moment
 abbrev pub OneObserved : Type 0

@@ -24,7 +24,7 @@ pub record Belongs (n : Labels) (t : RType) (r : RecordData) : Type 0 where
 pub record InSet (s : List RecordData) (n : Labels) (t : RType) (d : OctetList) : Type 0 where
   pub carrier : RecordData
   pub member : Has s carrier
-  pub belongs : Belongs n t carrier
+  pub is_of_rrset : Belongs n t carrier
   pub rdata : carrier.rdata ≡ d
 
 -- there is no RRset
@@ -44,7 +44,7 @@ read_ttl ttl = if nat_le 2147483648 ttl then 0 else min ttl LONGEST_LIFE
 pub record IsTtl (s : List RecordData) (n : Labels) (t : RType) (ttl : Seconds) : Type 0 where
   pub carrier : RecordData
   pub member : Has s carrier
-  pub belongs : Belongs n t carrier
+  pub is_of_rrset : Belongs n t carrier
   pub is : ttl ≡ read_ttl carrier.ttl
   pub least : (r : RecordData) → Has s r → Belongs n t r → ttl ≤ read_ttl r.ttl
 

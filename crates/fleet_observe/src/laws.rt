@@ -2,8 +2,8 @@
 
 ghost use Rattle.fleet_observe.specs.Observation.{OneKey};
 ghost use Rattle.fleet_observe.specs.Walk.{OneWalk};
-ghost use Rattle.fleet_observe.specs.Meaning.{MeaningIsSound, MeaningOrFault};
-ghost use Rattle.fleet_observe.specs.Observations.{OneMeaning, OneObserved, EachOnce};
+ghost use Rattle.fleet_observe.specs.DigestOf.{MeaningIsSound, DigestOrFault};
+ghost use Rattle.fleet_observe.specs.Observations.{OneDigest, OneObserved, EachOnce};
 
 /// A key is of one name, one kind and one type.
 pub fn one_key()
@@ -16,16 +16,16 @@ pub fn one_walk()
 {}
 
 /// A reply has one meaning at most, and one list of observations at a moment.
-pub fn one_meaning()
-    ensures meaning { OneMeaning }
+pub fn one_digest()
+    ensures meaning { OneDigest }
     ensures observed { OneObserved }
 {}
 
 /// Nothing is wrong with a reply that means something: a reply has a meaning or a fault, and not
 /// both.
-pub fn meaning_or_fault()
+pub fn digest_or_fault()
     ensures sound { MeaningIsSound }
-    ensures fault { MeaningOrFault }
+    ensures fault { DigestOrFault }
 {}
 
 /// The observations of a reply at a moment come each once: no two of them are equal.

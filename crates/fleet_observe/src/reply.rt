@@ -2,7 +2,7 @@
 
 ghost use Rattle.std.specs.Prelude.{◌≡◌, ◌↔◌, ℕ, ◌⊎◌, IsTrue, MatchResult};
 ghost use Rattle.fleet_wire.specs.declared.rcode.TheConstants.{NAME_ERROR, NO_ERROR};
-ghost use Rattle.fleet_observe.specs.Meaning.{IsServed, IsFault, IsMeaning};
+ghost use Rattle.fleet_observe.specs.DigestOf.{IsServed, IsFault, IsDigest};
 
 pub(crate) mod authority;
 pub(crate) mod denial;
@@ -64,7 +64,7 @@ fn is_answered(rcode: u8) -> bool
 /// fork or loop, or a ninth link; `OutOfMemory`, of a reply with neither of these faults. Each
 /// digest copies the question's name.
 pub fn digest<A: Allocator + Copy>(alloc: A, message: &Message<A>) -> Result<Digest<A>, DigestFault>
-    ensures { MatchResult result (IsMeaning message.now) (IsFault message.now) }
+    ensures { MatchResult result (IsDigest message.now) (IsFault message.now) }
 {
     if !is_served(message) {
         return Err(DigestFault::NotReply);

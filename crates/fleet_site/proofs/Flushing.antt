@@ -4,17 +4,17 @@ use Rattle.fleet_observe.specs.Observation.{ObservationData, flush_at}
 use Rattle.fleet_cache.specs.Cached.{IsCached, CacheData}
 use Rattle.fleet_gossip.specs.Packed.{IsPacked}
 use Rattle.fleet_pending.specs.PendingData.{PendingData}
-use Rattle.fleet_site.specs.steps.Carried.{Carries}
+use Rattle.fleet_site.specs.steps.Carried.{DoesOrStops}
 use Rattle.fleet_site.specs.gossip.Flush.{Flushed}
 use Rattle.fleet_site.specs.OutcomeData.{OutcomeData, nothing}
-use Rattle.fleet_site.specs.SiteModel.{Deed}
+use Rattle.fleet_site.specs.SiteModel.{Effect}
 use Rattle.fleet_site.specs.declared.outcome.SiteFault.TheVariants.{OutOfMemory}
 
 -- what is said of a flush with these frames
 abbrev pub says_flush : List (List ℕ) → OutcomeData
 says_flush frames = record nothing { frames = frames; taken = 1 }
 
-abbrev flush_deed : PendingData → List (List ℕ) → ℕ → List (List ℕ) → Deed
+abbrev flush_deed : PendingData → List (List ℕ) → ℕ → List (List ℕ) → Effect
 flush_deed o name t frames = record {
   says = says_flush frames;
   brings = flush_at name t ∷ [];
@@ -30,7 +30,7 @@ module _ (o : PendingData) (name : List (List ℕ)) (t : ℕ) (s list : List Obs
 
   pub carries_flush : (out : OutcomeData) → out ≡ says_flush frames
       → IsCached (list ++ s) cache.floor cache.items
-      → Carries (Flushed o name t) (Unit {0}) s o (Ok out) cache o
+      → DoesOrStops (Flushed o name t) (Unit {0}) s o (Ok out) cache o
   carries_flush out said cached = (
     flush_deed o name t frames,
     flushed,
@@ -41,7 +41,7 @@ module _ (o : PendingData) (name : List (List ℕ)) (t : ℕ) (s list : List Obs
 
   pub stops_flush : (taken : ℕ) → taken < length list
       → IsCached (take taken list ++ s) cache.floor cache.items
-      → Carries (Flushed o name t) (Unit {0}) s o (Err (OutOfMemory taken)) cache o
+      → DoesOrStops (Flushed o name t) (Unit {0}) s o (Err (OutOfMemory taken)) cache o
   stops_flush taken within cached = (
     refl,
     inr (

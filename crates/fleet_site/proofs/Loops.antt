@@ -10,14 +10,14 @@ use Rattle.fleet_site.specs.SiteModel.{SiteModel}
 use Rattle.fleet_site.specs.StandsFor.{StandsFor}
 use Rattle.fleet_site.specs.server.PortRecord.{PortState, Made}
 use Rattle.fleet_site.specs.steps.Turned.{Took}
-use Rattle.fleet_site.specs.server.Turn.{Act, Between, Deal, Deals, Ticks, Turns, start_of}
+use Rattle.fleet_site.specs.server.Turn.{Action, ServerState, TurnStep, TurnStepSays, Ticks, Turns, start_of}
 use Rattle.fleet_site.specs.declared.outcome.SiteFault.{SiteFault}
 use Rattle.fleet_site.specs.declared.report.Report.{Report}
 
 -- for each model that the site stood for this is a step, and the site stands for the model
 -- afterwards
-pub record Stepped (x : Deal) (a : Result OutcomeData SiteFault) (old new : SiteData) : Type 0 where
-  pub step : (m : SiteModel) → StandsFor old m → (n : SiteModel) × Deals m x a n × StandsFor new n
+pub record Stepped (x : TurnStep) (a : Result OutcomeData SiteFault) (old new : SiteData) : Type 0 where
+  pub step : (m : SiteModel) → StandsFor old m → (n : SiteModel) × TurnStepSays m x a n × StandsFor new n
   pub config : new.config ≡ old.config
 
 -- how many entries of a site are due at a moment, which raises its clock
@@ -38,15 +38,15 @@ ticks_left false due = 0
 pub record Ticking (old new : PortState) (t : ℕ) (more : Bool) (site after : SiteData)
     (r q : Report)
     : Type 0 where
-  pub acts : List Act
-  pub ticks : Ticks t acts more
-  pub few : length acts + room more (due_by after t) ≤ MOST_ENTRIES
-  pub took : Took old new site after r q acts
+  pub actions : List Action
+  pub ticks : Ticks t actions more
+  pub few : length actions + room more (due_by after t) ≤ MOST_ENTRIES
+  pub took : Took old new site after r q actions
 
 -- some turns of a run
 pub record Serves (old new : PortState) (moments : Option (ℕ → ℕ)) (s : Stream) (n every : ℕ)
     (site after : SiteData) (swept : Option ℕ) (report : Report) : Type 0 where
-  pub end : Between
+  pub end : ServerState
   pub run : Turns moments s every n (start_of site) end
   pub made : Made old new end.calls
   pub is_site : after ≡ end.site

@@ -8,7 +8,7 @@ use Rattle.fleet_site.specs.SiteData.{SiteData}
 use Rattle.fleet_site.specs.StandsFor.{StandsFor}
 use Rattle.fleet_site.specs.server.PortRecord.{PortCall, Received, NoDatagram, Fault, PacketSent, PacketLost, PortState, failures_of, one_more}
 use Rattle.fleet_site.specs.server.Sending.{count_call, count_calls, count_refusal_in, count_step}
-use Rattle.fleet_site.specs.server.Turn.{Act, calls_of, count_acts, Acts, Between, Turn, left_after, word_of, IsPast, IsMomentOfTurn, Turns, empty_report, start_of}
+use Rattle.fleet_site.specs.server.Turn.{Action, calls_of, count_actions, ActionsLead, ServerState, Turn, left_after, word_of, HasPassed, IsMomentOfTurn, Turns, empty_report, start_of}
 use Rattle.fleet_site.specs.server.Served.{Served, FollowsSteps}
 use Rattle.fleet_site.specs.steps.Turned.{Turned}
 use Rattle.fleet_site.specs.declared.outcome.SiteFault.{SiteFault}
@@ -17,19 +17,19 @@ use Rattle.fleet_site.proofs.ServerLists.{made_none, made_both, failures_of-appe
 use Rattle.fleet_site.proofs.ServerTurns.{acts_both}
 use Rattle.fleet_site.proofs.Loops.{Serves, CountsFailures}
 
-moment_at : (f : ℕ → ℕ) (n t : ℕ) (now next : Option (ℕ → ℕ)) → IsPast (Some f) n now
+moment_at : (f : ℕ → ℕ) (n t : ℕ) (now next : Option (ℕ → ℕ)) → HasPassed (Some f) n now
     → IfSome now (λ h. (t ≡ h 0) × (next ≡ Some (λ k. h (k + 1)))) → t ≡ f n
 moment_at f n t now next a c =
     let d = subst (λ (o : Option (ℕ → ℕ)). IfSome o
     (λ h. (t ≡ h 0) × (next ≡ Some (λ k. h (k + 1))))) a.1 c in
     d.0 ∙ a.2 0 ∙ ap f (add-zero n)
 
-pub past_none : (moments : Option (ℕ → ℕ)) → IsPast moments 0 moments
+pub past_none : (moments : Option (ℕ → ℕ)) → HasPassed moments 0 moments
 past_none None = tt
 past_none (Some f) = (f, refl, λ k. ap f (let e : k ≡ 0 + k = omega arith in e))
 
-pub past_more : (ms now next : Option (ℕ → ℕ)) (n t : ℕ) → IsPast ms n now
-    → IfSome now (λ h. (t ≡ h 0) × (next ≡ Some (λ k. h (k + 1)))) → IsPast ms (n + 1) next
+pub past_more : (ms now next : Option (ℕ → ℕ)) (n t : ℕ) → HasPassed ms n now
+    → IfSome now (λ h. (t ≡ h 0) × (next ≡ Some (λ k. h (k + 1)))) → HasPassed ms (n + 1) next
 past_more None now next n t a c = tt
 past_more (Some f) now next n t a c =
     let d = subst (λ (o : Option (ℕ → ℕ)). IfSome o
@@ -40,7 +40,7 @@ past_more (Some f) now next n t a c =
           (let e : n + (k + 1) ≡ (n + 1) + k = omega arith in e),
     )
 
-pub is_moment : (ms now next : Option (ℕ → ℕ)) (n t : ℕ) → IsPast ms n now
+pub is_moment : (ms now next : Option (ℕ → ℕ)) (n t : ℕ) → HasPassed ms n now
     → IfSome now (λ h. (t ≡ h 0) × (next ≡ Some (λ k. h (k + 1)))) → IsMomentOfTurn ms n t
 is_moment None now next n t a c = tt
 is_moment (Some f) now next n t a c = moment_at f n t now next a c
@@ -96,9 +96,9 @@ pub serves_more : (old mid new : PortState) (ms : Option (ℕ → ℕ)) (s : Str
     → Turned mid new t w every b c swept last r q
     → Serves old new ms s (n + 1) every a c (Some last) q
 serves_more old mid new ms s n every t w last a b c swept r q k m e x =
-    let start : Between = start_of a in
-    let here : Between = record { site = b; calls = k.end.calls; swept = swept; report = r } in
-    let end : Between = record {
+    let start : ServerState = start_of a in
+    let here : ServerState = record { site = b; calls = k.end.calls; swept = swept; report = r } in
+    let end : ServerState = record {
       site = c;
       calls = k.end.calls ++ x.calls;
       swept = Some last;
@@ -116,7 +116,7 @@ serves_more old mid new ms s n every t w last a b c swept r q k m e x =
     let drawn : Turn t (word_of s n) every here end =
     subst (λ (y : ℕ). Turn t y every here end) e turn in
     let from : Turn t (word_of s n) every k.end end =
-    subst (λ (y : Between). Turn t (word_of s n) every y end) (sym same) drawn in
+    subst (λ (y : ServerState). Turn t (word_of s n) every y end) (sym same) drawn in
     let all : Turns ms s every (suc n) start end = (k.end, t, k.run, m, from) in
     record {
       end = end;
@@ -204,39 +204,39 @@ counts_step : (x : Result OutcomeData SiteFault) (a : ℕ) (r : Report)
 counts_step (Ok e) a r = counts_refusal (is_some e.refused) a r
 counts_step (Err f) a r = counts_same a r _ refl refl
 
-counts_acts : (xs : List Act) (a : ℕ) (r : Report)
-    → CountsFailures a (failures_of (calls_of xs) a) r (count_acts xs r)
-counts_acts [] a r = counts_same a r r refl refl
-counts_acts (x ∷ xs) a r =
+counts_actions : (xs : List Action) (a : ℕ) (r : Report)
+    → CountsFailures a (failures_of (calls_of xs) a) r (count_actions xs r)
+counts_actions [] a r = counts_same a r r refl refl
+counts_actions (x ∷ xs) a r =
     let one = counts_more a a (failures_of x.calls a) r (count_step x.answer r)
     (count_calls x.calls (count_step x.answer r)) (counts_step x.answer a r)
     (counts_calls x.calls a (count_step x.answer r)) in
-    let rest = counts_acts xs (failures_of x.calls a)
+    let rest = counts_actions xs (failures_of x.calls a)
     (count_calls x.calls (count_step x.answer r)) in
     rw (failures_of-append x.calls (calls_of xs) a)
     (counts_more a (failures_of x.calls a) (failures_of (calls_of xs) (failures_of x.calls a)) r
     (count_calls x.calls (count_step x.answer r))
-    (count_acts xs (count_calls x.calls (count_step x.answer r))) one rest)
+    (count_actions xs (count_calls x.calls (count_step x.answer r))) one rest)
 
-counts_turn : (t w every : ℕ) (a b : Between) (n : ℕ) → Turn t w every a b
+counts_turn : (t w every : ℕ) (a b : ServerState) (n : ℕ) → Turn t w every a b
     → CountsFailures (failures_of a.calls n) (failures_of b.calls n) a.report b.report
 counts_turn t w every a b n k =
-    let acts = k.given ++ (k.ticks ++ k.sweep) in
+    let actions = k.given ++ (k.ticks ++ k.sweep) in
     let start : Report = record a.report { turns = one_more a.report.turns } in
     let x = failures_of a.calls n in
     let one = counts_same x a.report start refl refl in
     let two = counts_calls (k.arrival ∷ []) x start in
-    let three = counts_acts acts (failures_of (k.arrival ∷ []) x) (count_call k.arrival start) in
-    let all = counts_more _ _ _ a.report start (count_acts acts (count_call k.arrival start)) one
+    let three = counts_actions actions (failures_of (k.arrival ∷ []) x) (count_call k.arrival start) in
+    let all = counts_more _ _ _ a.report start (count_actions actions (count_call k.arrival start)) one
     (counts_more _ _ _ start (count_call k.arrival start)
-    (count_acts acts (count_call k.arrival start)) two three) in
-    let e : failures_of b.calls n ≡ failures_of (calls_of acts) (failures_of (k.arrival ∷ []) x) =
+    (count_actions actions (count_call k.arrival start)) two three) in
+    let e : failures_of b.calls n ≡ failures_of (calls_of actions) (failures_of (k.arrival ∷ []) x) =
     ap (λ (cs : List PortCall). failures_of cs n) k.calls
-    ∙ failures_of-append a.calls (k.arrival ∷ calls_of acts) n
-    ∙ failures_of-append (k.arrival ∷ []) (calls_of acts) x in
+    ∙ failures_of-append a.calls (k.arrival ∷ calls_of actions) n
+    ∙ failures_of-append (k.arrival ∷ []) (calls_of actions) x in
     rw (e, k.report) all
 
-counts_turns : (ms : Option (ℕ → ℕ)) (s : Stream) (every m : ℕ) (a b : Between) (n : ℕ)
+counts_turns : (ms : Option (ℕ → ℕ)) (s : Stream) (every m : ℕ) (a b : ServerState) (n : ℕ)
     → Turns ms s every m a b → CountsFailures (failures_of a.calls n) (failures_of b.calls n)
     a.report b.report
 counts_turns ms s every zero a b n h =
@@ -260,11 +260,11 @@ serves_failures old new ms s n every a b swept r k l i j =
     omega arith
 
 -- over a whole run the site follows the steps
-run_follows : (ms : Option (ℕ → ℕ)) (s : Stream) (every n : ℕ) (a b : Between)
+run_follows : (ms : Option (ℕ → ℕ)) (s : Stream) (every n : ℕ) (a b : ServerState)
     → Turns ms s every n a b → (m : SiteModel) → StandsFor a.site m
-    → (k : SiteModel) × (acts : List Act) × Acts m acts k × StandsFor b.site k
+    → (k : SiteModel) × (actions : List Action) × ActionsLead m actions k × StandsFor b.site k
 run_follows ms s every zero a b h m i =
-    (m, [], refl, subst (λ (x : Between). StandsFor x.site m) (sym h) i)
+    (m, [], refl, subst (λ (x : ServerState). StandsFor x.site m) (sym h) i)
 run_follows ms s every (suc n) a b h m i =
     let x = run_follows ms s every n a h.0 h.2 m i in
     let y = h.4.acted.steps x.0 x.3 in (

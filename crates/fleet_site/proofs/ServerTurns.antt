@@ -18,40 +18,40 @@ use Rattle.fleet_site.specs.Tick.{LeavesFewer}
 use Rattle.fleet_site.specs.server.PortRecord.{PortCall, Received, NoDatagram, Fault, NotesAll, PortState, Made, one_more}
 use Rattle.fleet_site.specs.server.Sending.{AreSent, packets_of, count_call, count_calls, count_step, goes_on}
 use Rattle.fleet_site.specs.steps.Sends.{sweep_outcome, Sends, CarriesOut}
-use Rattle.fleet_site.specs.server.Turn.{Deal, calling, sweeping, Act, calls_of, count_acts, AllSent, Acts, Acted, ROOM, no_tick, next_tick, IsSweepDue}
+use Rattle.fleet_site.specs.server.Turn.{TurnStep, calling, sweeping, Action, calls_of, count_actions, AllSent, ActionsLead, HasActed, ROOM, no_tick, next_tick, IsSweepDue}
 use Rattle.fleet_site.specs.steps.Turned.{Turned, Took, GivenOne, Heard, TickedAll, SweptOnce}
 use Rattle.fleet_site.specs.declared.outcome.SiteFault.{SiteFault}
 use Rattle.fleet_site.specs.declared.report.Report.{Report}
 use Rattle.fleet_site.proofs.ServerLists.{made_none, made_both}
 use Rattle.fleet_site.proofs.Loops.{due_by, room, Ticking, Stepped}
 
-calls_of-append : (ys bs : List Act) → calls_of (ys ++ bs) ≡ calls_of ys ++ calls_of bs
+calls_of-append : (ys bs : List Action) → calls_of (ys ++ bs) ≡ calls_of ys ++ calls_of bs
 calls_of-append [] bs = refl
 calls_of-append (a ∷ ys) bs =
     ap (λ xs. a.calls ++ xs) (calls_of-append ys bs)
     ∙ sym (append_assoc a.calls (calls_of ys) (calls_of bs))
 
-count_acts-append : (ys bs : List Act) (r : Report)
-    → count_acts (ys ++ bs) r ≡ count_acts bs (count_acts ys r)
-count_acts-append [] bs r = refl
-count_acts-append (a ∷ ys) bs r =
-    count_acts-append ys bs (count_calls a.calls (count_step a.answer r))
+count_actions-append : (ys bs : List Action) (r : Report)
+    → count_actions (ys ++ bs) r ≡ count_actions bs (count_actions ys r)
+count_actions-append [] bs r = refl
+count_actions-append (a ∷ ys) bs r =
+    count_actions-append ys bs (count_calls a.calls (count_step a.answer r))
 
-all_sent_both : (peers : List Addr) (ys bs : List Act) → AllSent peers ys → AllSent peers bs
+all_sent_both : (peers : List Addr) (ys bs : List Action) → AllSent peers ys → AllSent peers bs
     → AllSent peers (ys ++ bs)
 all_sent_both peers [] bs h k = k
 all_sent_both peers (a ∷ ys) bs h k = (h.0, all_sent_both peers ys bs h.1 k)
 
-pub acts_both : (m k n : SiteModel) (ys bs : List Act) → Acts m ys k → Acts k bs n
-    → Acts m (ys ++ bs) n
-acts_both m k n [] bs h i = subst (λ (x : SiteModel). Acts x bs n) h i
+pub acts_both : (m k n : SiteModel) (ys bs : List Action) → ActionsLead m ys k → ActionsLead k bs n
+    → ActionsLead m (ys ++ bs) n
+acts_both m k n [] bs h i = subst (λ (x : SiteModel). ActionsLead x bs n) h i
 acts_both m k n (a ∷ ys) bs h i = (h.0, h.1, acts_both h.0 k n ys bs h.2 i)
 
-acted_none : (s : SiteData) → Acted s s []
+acted_none : (s : SiteData) → HasActed s s []
 acted_none s = record { steps = λ m h. (m, refl, h); config = refl; sent = tt }
 
-acted_both : (s t u : SiteData) (ys bs : List Act) → Acted s t ys → Acted t u bs
-    → Acted s u (ys ++ bs)
+acted_both : (s t u : SiteData) (ys bs : List Action) → HasActed s t ys → HasActed t u bs
+    → HasActed s u (ys ++ bs)
 acted_both s t u ys bs a b = record {
   steps = λ m h. let x = a.steps m h in let y = b.steps x.0 x.2 in
       (y.0, acts_both m x.0 y.0 ys bs x.1 y.1, y.2);
@@ -63,32 +63,32 @@ acted_both s t u ys bs a b = record {
 pub took_none : (old : PortState) (s : SiteData) (r : Report) → Took old old s s r r []
 took_none old s r = record { acted = acted_none s; made = made_none old; report = refl }
 
-took_both : (old mid new : PortState) (s t u : SiteData) (r q p : Report) (ys bs : List Act)
+took_both : (old mid new : PortState) (s t u : SiteData) (r q p : Report) (ys bs : List Action)
     → Took old mid s t r q ys → Took mid new t u q p bs → Took old new s u r p (ys ++ bs)
 took_both old mid new s t u r q p ys bs a b = record {
   acted = acted_both s t u ys bs a.acted b.acted;
   made = rw (calls_of-append ys bs) (made_both old mid new (calls_of ys) (calls_of bs) a.made
       b.made);
-  report = b.report ∙ ap (count_acts bs) a.report ∙ sym (count_acts-append ys bs r);
+  report = b.report ∙ ap (count_actions bs) a.report ∙ sym (count_actions-append ys bs r);
 }
 
 -- one step that was carried out
-abbrev pub act_of : Deal → Result OutcomeData SiteFault → List PortCall → Act
-act_of x a calls = record { deal = x; answer = a; calls = calls }
+abbrev pub action_of : TurnStep → Result OutcomeData SiteFault → List PortCall → Action
+action_of x a calls = record { step = x; answer = a; calls = calls }
 
-acted_one : (s t : SiteData) (x : Deal) (a : Result OutcomeData SiteFault) (calls : List PortCall)
+acted_one : (s t : SiteData) (x : TurnStep) (a : Result OutcomeData SiteFault) (calls : List PortCall)
     → Stepped x a s t → AreSent (packets_of t.config.peers a) calls
-    → Acted s t (act_of x a calls ∷ [])
+    → HasActed s t (action_of x a calls ∷ [])
 acted_one s t x a calls h k = record {
   steps = λ m i. let y = h.step m i in (y.0, (y.0, y.1, refl), y.2);
   config = h.config;
   sent = (subst (λ (z : _). AreSent (packets_of z.peers a) calls) h.config k, tt);
 }
 
-took_one : (old new : PortState) (s t : SiteData) (x : Deal) (a : Result OutcomeData SiteFault)
+took_one : (old new : PortState) (s t : SiteData) (x : TurnStep) (a : Result OutcomeData SiteFault)
     (r q : Report)
     → Stepped x a s t → (c : CarriesOut old new t.config.peers a r q)
-    → Took old new s t r q (act_of x a c.calls ∷ [])
+    → Took old new s t r q (action_of x a c.calls ∷ [])
 took_one old new s t x a r q h c = record {
   acted = acted_one s t x a c.calls h c.sent;
   made = rw (append-nil c.calls) c.made;
@@ -101,8 +101,8 @@ pub given_one : (old new : PortState) (t w : ℕ) (s u : SiteData) (r q : Report
     → Stepped (calling (datagram t from octets w)) a s u → CarriesOut old new u.config.peers a r q
     → GivenOne old new t from octets w s u r q
 given_one old new t w s u r q from octets a k c = record {
-  act = act_of (calling (datagram t from octets w)) a c.calls;
-  deal = refl;
+  action = action_of (calling (datagram t from octets w)) a c.calls;
+  step = refl;
   took = took_one old new s u (calling (datagram t from octets w)) a r q k c;
 }
 
@@ -132,12 +132,12 @@ pub heard_one : (old mid new : PortState) (asked t w : ℕ) (s u : SiteData) (r 
 heard_one old mid new asked t w s u r q p from octets m n i e g = record {
   arrival = Received asked from octets;
   asks = m;
-  acts = g.act ∷ [];
-  given = (g.act, refl, g.deal);
+  actions = g.action ∷ [];
+  given = (g.action, refl, g.step);
   acted = g.took.acted;
-  made = made_both old mid new (Received asked from octets ∷ []) (calls_of (g.act ∷ []))
+  made = made_both old mid new (Received asked from octets ∷ []) (calls_of (g.action ∷ []))
       (record { told = n; failed = i }) g.took.made;
-  report = g.took.report ∙ ap (count_acts (g.act ∷ [])) e;
+  report = g.took.report ∙ ap (count_actions (g.action ∷ [])) e;
 }
 
 pub heard_none : (old new : PortState) (asked t w : ℕ) (s : SiteData) (r q : Report)
@@ -147,7 +147,7 @@ pub heard_none : (old new : PortState) (asked t w : ℕ) (s : SiteData) (r q : R
 heard_none old new asked t w s r q m n i e =
     record {
       arrival = NoDatagram asked;
-      acts = [];
+      actions = [];
       asks = m;
       given = refl;
       acted = acted_none s;
@@ -162,7 +162,7 @@ pub heard_fault : (old new : PortState) (asked t w : ℕ) (s : SiteData) (r q : 
 heard_fault old new asked t w s r q m n i e =
     record {
       arrival = Fault asked;
-      acts = [];
+      actions = [];
       asks = m;
       given = refl;
       acted = acted_none s;
@@ -178,15 +178,15 @@ swept_now old new every since t s r q peers a due i k c =
     let y : CarriesOut old new s.config.peers a r q =
     subst (λ (ps : List Addr). CarriesOut old new ps a r q) i c in
     record {
-      acts = act_of sweeping a y.calls ∷ [];
-      swept = inl (due, (act_of sweeping a y.calls, refl, refl, refl));
+      actions = action_of sweeping a y.calls ∷ [];
+      swept = inl (due, (action_of sweeping a y.calls, refl, refl, refl));
       took = took_one old new s s sweeping a r q k y;
     }
 
 pub swept_not : (old : PortState) (every since t : ℕ) (s : SiteData) (r : Report)
     → (¬ IsSweepDue every since t) → SweptOnce old old every since t since s s r r
 swept_not old every since t s r not_due =
-    record { acts = []; swept = inr (not_due, (refl, refl)); took = took_none old s r }
+    record { actions = []; swept = inr (not_due, (refl, refl)); took = took_none old s r }
 
 -- ticks
 few_more : (b : Bool) (n d e : ℕ) → n + room true d ≤ MOST_ENTRIES → (b ≡ true → (0 < e) × (e < d))
@@ -198,7 +198,7 @@ few_more false n d e h f = omega arith
 pub ticking_none : (old : PortState) (t : ℕ) (s : SiteData) (r : Report) → due_by s t ≤ MOST_ENTRIES
     → Ticking old old t true s s r r
 ticking_none old t s r few =
-    record { acts = []; ticks = no_tick; few = omega arith; took = took_none old s r }
+    record { actions = []; ticks = no_tick; few = omega arith; took = took_none old s r }
 
 pub ticking_more : (old mid new : PortState) (t : ℕ) (s u v : SiteData) (r q p : Report)
     (a : Result OutcomeData SiteFault)
@@ -207,18 +207,18 @@ pub ticking_more : (old mid new : PortState) (t : ℕ) (s u v : SiteData) (r q p
     → v.clock ≡ max u.clock t → (goes_on a ≡ true → LeavesFewer u.pending v.pending v.clock)
     → Ticking old new t (goes_on a) s v r p
 ticking_more old mid new t s u v r q p a k h c e fewer =
-    let act = act_of (calling (tick t)) a c.calls in
-    let n : length (k.acts ++ act ∷ []) ≡ length k.acts + 1 = length-append k.acts (act ∷ []) in
+    let action = action_of (calling (tick t)) a c.calls in
+    let n : length (k.actions ++ action ∷ []) ≡ length k.actions + 1 = length-append k.actions (action ∷ []) in
     let same : max v.clock t ≡ v.clock = omega arith in
     let later : due_at v.pending v.clock ≡ due_by v t = ap (due_at v.pending) (sym same) in
     let before : due_at u.pending v.clock ≡ due_by u t = ap (due_at u.pending) e in
     let less : goes_on a ≡ true → (0 < due_by v t) × (due_by v t < due_by u t) =
     λ i. (let z = fewer i in let x = z.some in let y = z.fewer in (omega arith, omega arith)) in
     record {
-      acts = k.acts ++ act ∷ [];
-      ticks = next_tick act k.ticks refl;
-      few = rw n (few_more (goes_on a) (length k.acts) (due_by u t) (due_by v t) k.few less);
-      took = took_both old mid new s u v r q p k.acts (act ∷ []) k.took
+      actions = k.actions ++ action ∷ [];
+      ticks = next_tick action k.ticks refl;
+      few = rw n (few_more (goes_on a) (length k.actions) (due_by u t) (due_by v t) k.few less);
+      took = took_both old mid new s u v r q p k.actions (action ∷ []) k.took
           (took_one mid new u v (calling (tick t)) a q p h c);
     }
 
@@ -250,8 +250,8 @@ pub ticks_all : (old new : PortState) (t : ℕ) (b : Bool) (s u : SiteData) (r q
 ticks_all old new t b s u r q e k =
     let j : Ticking old new t false s u r q =
     subst (λ (x : Bool). Ticking old new t x s u r q) e k in
-    let n : length j.acts + 0 ≤ MOST_ENTRIES = j.few in
-    record { acts = j.acts; ticks = j.ticks; few = omega arith; took = j.took }
+    let n : length j.actions + 0 ≤ MOST_ENTRIES = j.few in
+    record { actions = j.actions; ticks = j.ticks; few = omega arith; took = j.took }
 
 -- a turn
 turns_parts : (old one two new : PortState) (t w every last : ℕ) (since : Option ℕ)
@@ -261,36 +261,36 @@ turns_parts : (old one two new : PortState) (t w every last : ℕ) (since : Opti
     → SweptOnce two new every (unwrap_or since t) t last v v p z
     → Turned old new t w every s v since last r z
 turns_parts old one two new t w every last since s u v r q p z a b c =
-    let acts = a.acts ++ (b.acts ++ c.acts) in
-    let made = made_both old one new (a.arrival ∷ calls_of a.acts)
-    (calls_of b.acts ++ calls_of c.acts) a.made (made_both one two new (calls_of b.acts)
-    (calls_of c.acts) b.took.made c.took.made) in
-    let e : calls_of acts ≡ calls_of a.acts ++ (calls_of b.acts ++ calls_of c.acts) =
-    calls_of-append a.acts (b.acts ++ c.acts) ∙ ap (λ (x : List PortCall). calls_of a.acts ++ x)
-    (calls_of-append b.acts c.acts) in
+    let actions = a.actions ++ (b.actions ++ c.actions) in
+    let made = made_both old one new (a.arrival ∷ calls_of a.actions)
+    (calls_of b.actions ++ calls_of c.actions) a.made (made_both one two new (calls_of b.actions)
+    (calls_of c.actions) b.took.made c.took.made) in
+    let e : calls_of actions ≡ calls_of a.actions ++ (calls_of b.actions ++ calls_of c.actions) =
+    calls_of-append a.actions (b.actions ++ c.actions) ∙ ap (λ (x : List PortCall). calls_of a.actions ++ x)
+    (calls_of-append b.actions c.actions) in
     let first : Report = count_call a.arrival (record r { turns = one_more r.turns }) in
-    let n : count_acts acts first ≡ count_acts c.acts
-    (count_acts b.acts (count_acts a.acts first)) =
-    count_acts-append a.acts (b.acts ++ c.acts) first
-    ∙ count_acts-append b.acts c.acts (count_acts a.acts first) in
+    let n : count_actions actions first ≡ count_actions c.actions
+    (count_actions b.actions (count_actions a.actions first)) =
+    count_actions-append a.actions (b.actions ++ c.actions) first
+    ∙ count_actions-append b.actions c.actions (count_actions a.actions first) in
     record {
-      calls = a.arrival ∷ calls_of acts;
+      calls = a.arrival ∷ calls_of actions;
       made = subst (λ (x : List PortCall). Made old new (a.arrival ∷ x)) (sym e) made;
       turn = record {
         arrival = a.arrival;
         asks = a.asks;
-        given = a.acts;
-        ticks = b.acts;
-        sweep = c.acts;
+        given = a.actions;
+        ticks = b.actions;
+        sweep = c.actions;
         is_given = a.given;
         are_ticks = b.ticks;
         few = b.few;
         is_swept = (last, c.swept, refl);
-        acted = acted_both s u v a.acts (b.acts ++ c.acts) a.acted
-            (acted_both u v v b.acts c.acts b.took.acted c.took.acted);
+        acted = acted_both s u v a.actions (b.actions ++ c.actions) a.acted
+            (acted_both u v v b.actions c.actions b.took.acted c.took.acted);
         calls = refl;
-        report = c.took.report ∙ ap (count_acts c.acts)
-            (b.took.report ∙ ap (count_acts b.acts) a.report) ∙ sym n;
+        report = c.took.report ∙ ap (count_actions c.actions)
+            (b.took.report ∙ ap (count_actions b.actions) a.report) ∙ sym n;
       };
     }
 

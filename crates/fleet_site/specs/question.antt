@@ -1,4 +1,4 @@
-pub mod Rows
+pub mod AnswerRecords
 pub mod Verdict
 pub mod Question
 pub mod Looking

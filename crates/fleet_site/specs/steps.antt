@@ -1,8 +1,8 @@
 pub mod Sender
 pub mod Carried
-pub mod Unheard
+pub mod ReplyFault
 pub mod Relayed
-pub mod Serving
+pub mod Plan
 pub mod Writing
 pub mod Turned
 pub mod Sends

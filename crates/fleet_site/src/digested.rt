@@ -2,29 +2,29 @@
 
 ghost use Rattle.std.specs.Prelude.{◌≡◌, IfOk, IfErr};
 ghost use Rattle.fleet_wire.specs.Message.{IsReply};
-ghost use Rattle.fleet_observe.specs.Meaning.{IsMeaning, IsSound};
-ghost use Rattle.fleet_site.specs.declared.digested.Unheard.TheVariants.{NoMemory};
-ghost use Rattle.fleet_site.specs.steps.Unheard.{IsUnread, IsUndigested};
+ghost use Rattle.fleet_observe.specs.DigestOf.{IsDigest, IsSound};
+ghost use Rattle.fleet_site.specs.declared.digested.ReplyFault.TheVariants.{NoMemory};
+ghost use Rattle.fleet_site.specs.steps.ReplyFault.{IsUnread, IsUndigested};
 
 use crate::outcome::Refusal;
-use fleet_observe::{Digest, DigestFault, digest, meaning_or_fault};
+use fleet_observe::{Digest, DigestFault, digest, digest_or_fault};
 use fleet_wire::{Message, ReadFault, read_reply};
 use std::alloc::{AllocError, Allocator};
 
 /// Why a reply is not heard.
 #[derive(Clone, Copy, Debug, PartialEq, Eq)]
-pub(crate) enum Unheard {
+pub(crate) enum ReplyFault {
     /// It is refused.
     Refused(Refusal),
     /// There was no memory for it.
     NoMemory,
 }
 
-impl From<AllocError> for Unheard {
+impl From<AllocError> for ReplyFault {
     ghost from_gives = { λ _ e. e ≡ NoMemory };
 
-    fn from(_error: AllocError) -> Unheard {
-        Unheard::NoMemory
+    fn from(_error: AllocError) -> ReplyFault {
+        ReplyFault::NoMemory
     }
 }
 
@@ -32,7 +32,7 @@ impl From<AllocError> for Unheard {
 pub(crate) fn message_in<A: Allocator + Copy>(
     alloc: A,
     octets: &[u8],
-) -> Result<Message<A>, Unheard>
+) -> Result<Message<A>, ReplyFault>
     ensures read { IfOk result (λ r. IsReply octets.now r) }
     ensures refused { IfErr result (λ e. IsUnread octets.now e) }
 {
@@ -40,9 +40,9 @@ pub(crate) fn message_in<A: Allocator + Copy>(
         Ok(message) => Ok(message),
         Err(fault) => {
             if fault == ReadFault::OutOfMemory {
-                return Err(Unheard::NoMemory);
+                return Err(ReplyFault::NoMemory);
             }
-            Err(Unheard::Refused(Refusal::Read(fault)))
+            Err(ReplyFault::Refused(Refusal::Read(fault)))
         }
     }
 }
@@ -51,18 +51,18 @@ pub(crate) fn message_in<A: Allocator + Copy>(
 pub(crate) fn digest_of<A: Allocator + Copy>(
     alloc: A,
     message: &Message<A>,
-) -> Result<Digest<A>, Unheard>
-    ensures meaning { IfOk result (λ d. IsMeaning message.now d) }
+) -> Result<Digest<A>, ReplyFault>
+    ensures meaning { IfOk result (λ d. IsDigest message.now d) }
     ensures sound { IfOk result (λ _. IsSound message.now) }
     ensures refused { IfErr result (λ e. IsUndigested message.now e) }
 {
-    meaning_or_fault();
+    digest_or_fault();
     match digest(alloc, message) {
         Ok(told) => Ok(told),
         Err(fault) => match fault {
-            DigestFault::NotReply => Err(Unheard::Refused(Refusal::Digest(fault))),
-            DigestFault::BadChain => Err(Unheard::Refused(Refusal::Digest(fault))),
-            DigestFault::OutOfMemory => Err(Unheard::NoMemory),
+            DigestFault::NotReply => Err(ReplyFault::Refused(Refusal::Digest(fault))),
+            DigestFault::BadChain => Err(ReplyFault::Refused(Refusal::Digest(fault))),
+            DigestFault::OutOfMemory => Err(ReplyFault::NoMemory),
         },
     }
 }

@@ -4,7 +4,7 @@ ghost use Rattle.std.specs.Prelude.{◌≡◌};
 ghost use Rattle.fleet_observe.specs.Observation.{Observations};
 ghost use Rattle.fleet_cache.specs.Cached.{IsCached};
 ghost use Rattle.fleet_pending.specs.PendingData.{PendingData};
-ghost use Rattle.fleet_site.specs.steps.Carried.{Carries};
+ghost use Rattle.fleet_site.specs.steps.Carried.{DoesOrStops};
 ghost use Rattle.fleet_site.specs.gossip.Flush.{Flushed};
 
 use crate::outcome::{Frames, Outcome, Packets, SiteFault};
@@ -23,7 +23,7 @@ pub(crate) fn flush_name<A: Allocator + Copy>(
 ) -> Result<Outcome<A>, SiteFault>
     ensures flushed { (o : PendingData) (s : Observations)
         → IsCached s cache.old.floor cache.old.items
-        → Carries (Flushed o name.now clock) (Unit {0}) s o result cache.new o }
+        → DoesOrStops (Flushed o name.now clock) (Unit {0}) s o result cache.new o }
     ensures floor { cache.new.floor ≡ cache.old.floor }
 {
     let name = name.try_clone()?;

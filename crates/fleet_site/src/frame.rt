@@ -5,7 +5,7 @@ ghost use Rattle.fleet_observe.specs.Observation.{Observations};
 ghost use Rattle.fleet_cache.specs.Cached.{IsCached};
 ghost use Rattle.fleet_gossip.specs.Frame.{HasEntries};
 ghost use Rattle.fleet_pending.specs.PendingData.{PendingData};
-ghost use Rattle.fleet_site.specs.steps.Carried.{Carries, Takes};
+ghost use Rattle.fleet_site.specs.steps.Carried.{DoesOrStops, TakesOrStops};
 ghost use Rattle.fleet_site.specs.gossip.Frame.{Framed};
 
 use crate::outcome::{Outcome, Refusal, SiteFault};
@@ -22,7 +22,7 @@ pub(crate) fn take_frame<A: Allocator + Copy>(
 ) -> Result<Outcome<A>, SiteFault>
     ensures framed { (o : PendingData) (s : Observations)
         → IsCached s cache.old.floor cache.old.items
-        → Carries (Framed o octets.now) (HasEntries octets.now) s o result cache.new o }
+        → DoesOrStops (Framed o octets.now) (HasEntries octets.now) s o result cache.new o }
     ensures floor { cache.new.floor ≡ cache.old.floor }
 {
     match decode(alloc, octets) {
@@ -43,7 +43,7 @@ pub(crate) fn take_all<A: Allocator + Copy>(
     observations: Vec<Observation<A>, A>,
 ) -> Result<Outcome<A>, SiteFault>
     ensures taken { (s : Observations) → IsCached s cache.old.floor cache.old.items
-        → Takes s observations.items result cache.new }
+        → TakesOrStops s observations.items result cache.new }
     ensures floor { cache.new.floor ≡ cache.old.floor }
 {
     let taken = observations.len();

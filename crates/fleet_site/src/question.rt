@@ -6,7 +6,7 @@ ghost use Rattle.fleet_wire.specs.declared.class.TheConstants.{IN};
 ghost use Rattle.fleet_observe.specs.Observation.{Observations};
 ghost use Rattle.fleet_cache.specs.Cached.{IsCached};
 ghost use Rattle.fleet_pending.specs.Asking.{Asks, ask_result};
-ghost use Rattle.fleet_site.specs.steps.Carried.{Keeps, IsAskable, IsAnswered, TurnsAway, IsFirstSaid};
+ghost use Rattle.fleet_site.specs.steps.Carried.{SaysOrStops, IsAskable, IsAnswered, TurnsAway, IsFirstSaid};
 ghost use Rattle.fleet_site.specs.OutcomeData.{sends};
 ghost use Rattle.fleet_site.specs.question.Question.{Reacts, Forwards, Questioned, turns_away};
 ghost use Rattle.fleet_site.specs.Table.{IsTableOf, KeepsTable};
@@ -49,19 +49,19 @@ pub(crate) fn take_question<A: Allocator + Copy>(
     requires reached { cache.now.floor ≤ arrival.clock }
     requires table { IsTableOf upstreams.now pending.old }
     ensures questioned { (s : Observations) → IsCached s cache.now.floor cache.now.items
-        → Keeps
+        → SaysOrStops
         (Questioned s upstreams.now pending.old arrival.clock arrival.from arrival.word octets.now)
         (IsAsking octets.now) pending.old result pending.new }
     ensures table { KeepsTable pending.old pending.new }
 {
     match decide(alloc, cache, arrival.clock, octets) {
-        Ok(decision) => react(alloc, pending, upstreams, arrival, decision),
+        Ok(decision) => respond(alloc, pending, upstreams, arrival, decision),
         Err(_) => Err(SiteFault::OutOfMemory { taken: 0 }),
     }
 }
 
 /// What is done where this was decided.
-fn react<A: Allocator + Copy>(
+fn respond<A: Allocator + Copy>(
     alloc: A,
     pending: &mut Pending<A>,
     upstreams: &[Addr],
@@ -70,7 +70,7 @@ fn react<A: Allocator + Copy>(
 ) -> Result<Outcome<A>, SiteFault>
     requires askable { IsAskable decision }
     requires table { IsTableOf upstreams.now pending.old }
-    ensures reacts { Keeps (Reacts upstreams.now pending.old arrival.clock arrival.from arrival.word
+    ensures reacts { SaysOrStops (Reacts upstreams.now pending.old arrival.clock arrival.from arrival.word
         (verdict decision)) (IsAnswered decision) pending.old result pending.new }
     ensures table { KeepsTable pending.old pending.new }
 {
@@ -104,7 +104,7 @@ fn forward<A: Allocator + Copy>(
     requires opcode { header.opcode < 16 }
     requires class { question.class ≡ IN }
     requires table { IsTableOf upstreams.now pending.old }
-    ensures forwards { Keeps (Forwards upstreams.now pending.old arrival.clock arrival.from
+    ensures forwards { SaysOrStops (Forwards upstreams.now pending.old arrival.clock arrival.from
         arrival.word header question) ⊤ pending.old result pending.new }
     ensures table { KeepsTable pending.old pending.new }
 {
@@ -113,7 +113,7 @@ fn forward<A: Allocator + Copy>(
     let from = arrival.from;
     let id = header.id;
     let waiter = Waiter { from, id, question };
-    match enter(pending, waiter, arrival) {
+    match join_or_open(pending, waiter, arrival) {
         Ok(_) => Ok(outcome),
         Err(unasked) => turn_away(alloc, from, header, unasked),
     }
@@ -151,7 +151,7 @@ fn query_for<A: Allocator + Copy>(
 }
 
 /// A waiter asks, and as its question is of class 1 (IN), all that wait still asked for class 1.
-fn enter<A: Allocator + Copy>(
+fn join_or_open<A: Allocator + Copy>(
     pending: &mut Pending<A>,
     waiter: Waiter<A>,
     arrival: Arrival,
@@ -180,13 +180,13 @@ fn turn_away<A: Allocator + Copy>(
     let waiter = &unasked.waiter;
     match unasked.fault {
         PendingFault::OutOfMemory => Err(SiteFault::OutOfMemory { taken: 0 }),
-        PendingFault::Full => Ok(say_full(alloc, from, header, &waiter.question)?),
-        PendingFault::WaitersFull => Ok(say_full(alloc, from, header, &waiter.question)?),
+        PendingFault::Full => Ok(server_failure(alloc, from, header, &waiter.question)?),
+        PendingFault::WaitersFull => Ok(server_failure(alloc, from, header, &waiter.question)?),
     }
 }
 
 /// A server failure, with the question.
-fn say_full<A: Allocator + Copy>(
+fn server_failure<A: Allocator + Copy>(
     alloc: A,
     from: Addr,
     header: Header,

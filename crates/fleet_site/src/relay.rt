@@ -7,14 +7,14 @@ ghost use Rattle.fleet_observe.specs.Observation.{Observations};
 ghost use Rattle.fleet_observe.specs.Observations.{reply_observations};
 ghost use Rattle.fleet_cache.specs.Cached.{IsCached};
 ghost use Rattle.fleet_pending.specs.PendingData.{PendingData};
-ghost use Rattle.fleet_site.specs.steps.Carried.{Carries};
+ghost use Rattle.fleet_site.specs.steps.Carried.{DoesOrStops};
 ghost use Rattle.fleet_site.specs.reply.Learn.{Learnt};
 ghost use Rattle.fleet_site.specs.steps.Relayed.{IsRelayOf, IsMade, IsRelayFor, SaysRefusal, Unlearns};
 ghost use Rattle.fleet_site.specs.reply.Reply.{IsAnswering, IsReplying, Replied, relay_to};
 ghost use Rattle.fleet_site.specs.SiteModel.{takes};
 ghost use Rattle.fleet_site.specs.Table.{KeepsTable};
 
-use crate::digested::{Unheard, digest_of, message_in};
+use crate::digested::{ReplyFault, digest_of, message_in};
 use crate::frame::take_all;
 use crate::outcome::{Frames, Outcome, Packet, Packets, Refusal, SiteFault};
 use fleet_cache::Cache;
@@ -90,36 +90,36 @@ fn make_relay<A: Allocator + Copy>(
 }
 
 /// All that octets from an upstream make a site write.
-fn hear<A: Allocator + Copy>(
+fn relay_of<A: Allocator + Copy>(
     alloc: A,
     pending: &Pending<A>,
     upstream: u8,
     clock: Moment,
     octets: &[u8],
-) -> Result<Relay<A>, Unheard>
+) -> Result<Relay<A>, ReplyFault>
     ensures relayed { IfOk result (λ r. IsRelayOf pending.now clock upstream octets.now r) }
     ensures refused { IfErr result (λ e. Unlearns (Replied pending.now clock upstream octets.now)
         (IsReplying octets.now) pending.now e) }
 {
     let header = match read_header(octets) {
         Some(header) => header,
-        None => return Err(Unheard::Refused(Refusal::Dropped)),
+        None => return Err(ReplyFault::Refused(Refusal::Dropped)),
     };
     if header.response {
-        hear_reply(alloc, pending, upstream, clock, octets)
+        relay_of_reply(alloc, pending, upstream, clock, octets)
     } else {
-        Err(Unheard::Refused(Refusal::Dropped))
+        Err(ReplyFault::Refused(Refusal::Dropped))
     }
 }
 
 /// All that a reply from an upstream makes a site write.
-fn hear_reply<A: Allocator + Copy>(
+fn relay_of_reply<A: Allocator + Copy>(
     alloc: A,
     pending: &Pending<A>,
     upstream: u8,
     clock: Moment,
     octets: &[u8],
-) -> Result<Relay<A>, Unheard>
+) -> Result<Relay<A>, ReplyFault>
     requires { IsAnswering octets.now }
     ensures relayed { IfOk result (λ r. IsRelayOf pending.now clock upstream octets.now r) }
     ensures refused { IfErr result (λ e. Unlearns (Replied pending.now clock upstream octets.now)
@@ -133,7 +133,7 @@ fn hear_reply<A: Allocator + Copy>(
     let question = message.question();
     let entry = match pending.find(upstream, id, question) {
         Some(entry) => entry,
-        None => return Err(Unheard::Refused(Refusal::Unmatched)),
+        None => return Err(ReplyFault::Refused(Refusal::Unmatched)),
     };
     let digest = match digest_of(alloc, &message) {
         Ok(digest) => digest,
@@ -142,7 +142,7 @@ fn hear_reply<A: Allocator + Copy>(
     settling_gives_its_entry();
     match make_relay(alloc, &digest, clock, entry) {
         Ok(relay) => Ok(relay),
-        Err(_) => Err(Unheard::NoMemory),
+        Err(_) => Err(ReplyFault::NoMemory),
     }
 }
 
@@ -157,12 +157,12 @@ pub(crate) fn take_reply<A: Allocator + Copy>(
     octets: &[u8],
 ) -> Result<Outcome<A>, SiteFault>
     ensures replied { (s : Observations) → IsCached s cache.old.floor cache.old.items
-        → Carries (Replied pending.old clock upstream octets.now)
+        → DoesOrStops (Replied pending.old clock upstream octets.now)
         (IsReplying octets.now) s pending.old result cache.new pending.new }
     ensures floor { cache.new.floor ≡ cache.old.floor }
     ensures table { KeepsTable pending.old pending.new }
 {
-    match hear(alloc, pending, upstream, clock, octets) {
+    match relay_of(alloc, pending, upstream, clock, octets) {
         Ok(relay) => carry_out(cache, pending, relay),
         Err(unheard) => refuse(alloc, unheard),
     }
@@ -209,7 +209,7 @@ fn read_observations<A: Allocator + Copy>(
     alloc: A,
     clock: Moment,
     octets: &[u8],
-) -> Result<Vec<Observation<A>, A>, Unheard>
+) -> Result<Vec<Observation<A>, A>, ReplyFault>
     ensures learnt { IfOk result (λ v.
         (o : PendingData) → Learnt o clock octets.now (takes v.items o)) }
     ensures refused { IfErr result (λ e.
@@ -225,7 +225,7 @@ fn read_observations<A: Allocator + Copy>(
     };
     match observe(alloc, &digest, clock) {
         Ok(observed) => Ok(observed),
-        Err(_) => Err(Unheard::NoMemory),
+        Err(_) => Err(ReplyFault::NoMemory),
     }
 }
 
@@ -249,7 +249,7 @@ pub(crate) fn learn_reply<A: Allocator + Copy>(
 ) -> Result<Outcome<A>, SiteFault>
     ensures learnt { (o : PendingData) (s : Observations)
         → IsCached s cache.old.floor cache.old.items
-        → Carries (Learnt o clock octets.now) (HasReply octets.now) s o result cache.new o }
+        → DoesOrStops (Learnt o clock octets.now) (HasReply octets.now) s o result cache.new o }
     ensures floor { cache.new.floor ≡ cache.old.floor }
 {
     match read_observations(alloc, clock, octets) {
@@ -259,11 +259,11 @@ pub(crate) fn learn_reply<A: Allocator + Copy>(
 }
 
 /// A reply that is not heard.
-fn refuse<A: Allocator + Copy>(alloc: A, unheard: Unheard) -> Result<Outcome<A>, SiteFault>
+fn refuse<A: Allocator + Copy>(alloc: A, unheard: ReplyFault) -> Result<Outcome<A>, SiteFault>
     ensures { SaysRefusal unheard result }
 {
     match unheard {
-        Unheard::Refused(refusal) => Ok(Outcome::without_packets(alloc, 0, Some(refusal))),
-        Unheard::NoMemory => Err(SiteFault::OutOfMemory { taken: 0 }),
+        ReplyFault::Refused(refusal) => Ok(Outcome::without_packets(alloc, 0, Some(refusal))),
+        ReplyFault::NoMemory => Err(SiteFault::OutOfMemory { taken: 0 }),
     }
 }

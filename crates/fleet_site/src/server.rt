@@ -4,7 +4,7 @@ ghost use Rattle.std.specs.Prelude.{◌≡◌, ◌↔◌, IsTrue, ◌<◌, ◌+�
 ghost use Rattle.fleet_site.specs.declared.bounds.TheConstants.{MOST_COUNTED};
 ghost use Rattle.fleet_site.specs.server.Sending.{to_each, to_peers, count_refusal_in, goes_on};
 ghost use Rattle.fleet_site.specs.steps.Sends.{Sends, CarriesOut, sweep_outcome};
-ghost use Rattle.fleet_site.specs.server.Turn.{IsSweepDue, IsPast, left_after};
+ghost use Rattle.fleet_site.specs.server.Turn.{IsSweepDue, HasPassed, left_after};
 ghost use Rattle.fleet_site.specs.server.Served.{Served, FollowsSteps};
 ghost use Rattle.fleet_site.specs.steps.Turned.{Turned, GivenOne, Heard, TickedAll, SweptOnce};
 
@@ -250,7 +250,7 @@ pub fn serve<P: Port, C: Clock, R: Rng, A: Allocator + Copy>(
     ensures run { Served (P.tells port.old) (P.tells port.new) (C.moments clock.old)
         (R.stream rng.old) turns sweep_every site.old site.new result }
     ensures follows { FollowsSteps site.old site.new }
-    ensures moments { IsPast (C.moments clock.old) turns (C.moments clock.new) }
+    ensures moments { HasPassed (C.moments clock.old) turns (C.moments clock.new) }
     ensures words { R.stream rng.new ≡ left_after turns (R.stream rng.old) }
     ensures failures { result.lost < MOST_COUNTED → result.faults < MOST_COUNTED
         → (P.tells port.new).failed < MOST_COUNTED

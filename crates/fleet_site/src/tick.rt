@@ -3,8 +3,8 @@
 ghost use Rattle.std.specs.Prelude.{◌≡◌, ◌<◌, ◌+◌, IsTrue, IfOk, IfErr, Some, map};
 ghost use Rattle.fleet_pending.specs.Due.{NoneDue, Dues, due_entry};
 ghost use Rattle.fleet_pending.specs.PendingData.{IsEntryData};
-ghost use Rattle.fleet_site.specs.steps.Carried.{Keeps};
-ghost use Rattle.fleet_site.specs.steps.Serving.{IsPlan, SaysMore};
+ghost use Rattle.fleet_site.specs.steps.Carried.{SaysOrStops};
+ghost use Rattle.fleet_site.specs.steps.Plan.{IsPlan, SaysMore};
 ghost use Rattle.fleet_site.specs.Table.{IsTableOf, KeepsTable};
 ghost use Rattle.fleet_site.specs.Tick.{Ticked, LeavesFewer, failure_to};
 
@@ -129,7 +129,7 @@ pub(crate) fn serve_due<A: Allocator + Copy>(
     clock: Moment,
 ) -> Result<Outcome<A>, SiteFault>
     requires { IsTableOf upstreams.now pending.old }
-    ensures ticked { Keeps (Ticked upstreams.now pending.old clock)
+    ensures ticked { SaysOrStops (Ticked upstreams.now pending.old clock)
         (¬ NoneDue pending.old.entries clock) pending.old result pending.new }
     ensures fewer { IfOk result (λ o. IsTrue o.more → LeavesFewer pending.old pending.new clock) }
     ensures table { KeepsTable pending.old pending.new }

@@ -9,7 +9,7 @@ ghost use Rattle.fleet_cache.specs.AnswerData.{answer_data};
 ghost use Rattle.fleet_site.specs.steps.Carried.{IsAskable, IsAnswered, SaysUnread};
 ghost use Rattle.fleet_site.specs.question.Verdict.{IsAsking, verdict, IsServedQuestion, DecidesAnswer, DecidesQuestion, Decides};
 
-use crate::writing::{bare_reply, is_miss, reply_without, tell};
+use crate::writing::{bare_reply, is_miss, reply_without, reply_with_answer};
 use fleet_cache::{Answer, Cache};
 use fleet_name::Octets;
 use fleet_observe::{Moment, is_data_type};
@@ -129,6 +129,6 @@ fn decide_answer<A: Allocator + Copy>(
     if is_miss(answer) {
         return Ok(Decision::Miss(header, question));
     }
-    let reply = tell(alloc, header, &question, answer)?;
+    let reply = reply_with_answer(alloc, header, &question, answer)?;
     Ok(Decision::Reply(reply))
 }

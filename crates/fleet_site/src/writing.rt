@@ -6,7 +6,7 @@ ghost use Rattle.fleet_cache.specs.Answer.{Missed};
 ghost use Rattle.fleet_cache.specs.AnswerData.{answer_data};
 ghost use Rattle.fleet_cache.specs.Kinds.{HasKinds, IsPositivePart, ArePositiveParts};
 ghost use Rattle.fleet_cache.specs.Shown.{shown_parts};
-ghost use Rattle.fleet_site.specs.question.Rows.{bare_outline, bare_octets, Writes};
+ghost use Rattle.fleet_site.specs.question.AnswerRecords.{bare_outline, bare_octets, Writes};
 ghost use Rattle.fleet_site.specs.steps.Writing.{answer_rcode, AddsRows, AddsChainRows, AddsSoaRow, AddsAnswer, IsNegativePart};
 
 use fleet_cache::{Answer, Shown};
@@ -24,7 +24,7 @@ pub(crate) fn is_miss<A: Allocator>(answer: &Answer<'_, A>) -> bool
 }
 
 /// The reply that tells an answer, in memory of its own.
-pub(crate) fn tell<A: Allocator + Copy>(
+pub(crate) fn reply_with_answer<A: Allocator + Copy>(
     alloc: A,
     header: Header,
     question: &Question<A>,

@@ -3,7 +3,7 @@
 ghost use Rattle.std.specs.Prelude.{◌≡◌, ◌<◌, ◌≤◌, length, IfSome, MatchOption};
 ghost use Rattle.fleet_wire.specs.Message.{header_of, IsHeader};
 
-use crate::number::short_at;
+use crate::number::read_u16;
 
 /// The header of a message (RFC 1035 4.1.1). RA and the Z bits are not kept.
 #[derive(Clone, Copy, Debug, PartialEq, Eq)]
@@ -33,7 +33,7 @@ pub(crate) fn header_at(message: &[u8]) -> Header
 {
     let flags = message[2];
     Header {
-        id: short_at(message, 0),
+        id: read_u16(message, 0),
         response: flags >= 128,
         opcode: flags / 8 % 16,
         aa: flags / 4 % 2 == 1,
@@ -41,10 +41,10 @@ pub(crate) fn header_at(message: &[u8]) -> Header
         rd: flags % 2 == 1,
         rcode: message[3] % 16,
         counts: [
-            short_at(message, 4),
-            short_at(message, 6),
-            short_at(message, 8),
-            short_at(message, 10),
+            read_u16(message, 4),
+            read_u16(message, 6),
+            read_u16(message, 8),
+            read_u16(message, 10),
         ],
     }
 }

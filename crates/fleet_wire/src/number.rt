@@ -6,7 +6,7 @@ ghost use Rattle.fleet_wire.specs.Number.{u16_at, u32_at, u16_octets, u32_octets
 use std::alloc::{AllocError, Allocator};
 
 /// The number in the two octets at a place.
-pub(crate) fn short_at(message: &[u8], at: usize) -> u16
+pub(crate) fn read_u16(message: &[u8], at: usize) -> u16
     requires { at + 2 ≤ length message.now }
     ensures { result ≡ u16_at message.now at }
 {
@@ -14,7 +14,7 @@ pub(crate) fn short_at(message: &[u8], at: usize) -> u16
 }
 
 /// The number in the four octets at a place.
-pub(crate) fn long_at(message: &[u8], at: usize) -> u32
+pub(crate) fn read_u32(message: &[u8], at: usize) -> u32
     requires { at + 4 ≤ length message.now }
     ensures { result ≡ u32_at message.now at }
 {
@@ -27,14 +27,14 @@ pub(crate) fn long_at(message: &[u8], at: usize) -> u32
 }
 
 /// Adds a number of two octets.
-pub(crate) fn push_short<A: Allocator>(out: &mut Vec<u8, A>, n: u16) -> Result<(), AllocError>
+pub(crate) fn push_u16<A: Allocator>(out: &mut Vec<u8, A>, n: u16) -> Result<(), AllocError>
     ensures { OnOk result (out.new.items ≡ out.old.items ++ u16_octets n) }
 {
     out.extend_from_slice(&n.to_be_bytes())
 }
 
 /// The octets of a number of four octets.
-pub(crate) fn long_octets(n: u32) -> [u8; 4]
+pub(crate) fn octets_of_u32(n: u32) -> [u8; 4]
     ensures { result ≡ u32_octets n }
 {
     n.to_be_bytes()

@@ -14,7 +14,7 @@ use crate::fault::ReadFault;
 use crate::header::{Header, header_at};
 use crate::lent::LentQuestion;
 use crate::name_reader::{Spelled, name_of, spelling_at};
-use crate::number::{push_short, short_at};
+use crate::number::{push_u16, read_u16};
 use crate::plain::after_name;
 use crate::question::Question;
 use fleet_name::Octets;
@@ -63,8 +63,8 @@ pub(crate) fn question_at(message: &[u8], offset: usize) -> Result<SpelledQuesti
     }
     Ok(SpelledQuestion {
         name,
-        rtype: short_at(message, past),
-        class: short_at(message, past + 2),
+        rtype: read_u16(message, past),
+        class: read_u16(message, past + 2),
         end: past + 4,
     })
 }
@@ -135,8 +135,8 @@ pub fn read_plain_query(message: &[u8]) -> Option<(Header, LentQuestion<'_>)>
     let question = LentQuestion {
         spelled: name,
         name,
-        rtype: short_at(others, 0),
-        class: short_at(others, 2),
+        rtype: read_u16(others, 0),
+        class: read_u16(others, 2),
     };
     Some((header, question))
 }
@@ -145,12 +145,12 @@ pub fn read_plain_query(message: &[u8]) -> Option<(Header, LentQuestion<'_>)>
 fn push_query_head<A: Allocator>(out: &mut Vec<u8, A>, id: u16) -> Result<(), AllocError>
     ensures { OnOk result (out.new.items ≡ out.old.items ++ query_head id) }
 {
-    push_short(out, id)?;
-    push_short(out, 0x0100)?;
-    push_short(out, 1)?;
-    push_short(out, 0)?;
-    push_short(out, 0)?;
-    push_short(out, 0)
+    push_u16(out, id)?;
+    push_u16(out, 0x0100)?;
+    push_u16(out, 1)?;
+    push_u16(out, 0)?;
+    push_u16(out, 0)?;
+    push_u16(out, 0)
 }
 
 /// The octets of a query to an upstream: recursion alone is wanted (RD, RFC 1035 4.1.1), and the
@@ -169,7 +169,7 @@ pub fn write_query<A: Allocator, B: Allocator>(
     let mut octets = Vec::new(alloc);
     push_query_head(&mut octets, id)?;
     octets.extend_from_slice(name)?;
-    push_short(&mut octets, question.rtype)?;
-    push_short(&mut octets, question.class)?;
+    push_u16(&mut octets, question.rtype)?;
+    push_u16(&mut octets, question.class)?;
     Ok(octets)
 }

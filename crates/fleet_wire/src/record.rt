@@ -7,7 +7,7 @@ ghost use Rattle.fleet_wire.specs.declared.bounds.TheConstants.{LONGEST_MESSAGE}
 
 use crate::fault::ReadFault;
 use crate::name_reader::{Spelled, name_of, spelling_at};
-use crate::number::{long_at, short_at};
+use crate::number::{read_u32, read_u16};
 use crate::shape::{Rdata, rdata_at};
 use fleet_name::{Name, Octets};
 use std::alloc::{AllocError, Allocator, Global};
@@ -67,8 +67,8 @@ fn record_at(message: &[u8], offset: usize) -> Result<SpelledRecord, ReadFault>
     if message.len() - past < 10 {
         return Err(ReadFault::Truncated);
     }
-    let rtype = short_at(message, past);
-    let count = short_at(message, past + 8) as usize;
+    let rtype = read_u16(message, past);
+    let count = read_u16(message, past + 8) as usize;
     if message.len() - past - 10 < count {
         return Err(ReadFault::Truncated);
     }
@@ -76,8 +76,8 @@ fn record_at(message: &[u8], offset: usize) -> Result<SpelledRecord, ReadFault>
     Ok(SpelledRecord {
         owner,
         rtype,
-        class: short_at(message, past + 2),
-        ttl: long_at(message, past + 4),
+        class: read_u16(message, past + 2),
+        ttl: read_u32(message, past + 4),
         rdata,
         end: past + 10 + count,
     })

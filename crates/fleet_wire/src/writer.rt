@@ -13,7 +13,7 @@ use crate::bounds::LONGEST_MESSAGE;
 use crate::class::IN;
 use crate::lent::LentQuestion;
 use crate::line::Line;
-use crate::number::long_octets;
+use crate::number::octets_of_u32;
 use crate::outline::Outline;
 use crate::section::Section;
 use std::alloc::{AllocError, Allocator};
@@ -69,7 +69,7 @@ fn push_fixed<A: Allocator>(
 {
     let [t0, t1] = rtype.to_be_bytes();
     let [c0, c1] = class.to_be_bytes();
-    let [s0, s1, s2, s3] = long_octets(ttl);
+    let [s0, s1, s2, s3] = octets_of_u32(ttl);
     let [n0, n1] = count.to_be_bytes();
     out.extend_from_slice(&[t0, t1, c0, c1, s0, s1, s2, s3, n0, n1])
 }

@@ -10,7 +10,7 @@ mod scripts;
 mod served;
 mod sites;
 
-use crate::What;
+use crate::LineFault;
 use crate::fleet::Fleet;
 use crate::tests::examples::example_of;
 use crate::tests::refusing::Refusing;
@@ -84,7 +84,7 @@ fn begin_refused<A: Allocator + Copy>(
     let begun = begin(fleet, first);
     assert_eq!(rt; begun.is_err(), refusing.has_refused());
     if let Err(what) = begun {
-        assert_eq!(rt; what, What::OutOfMemory);
+        assert_eq!(rt; what, LineFault::OutOfMemory);
         begin(fleet, first)?;
     }
     Ok(())

@@ -5,16 +5,16 @@ use Rattle.std.specs.Prelude.{◌≡◌, ◌+◌, ◌≤◌, Bool, false, ◌↔
 use Rattle.fleet_observe.specs.Observation.{ObservationData, AreObservations, Observations}
 use Rattle.fleet_cache.specs.Front.{IsFront}
 use Rattle.fleet_cache.specs.Dominates.{dominates}
-use Rattle.fleet_cache.specs.Cached.{place, IsCovered}
+use Rattle.fleet_cache.specs.Cached.{item_order, IsCovered}
 
 -- observations of which none dominates another, in order
 pub record IsHeld (items : Observations) : Type 0 where
   pub lawful : AreObservations items
-  pub front : IsFront place dominates items items
+  pub front : IsFront item_order dominates items items
 
 -- x was taken in beside what was held; it was not kept where it was there or is dominated
 pub record IsTaken (items new : Observations) (x : ObservationData) (kept : Bool) : Type 0
   where
-    pub front : IsFront place dominates (x ∷ items) new
+    pub front : IsFront item_order dominates (x ∷ items) new
     pub size : length new ≤ length items + 1
     pub needless : (kept ≡ false) ↔ IsCovered items x

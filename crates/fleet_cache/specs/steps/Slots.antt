@@ -8,7 +8,7 @@ use Rattle.fleet_cache.specs.Front.{IsFront, IsDescending}
 use Rattle.fleet_cache.specs.Dominates.{dominates}
 use Rattle.fleet_cache.specs.steps.Row.{row}
 use Rattle.fleet_cache.specs.steps.Packed.{words_of, IsPackable}
-use Rattle.fleet_cache.specs.Cached.{place, IsCovered}
+use Rattle.fleet_cache.specs.Cached.{item_order, IsCovered}
 
 -- whether there is nothing
 abbrev pub is_nil : {X : Type 0} → List X → Bool
@@ -44,7 +44,7 @@ pub record IsPut {K : Type 0} (words : K → List ℕ) (es new : List (K × Obse
     (x : ObservationData)
     (kept : Bool) : Type 0 where
   pub laid : IsLaid words new
-  pub taken : (s : Observations) → IsFront place dominates s (items_of es)
-      → IsFront place dominates (x ∷ s) (items_of new)
+  pub taken : (s : Observations) → IsFront item_order dominates s (items_of es)
+      → IsFront item_order dominates (x ∷ s) (items_of new)
   pub size : length (items_of new) ≤ length (items_of es) + 1
   pub needless : (kept ≡ false) ↔ IsCovered (items_of es) x

@@ -92,8 +92,8 @@ pub record IsOwnerOf (name : Labels) (octets : OctetList) : Type 0 where
   pub whole : octets ≡ wire owner
 
 -- it stands above the last of them, if there is one
-abbrev pub IsAbove : List OctetList → OctetList → Type 0
-IsAbove rdatas rdata = (before : List OctetList) (last : OctetList) → rdatas ≡ before ++ last ∷ []
+abbrev pub ComesAfterLast : List OctetList → OctetList → Type 0
+ComesAfterLast rdatas rdata = (before : List OctetList) (last : OctetList) → rdatas ≡ before ++ last ∷ []
     → slice_cmp nat_cmp last rdata ≡ Less
 
 -- the last of them is this one

@@ -18,7 +18,7 @@ use Rattle.fleet_observe.specs.Walk.{GoesOn, EndsFound, EndsBare, Ends, last, Is
 -- r is a record of the RRset
 pub record IsOf (s : List RecordData) (n : Labels) (t : RType) (r : RecordData) : Type 0 where
   pub member : Has s r
-  pub belongs : Belongs n t r
+  pub is_of_rrset : Belongs n t r
 
 -- what is found of an RRset
 abbrev pub IsFound : {A : Type 0} → List RecordData → Labels → RType → Found A → Type 0

@@ -83,7 +83,7 @@ fn rdatas_len<A: Allocator>(rdatas: &[Octets<A>]) -> usize
 }
 
 /// Adds a number of two octets.
-fn push_short<B: Allocator>(octets: &mut Vec<u8, B>, number: usize) -> Result<(), AllocError>
+fn push_u16<B: Allocator>(octets: &mut Vec<u8, B>, number: usize) -> Result<(), AllocError>
     requires { number < 65536 }
     ensures { OnOk result (octets.new.items ≡ octets.old.items ++ u16_octets number) }
 {
@@ -95,7 +95,7 @@ fn push_sized<B: Allocator>(octets: &mut Vec<u8, B>, part: &[u8]) -> Result<(), 
     requires { length part.now < 65536 }
     ensures { OnOk result (octets.new.items ≡ octets.old.items ++ octets_with_length part.now) }
 {
-    push_short(octets, part.len())?;
+    push_u16(octets, part.len())?;
     octets.extend_from_slice(part)
 }
 
@@ -107,7 +107,7 @@ fn push_rdatas<A: Allocator, B: Allocator>(
     requires { length (positive_body rdatas.now) ≤ LONGEST_BODY }
     ensures { OnOk result (octets.new.items ≡ octets.old.items ++ positive_body rdatas.now) }
 {
-    push_short(octets, rdatas.len())?;
+    push_u16(octets, rdatas.len())?;
     for rdata in rdatas {
         push_sized(octets, rdata.as_slice())?;
     }

@@ -3,9 +3,9 @@
 ghost use Rattle.std.specs.Prelude.{◌≡◌, ℕ, List, IfOk, IfErr, IsTrue, ◌↔◌};
 ghost use Rattle.fleet_wire.specs.Message.{IsRead};
 ghost use Rattle.fleet_observe.specs.Members.{Has};
-ghost use Rattle.fleet_observe.specs.Meaning.{IsNs, HasNs, owners_of, AreNsSets, HasAuthority, IsAuthority};
+ghost use Rattle.fleet_observe.specs.DigestOf.{IsNs, HasNs, owners_of, AreNsSets, HasAuthority, IsAuthority};
 
-use crate::reply::rrset::{RrSet, gather};
+use crate::reply::rrset::{RrSet, rrset_at};
 use fleet_name::Name;
 use fleet_wire::class::IN;
 use fleet_wire::rcode::NO_ERROR;
@@ -50,7 +50,7 @@ fn ns_sets<A: Allocator + Copy>(
     let mut sets = Vec::new(alloc);
     for record in authority {
         if is_ns(record, name) && !owns(&sets, &record.name) {
-            let set = gather(alloc, authority, &record.name, NS)?;
+            let set = rrset_at(alloc, authority, &record.name, NS)?;
             sets.push(set)?;
         }
     }

@@ -4,7 +4,7 @@ ghost use Rattle.std.specs.Prelude.{◌≡◌, ℕ, ◌≤◌, List, length, IfO
 ghost use Rattle.fleet_wire.specs.Record.{RecordData};
 ghost use Rattle.fleet_observe.specs.Members.{Has};
 ghost use Rattle.fleet_observe.specs.steps.Following.{ArePlainRecords};
-ghost use Rattle.fleet_observe.specs.Meaning.{IsSoaRecord, IsFirstSoa, IsSoa, HasSoa, minimum_of};
+ghost use Rattle.fleet_observe.specs.DigestOf.{IsSoaRecord, IsFirstSoa, IsSoa, HasSoa, minimum_of};
 
 use crate::bounds::LONGEST_DENIAL;
 use crate::observation::soa::Soa;

@@ -57,7 +57,7 @@ impl<A: Allocator> RrSet<A> {
 }
 
 /// Whether the record is of the RRset at this name, in full, and type.
-pub(crate) fn belongs<A: Allocator>(candidate: &Record<A>, name: &[u8], rtype: u16) -> bool
+pub(crate) fn is_of_rrset<A: Allocator>(candidate: &Record<A>, name: &[u8], rtype: u16) -> bool
     requires { SpellsName name.now }
     ensures { IsTrue result ↔ Belongs (labels_of name.now) rtype candidate.now }
 {
@@ -92,7 +92,7 @@ fn least_ttl<A: Allocator>(section: &[Record<A>], name: &[u8], rtype: u16) -> u3
 {
     let mut least = LONGEST_LIFE;
     for record in section {
-        if belongs(record, name, rtype) {
+        if is_of_rrset(record, name, rtype) {
             least = bounded_ttl(record.ttl).min(least);
         }
     }
@@ -112,7 +112,7 @@ fn holds<A: Allocator>(rdatas: &[Octets<A>], rdata: &[u8]) -> bool
 }
 
 /// How many RDATAs at the front are less.
-fn place<A: Allocator>(rdatas: &[Octets<A>], rdata: &[u8]) -> usize
+fn insertion_index<A: Allocator>(rdatas: &[Octets<A>], rdata: &[u8]) -> usize
     ensures count { result ≡ count_below rdata.now rdatas.now }
     ensures within { result ≤ length rdatas.now }
 {
@@ -137,13 +137,13 @@ fn add<A: Allocator + Copy>(
     if holds(rdatas, rdata) {
         return Ok(());
     }
-    let at = place(rdatas, rdata);
+    let at = insertion_index(rdatas, rdata);
     rdatas.insert(at, Octets::copy_of(alloc, rdata)?)?;
     Ok(())
 }
 
 /// The RRset at this name and type, where there is one.
-pub(crate) fn gather<A: Allocator + Copy>(
+pub(crate) fn rrset_at<A: Allocator + Copy>(
     alloc: A,
     section: &[Record<A>],
     owner: &Name<A>,
@@ -155,7 +155,7 @@ pub(crate) fn gather<A: Allocator + Copy>(
     let name = owner.octets();
     let mut rdatas = Vec::new(alloc);
     for record in section {
-        if belongs(record, name, rtype) {
+        if is_of_rrset(record, name, rtype) {
             add(alloc, &mut rdatas, record.rdata.as_slice())?;
         }
     }

@@ -7,13 +7,13 @@ ghost use Rattle.fleet_observe.specs.RrSet.{SpellsName};
 ghost use Rattle.fleet_observe.specs.Walk.{HasWalk, Ends};
 ghost use Rattle.fleet_observe.specs.steps.Following.{ArePlainRecords, IsFollowed};
 ghost use Rattle.fleet_observe.specs.Digest.{end_data, IsLawful};
-ghost use Rattle.fleet_observe.specs.Meaning.{IsServed, IsMeaning, IsEnd, Tells, AsksWalk, IsWalkable};
+ghost use Rattle.fleet_observe.specs.DigestOf.{IsServed, IsDigest, IsEnd, Tells, AsksWalk, IsWalkable};
 
 use crate::reply::authority::authority_sets;
 use crate::reply::denial::soa_for;
 use crate::reply::ending::End;
 use crate::reply::names::name_of;
-use crate::reply::rrset::{RrSet, gather};
+use crate::reply::rrset::{RrSet, rrset_at};
 use crate::reply::walk::{Step, found_at, step_at};
 use fleet_name::Name;
 use fleet_wire::rcode::NO_ERROR;
@@ -130,7 +130,7 @@ fn follow<'a, A: Allocator + Copy>(
     let mut chain = Vec::new(alloc);
     let mut at = name;
     while let Step::Alias(alias) = step_at(answer, at, rtype) {
-        let link = gather(alloc, answer, &alias.name, CNAME)?;
+        let link = rrset_at(alloc, answer, &alias.name, CNAME)?;
         chain.push(link)?;
         at = alias.rdata.as_slice();
     }
@@ -152,7 +152,7 @@ fn end_of<A: Allocator + Copy>(
     let answer = message.answer();
     let rtype = message.question().rtype;
     if let Some(record) = found_at(answer, at, rtype) {
-        let records = gather(alloc, answer, &record.name, rtype)?;
+        let records = rrset_at(alloc, answer, &record.name, rtype)?;
         return Ok(End::Records(records));
     }
     let denied = name_of(alloc, at)?;
@@ -175,7 +175,7 @@ pub(crate) fn digest_without_walk<A: Allocator + Copy>(
     requires named { name ≡ message.now.question.name }
     requires tells { Tells message.now [] (end_data end) }
     requires idle { ¬ AsksWalk message.now }
-    ensures { IsMeaning message.now result }
+    ensures { IsDigest message.now result }
 {
     Digest {
         name,
@@ -195,7 +195,7 @@ pub(crate) fn digest_along_walk<A: Allocator + Copy>(
     requires served { IsServed message.now }
     requires asks { AsksWalk message.now }
     requires walk { IsWalkable message.now }
-    ensures { IfOk result (IsMeaning message.now) }
+    ensures { IfOk result (IsDigest message.now) }
 {
     let question = message.question();
     let name = question.name.octets();

@@ -7,7 +7,7 @@ ghost use Rattle.fleet_observe.specs.Walk.{HasWalk, Ends, EndsFound, EndsBare};
 ghost use Rattle.fleet_observe.specs.steps.Following.{ArePlainRecords, IsFound, IsWalkStep, IsOf};
 
 use crate::bounds::MOST_LINKS;
-use crate::reply::rrset::belongs;
+use crate::reply::rrset::is_of_rrset;
 use fleet_wire::Record;
 use fleet_wire::rtype::CNAME;
 use std::alloc::Allocator;
@@ -36,7 +36,7 @@ fn find_rrset<'a, A: Allocator>(section: &'a [Record<A>], name: &[u8], rtype: u1
 {
     let mut first: Option<&'a Record<A>> = None;
     for record in section {
-        if belongs(record, name, rtype) {
+        if is_of_rrset(record, name, rtype) {
             match first {
                 None => first = Some(record),
                 Some(held) => {

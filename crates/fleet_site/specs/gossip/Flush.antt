@@ -7,10 +7,10 @@ use Rattle.fleet_observe.specs.Observation.{flush_at}
 use Rattle.fleet_gossip.specs.Packed.{IsPacked}
 use Rattle.fleet_pending.specs.PendingData.{PendingData}
 use Rattle.fleet_site.specs.OutcomeData.{nothing}
-use Rattle.fleet_site.specs.SiteModel.{Deed}
+use Rattle.fleet_site.specs.SiteModel.{Effect}
 
 -- the flush of the name at the moment is taken, and goes out as its frame
-abbrev pub Flushed : PendingData → Labels → Seconds → Deed → Type 0
+abbrev pub Flushed : PendingData → Labels → Seconds → Effect → Type 0
 Flushed o name t d = (frames : List OctetList) × IsPacked (flush_at name t ∷ []) frames
     × (d ≡ record {
       says = record nothing { frames = frames; taken = 1 };

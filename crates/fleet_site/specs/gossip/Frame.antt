@@ -8,7 +8,7 @@ use Rattle.fleet_gossip.specs.Faults.{FrameFails}
 use Rattle.fleet_gossip.specs.declared.fault.FrameFault.{FrameFault}
 use Rattle.fleet_pending.specs.PendingData.{PendingData}
 use Rattle.fleet_site.specs.Choice.{when◌then◌otherwise◌}
-use Rattle.fleet_site.specs.SiteModel.{Deed, refuses, takes}
+use Rattle.fleet_site.specs.SiteModel.{Effect, refuses, takes}
 use Rattle.fleet_site.specs.declared.outcome.Refusal.TheVariants.{Frame}
 
 -- the octets are a frame
@@ -16,7 +16,7 @@ abbrev pub HasFrame : OctetList → Type 0
 HasFrame octets = (list : Observations) × SpellsFrame octets list
 
 -- its observations are taken
-abbrev pub Framed : PendingData → OctetList → Deed → Type 0
+abbrev pub Framed : PendingData → OctetList → Effect → Type 0
 Framed o octets d =
     when ¬ HasFrame octets
     then ((f : FrameFault) × FrameFails octets f × (d ≡ refuses (Frame f) o)) otherwise

@@ -19,8 +19,8 @@ use Rattle.fleet_pending.specs.declared.answer.PendingFault.{PendingFault}
 use Rattle.fleet_pending.specs.declared.answer.PendingFault.TheVariants.{OutOfMemory}
 use Rattle.fleet_site.specs.Choice.{when◌then◌otherwise◌}
 use Rattle.fleet_site.specs.OutcomeData.{OutcomeData, nothing, sends}
-use Rattle.fleet_site.specs.question.Rows.{bare_octets}
-use Rattle.fleet_site.specs.SiteModel.{Deed, says_only, refuses}
+use Rattle.fleet_site.specs.question.AnswerRecords.{bare_octets}
+use Rattle.fleet_site.specs.SiteModel.{Effect, says_only, refuses}
 use Rattle.fleet_site.specs.question.Verdict.{Verdict, Silence, Answer, Unreadable, Unknown, Decides}
 use Rattle.fleet_site.specs.declared.outcome.Refusal.TheVariants.{Read, Full, Dropped}
 
@@ -47,7 +47,7 @@ pub data Forwarded (upstreams : List Addr) (from : Addr) (h : Header) (q : Quest
 
 -- the question goes to the table of open questions
 pub record Forwards (upstreams : List Addr) (o : PendingData) (t : Seconds) (from : Addr) (word : ℕ)
-    (h : Header) (q : QuestionData) (d : Deed) : Type 0 where
+    (h : Header) (q : QuestionData) (d : Effect) : Type 0 where
   pub answer : Result Opened PendingFault
   pub asks : Asks o (waiter from h q) t word answer d.asking
   pub says : Forwarded upstreams from h q answer d.says
@@ -55,7 +55,7 @@ pub record Forwards (upstreams : List Addr) (o : PendingData) (t : Seconds) (fro
 
 -- what is done where this was decided: a question that nothing known answers is refused where
 -- recursion is not wanted
-abbrev pub Reacts : List Addr → PendingData → Seconds → Addr → ℕ → Verdict → Deed → Type 0
+abbrev pub Reacts : List Addr → PendingData → Seconds → Addr → ℕ → Verdict → Effect → Type 0
 Reacts upstreams o t from word Silence d = d ≡ refuses Dropped o
 Reacts upstreams o t from word (Answer octets) d = d ≡ says_only (sends from octets) o
 Reacts upstreams o t from word (Unreadable octets f) d =
@@ -66,6 +66,6 @@ Reacts upstreams o t from word (Unknown h q) d =
 
 -- octets from an address that is no upstream's and no peer's
 abbrev pub Questioned : Observations → List Addr → PendingData → Seconds → Addr → ℕ → OctetList
-    → Deed → Type 0
+    → Effect → Type 0
 Questioned taken upstreams o t from word octets d =
     (v : Verdict) × Decides taken t octets v × Reacts upstreams o t from word v d

@@ -13,7 +13,7 @@ use Rattle.fleet_wire.specs.declared.rcode.TheConstants.{FORMAT_ERROR, NOT_IMPLE
 use Rattle.fleet_observe.specs.Observation.{IsDataType, Observations}
 use Rattle.fleet_cache.specs.Answer.{AnswerData, Missed, Found, NoData, NxDomain, answer_of}
 use Rattle.fleet_site.specs.Choice.{when◌then◌otherwise◌}
-use Rattle.fleet_site.specs.question.Rows.{bare_octets, Writes}
+use Rattle.fleet_site.specs.question.AnswerRecords.{bare_octets, Writes}
 use Rattle.fleet_site.specs.declared.verdict.Decision.{Decision}
 use Rattle.fleet_site.specs.declared.verdict.Decision.TheVariants.{Dropped, Reply, Unread, Miss}
 

@@ -5,11 +5,11 @@ use Rattle.fleet_name.specs.Types.{OctetList}
 use Rattle.fleet_wire.specs.Message.{MessageData, IsReply, HasReply, ReplyFails}
 use Rattle.fleet_wire.specs.declared.fault.ReadFault.{ReadFault}
 use Rattle.fleet_observe.specs.Digest.{DigestData}
-use Rattle.fleet_observe.specs.Meaning.{IsServed, AsksWalk, IsWalkable, IsMeaning}
+use Rattle.fleet_observe.specs.DigestOf.{IsServed, AsksWalk, IsWalkable, IsDigest}
 use Rattle.fleet_observe.specs.declared.reply.ending.DigestFault.TheVariants.{NotReply, BadChain}
 use Rattle.fleet_pending.specs.PendingData.{PendingData}
 use Rattle.fleet_site.specs.Choice.{when◌then◌otherwise◌}
-use Rattle.fleet_site.specs.SiteModel.{Deed, refuses}
+use Rattle.fleet_site.specs.SiteModel.{Effect, refuses}
 use Rattle.fleet_site.specs.declared.outcome.Refusal.TheVariants.{Read, Digest}
 
 -- there is no walk where one is asked for
@@ -17,7 +17,7 @@ abbrev pub HasBadChain : MessageData → Type 0
 HasBadChain r = AsksWalk r × (¬ IsWalkable r)
 
 -- the octets can't be read, or what stands below holds of the reply that they are
-abbrev pub ReadThen : PendingData → OctetList → Deed → (MessageData → Type 0) → Type 0
+abbrev pub ReadThen : PendingData → OctetList → Effect → (MessageData → Type 0) → Type 0
 ReadThen o octets d Then =
     when ¬ HasReply octets
     then ((f : ReadFault) × ReplyFails octets f × (d ≡ refuses (Read f) o)) otherwise
@@ -25,8 +25,8 @@ ReadThen o octets d Then =
 
 -- it is no reply to a question that is served, or its aliases lead nowhere, or what stands below
 -- holds of its meaning
-abbrev pub DigestedThen : PendingData → MessageData → Deed → (DigestData → Type 0) → Type 0
+abbrev pub DigestedThen : PendingData → MessageData → Effect → (DigestData → Type 0) → Type 0
 DigestedThen o r d Then =
     when ¬ IsServed r then d ≡ refuses (Digest NotReply) o otherwise
     when HasBadChain r then d ≡ refuses (Digest BadChain) o otherwise
-    ((g : DigestData) × IsMeaning r g × Then g)
+    ((g : DigestData) × IsDigest r g × Then g)

@@ -5,10 +5,10 @@ use Rattle.fleet_name.specs.Types.{OctetList}
 use Rattle.fleet_wire.specs.Types.{Seconds}
 use Rattle.fleet_observe.specs.Observations.{reply_observations}
 use Rattle.fleet_pending.specs.PendingData.{PendingData}
-use Rattle.fleet_site.specs.SiteModel.{Deed, takes}
+use Rattle.fleet_site.specs.SiteModel.{Effect, takes}
 use Rattle.fleet_site.specs.reply.Digested.{ReadThen, DigestedThen}
 
 -- its observations are taken; it matches nothing and sends nothing
-abbrev pub Learnt : PendingData → Seconds → OctetList → Deed → Type 0
+abbrev pub Learnt : PendingData → Seconds → OctetList → Effect → Type 0
 Learnt o t octets d =
     ReadThen o octets d (λ r. DigestedThen o r d (λ g. d ≡ takes (reply_observations g t) o))

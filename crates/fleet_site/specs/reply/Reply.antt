@@ -15,7 +15,7 @@ use Rattle.fleet_pending.specs.PendingData.{EntryData, PendingData, Matches}
 use Rattle.fleet_name.specs.Places.{At, NoneIs}
 use Rattle.fleet_site.specs.Choice.{when◌then◌otherwise◌}
 use Rattle.fleet_site.specs.PacketData.{PacketData}
-use Rattle.fleet_site.specs.SiteModel.{Deed, refuses}
+use Rattle.fleet_site.specs.SiteModel.{Effect, refuses}
 use Rattle.fleet_site.specs.reply.Digested.{ReadThen, DigestedThen}
 use Rattle.fleet_site.specs.declared.outcome.Refusal.TheVariants.{Unmatched, Dropped}
 
@@ -39,7 +39,7 @@ relay_to g w = record {
 
 -- every waiter is told in order of joining, the observations go out packed and are taken, the entry
 -- is settled
-pub record Relays (o : PendingData) (t : Seconds) (e : EntryData) (g : DigestData) (d : Deed) : Type 0
+pub record Relays (o : PendingData) (t : Seconds) (e : EntryData) (g : DigestData) (d : Effect) : Type 0
   where
     pub brings : d.brings ≡ reply_observations g t
     pub frames : IsPacked d.brings d.says.frames
@@ -59,7 +59,7 @@ MatchedThen o place r Then =
     (i : ℕ) × ((e : EntryData) × At o.entries i e × Matches place r.header.id r.question e × Then e)
 
 -- octets from the upstream at this place
-abbrev pub Replied : PendingData → Seconds → ℕ → OctetList → Deed → Type 0
+abbrev pub Replied : PendingData → Seconds → ℕ → OctetList → Effect → Type 0
 Replied o t place octets d =
     when length octets < 12 then d ≡ refuses Dropped o otherwise
     when ¬ IsTrue (header_of octets).response then d ≡ refuses Dropped o otherwise

@@ -29,12 +29,12 @@ receive_of asked (Ok (Some p)) buffer = Received asked p.0 (take p.1 buffer)
 receive_of asked (Err e) buffer = Fault asked
 
 -- a receive that asked for so many octets
-abbrev pub AsksFor : ℕ → PortCall → Type 0
-AsksFor n (Received asked from octets) = asked ≡ n
-AsksFor n (NoDatagram asked) = asked ≡ n
-AsksFor n (Fault asked) = asked ≡ n
-AsksFor n (PacketSent s) = ⊥
-AsksFor n (PacketLost s) = ⊥
+abbrev pub HasRoomFor : ℕ → PortCall → Type 0
+HasRoomFor n (Received asked from octets) = asked ≡ n
+HasRoomFor n (NoDatagram asked) = asked ≡ n
+HasRoomFor n (Fault asked) = asked ≡ n
+HasRoomFor n (PacketSent s) = ⊥
+HasRoomFor n (PacketLost s) = ⊥
 
 -- what a send was
 abbrev pub send_of : Result (Unit {0}) PortFault → PacketData → PortCall

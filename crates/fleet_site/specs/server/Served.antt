@@ -7,14 +7,14 @@ use Rattle.fleet_site.specs.SiteData.{SiteData}
 use Rattle.fleet_site.specs.SiteModel.{SiteModel}
 use Rattle.fleet_site.specs.StandsFor.{StandsFor}
 use Rattle.fleet_site.specs.server.PortRecord.{PortState, Made}
-use Rattle.fleet_site.specs.server.Turn.{Act, Acts, Between, Turns, start_of}
+use Rattle.fleet_site.specs.server.Turn.{Action, ActionsLead, ServerState, Turns, start_of}
 use Rattle.fleet_site.specs.declared.report.Report.{Report}
 
 -- the run of a server: these turns were made, and where the port tells its record, their calls are
 -- its last ones
 pub record Served (old new : PortState) (moments : Option (ℕ → ℕ)) (s : Stream) (turns : ℕ) (every : Seconds)
     (site after : SiteData) (report : Report) : Type 0 where
-  pub end : Between
+  pub end : ServerState
   pub run : Turns moments s every turns (start_of site) end
   pub made : Made old new end.calls
   pub is_site : after ≡ end.site
@@ -23,4 +23,4 @@ pub record Served (old new : PortState) (moments : Option (ℕ → ℕ)) (s : St
 -- for each model that the site stood for there are steps, and it stands for what comes after them
 pub record FollowsSteps (old new : SiteData) : Type 0 where
   pub steps : (m : SiteModel) → StandsFor old m
-      → (n : SiteModel) × (acts : List Act) × Acts m acts n × StandsFor new n
+      → (n : SiteModel) × (actions : List Action) × ActionsLead m actions n × StandsFor new n

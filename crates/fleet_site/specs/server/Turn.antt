@@ -15,16 +15,16 @@ use Rattle.fleet_site.specs.SiteData.{SiteData}
 use Rattle.fleet_site.specs.StandsFor.{StandsFor}
 use Rattle.fleet_site.specs.gossip.Sweep.{IsSweep}
 use Rattle.fleet_site.specs.Step.{Call, datagram, tick, Step}
-use Rattle.fleet_site.specs.server.PortRecord.{PortCall, Received, NoDatagram, Fault, PacketSent, PacketLost, AsksFor, one_more}
+use Rattle.fleet_site.specs.server.PortRecord.{PortCall, Received, NoDatagram, Fault, PacketSent, PacketLost, HasRoomFor, one_more}
 use Rattle.fleet_site.specs.server.Sending.{AreSent, packets_of, count_call, count_calls, count_step, goes_on}
 use Rattle.fleet_site.specs.declared.outcome.SiteFault.{SiteFault}
 use Rattle.fleet_site.specs.declared.outcome.SiteFault.TheVariants.{OutOfMemory}
 use Rattle.fleet_site.specs.declared.report.Report.{Report}
 
 -- a step of a turn: a call with a moment, or a sweep
-pub data Deal : Type 0 where
-  calling : Call → Deal
-  sweeping : Deal
+pub data TurnStep : Type 0 where
+  calling : Call → TurnStep
+  sweeping : TurnStep
 
 -- a sweep gives the frames of all that is held, and changes nothing
 abbrev pub SweepSays : SiteModel → Result OutcomeData SiteFault → SiteModel → Type 0
@@ -33,56 +33,56 @@ SweepSays m (Ok e) n =
 SweepSays m (Err (OutOfMemory taken)) n = (taken ≡ 0) × (n ≡ m)
 
 -- from m the step says this and leads to n
-abbrev pub Deals : SiteModel → Deal → Result OutcomeData SiteFault → SiteModel → Type 0
-Deals m (calling c) a n = Step m c a n
-Deals m sweeping a n = SweepSays m a n
+abbrev pub TurnStepSays : SiteModel → TurnStep → Result OutcomeData SiteFault → SiteModel → Type 0
+TurnStepSays m (calling c) a n = Step m c a n
+TurnStepSays m sweeping a n = SweepSays m a n
 
 -- a step, what it said, and the calls of the port that sent what it gave
-pub record Act : Type 0 where
-  pub deal : Deal
+pub record Action : Type 0 where
+  pub step : TurnStep
   pub answer : Result OutcomeData SiteFault
   pub calls : List PortCall
 
 -- all calls of the port
-abbrev pub calls_of : List Act → List PortCall
+abbrev pub calls_of : List Action → List PortCall
 calls_of [] = []
-calls_of (a ∷ acts) = a.calls ++ calls_of acts
+calls_of (a ∷ actions) = a.calls ++ calls_of actions
 
 -- a report counts these steps and their calls
-abbrev pub count_acts : List Act → Report → Report
-count_acts [] r = r
-count_acts (a ∷ acts) r = count_acts acts (count_calls a.calls (count_step a.answer r))
+abbrev pub count_actions : List Action → Report → Report
+count_actions [] r = r
+count_actions (a ∷ actions) r = count_actions actions (count_calls a.calls (count_step a.answer r))
 
 -- of each step all that it gave was sent or lost
-abbrev pub AllSent : List Addr → List Act → Type 0
+abbrev pub AllSent : List Addr → List Action → Type 0
 AllSent peers [] = Unit {0}
-AllSent peers (a ∷ acts) = AreSent (packets_of peers a.answer) a.calls × AllSent peers acts
+AllSent peers (a ∷ actions) = AreSent (packets_of peers a.answer) a.calls × AllSent peers actions
 
 -- the steps in a row lead from m to n
-abbrev pub Acts : SiteModel → List Act → SiteModel → Type 0
-Acts m [] n = n ≡ m
-Acts m (a ∷ acts) n = (mid : SiteModel) × Deals m a.deal a.answer mid × Acts mid acts n
+abbrev pub ActionsLead : SiteModel → List Action → SiteModel → Type 0
+ActionsLead m [] n = n ≡ m
+ActionsLead m (a ∷ actions) n = (mid : SiteModel) × TurnStepSays m a.step a.answer mid × ActionsLead mid actions n
 
 -- the site took these steps, and what they gave was sent or lost
-pub record Acted (old new : SiteData) (acts : List Act) : Type 0 where
-  pub steps : (m : SiteModel) → StandsFor old m → (n : SiteModel) × Acts m acts n × StandsFor new n
+pub record HasActed (old new : SiteData) (actions : List Action) : Type 0 where
+  pub steps : (m : SiteModel) → StandsFor old m → (n : SiteModel) × ActionsLead m actions n × StandsFor new n
   pub config : new.config ≡ old.config
-  pub sent : AllSent old.config.peers acts
+  pub sent : AllSent old.config.peers actions
 
 -- what was received is given to the site, and nothing where nothing was
-abbrev pub Given : Seconds → ℕ → PortCall → List Act → Type 0
-Given t word (Received asked from octets) acts =
-    (a : Act) × (acts ≡ a ∷ []) × (a.deal ≡ calling (datagram t from octets word))
-Given t word (NoDatagram asked) acts = acts ≡ []
-Given t word (Fault asked) acts = acts ≡ []
-Given t word (PacketSent s) acts = ⊥
-Given t word (PacketLost s) acts = ⊥
+abbrev pub Given : Seconds → ℕ → PortCall → List Action → Type 0
+Given t word (Received asked from octets) actions =
+    (a : Action) × (actions ≡ a ∷ []) × (a.step ≡ calling (datagram t from octets word))
+Given t word (NoDatagram asked) actions = actions ≡ []
+Given t word (Fault asked) actions = actions ≡ []
+Given t word (PacketSent s) actions = ⊥
+Given t word (PacketLost s) actions = ⊥
 
 -- ticks at a moment, each but the last with another one to follow, and whether one follows the last
-pub data Ticks (t : Seconds) : List Act → Bool → Type 0 where
+pub data Ticks (t : Seconds) : List Action → Bool → Type 0 where
   no_tick : Ticks t [] true
-  next_tick : {acts : List Act} (a : Act) → Ticks t acts true → a.deal ≡ calling (tick t)
-      → Ticks t (acts ++ a ∷ []) (goes_on a.answer)
+  next_tick : {actions : List Action} (a : Action) → Ticks t actions true → a.step ≡ calling (tick t)
+      → Ticks t (actions ++ a ∷ []) (goes_on a.answer)
 
 -- it is time to sweep: so many seconds after a moment, where they are not 0
 pub record IsSweepDue (every since t : Seconds) : Type 0 where
@@ -90,15 +90,15 @@ pub record IsSweepDue (every since t : Seconds) : Type 0 where
   pub passed : since + every ≤ t
 
 -- a sweep where it is time, and the moment of the last one then
-abbrev pub SweepsWhenDue : Seconds → Seconds → Seconds → List Act → ℕ → Type 0
-SweepsWhenDue every since t acts last =
+abbrev pub SweepsWhenDue : Seconds → Seconds → Seconds → List Action → ℕ → Type 0
+SweepsWhenDue every since t actions last =
     when IsSweepDue every since t
-    then ((a : Act) × (acts ≡ a ∷ []) × (a.deal ≡ sweeping) × (last ≡ t)) otherwise
-    ((acts ≡ []) × (last ≡ since))
+    then ((a : Action) × (actions ≡ a ∷ []) × (a.step ≡ sweeping) × (last ≡ t)) otherwise
+    ((actions ≡ []) × (last ≡ since))
 
 -- what stands between two turns: the site, the calls of the port so far, the moment that the next
 -- sweep is counted from, and the report
-pub record Between : Type 0 where
+pub record ServerState : Type 0 where
   pub site : SiteData
   pub calls : List PortCall
   pub swept : Option Seconds
@@ -111,22 +111,22 @@ ROOM = LONGEST_FRAME + 1
 
 -- one turn at a moment with a word: a receive, and the sends of the datagram, of the ticks, and of
 -- the sweep
-pub record Turn (t : Seconds) (word : ℕ) (every : Seconds) (a b : Between) : Type 0 where
+pub record Turn (t : Seconds) (word : ℕ) (every : Seconds) (a b : ServerState) : Type 0 where
   pub arrival : PortCall
-  pub given : List Act
-  pub ticks : List Act
-  pub sweep : List Act
-  pub asks : AsksFor ROOM arrival
+  pub given : List Action
+  pub ticks : List Action
+  pub sweep : List Action
+  pub asks : HasRoomFor ROOM arrival
   pub is_given : Given t word arrival given
   pub are_ticks : Ticks t ticks false
   pub few : length ticks ≤ MOST_ENTRIES
   pub is_swept : (last : ℕ)
       × SweepsWhenDue every (unwrap_or a.swept t) t sweep last
       × (b.swept ≡ Some last)
-  pub acted : Acted a.site b.site (given ++ (ticks ++ sweep))
+  pub acted : HasActed a.site b.site (given ++ (ticks ++ sweep))
   pub calls : b.calls ≡ a.calls ++ arrival ∷ calls_of (given ++ (ticks ++ sweep))
   pub report : b.report
-      ≡ count_acts (given ++ (ticks ++ sweep))
+      ≡ count_actions (given ++ (ticks ++ sweep))
       (count_call arrival (record a.report { turns = one_more a.report.turns }))
 
 -- what a generator has left after n words
@@ -144,15 +144,15 @@ IsMomentOfTurn None n t = Unit {0}
 IsMomentOfTurn (Some moments) n t = t ≡ moments n
 
 -- what a clock is going to tell after so many moments, where it tells that before
-abbrev pub IsPast : Option (ℕ → ℕ) → ℕ → Option (ℕ → ℕ) → Type 0
-IsPast None n now = Unit {0}
-IsPast (Some moments) n now =
+abbrev pub HasPassed : Option (ℕ → ℕ) → ℕ → Option (ℕ → ℕ) → Type 0
+HasPassed None n now = Unit {0}
+HasPassed (Some moments) n now =
     (rest : ℕ → ℕ) × (now ≡ Some rest) × ((k : ℕ) → rest k ≡ moments (n + k))
 
 -- so many turns in a row, each with its moment and its word
-abbrev pub Turns : Option (ℕ → ℕ) → Stream → Seconds → ℕ → Between → Between → Type 0
+abbrev pub Turns : Option (ℕ → ℕ) → Stream → Seconds → ℕ → ServerState → ServerState → Type 0
 Turns moments s every zero a b = b ≡ a
-Turns moments s every (suc n) a b = (mid : Between) × (t : Seconds) × Turns moments s every n a mid
+Turns moments s every (suc n) a b = (mid : ServerState) × (t : Seconds) × Turns moments s every n a mid
     × IsMomentOfTurn moments n t × Turn t (word_of s n) every mid b
 
 -- nothing was counted yet
@@ -168,5 +168,5 @@ empty_report = record {
 }
 
 -- where a run begins
-abbrev pub start_of : SiteData → Between
+abbrev pub start_of : SiteData → ServerState
 start_of site = record { site = site; calls = []; swept = None; report = empty_report }

@@ -18,8 +18,8 @@ use Rattle.fleet_pending.specs.declared.answer.PendingFault.TheVariants.{OutOfMe
 use Rattle.fleet_pending.specs.declared.waiter.Addr.{Addr}
 use Rattle.fleet_site.specs.OutcomeData.{OutcomeData, nothing, sends}
 use Rattle.fleet_site.specs.question.Question.{turns_away}
-use Rattle.fleet_site.specs.question.Rows.{bare_octets}
-use Rattle.fleet_site.specs.SiteModel.{Deed, says_only}
+use Rattle.fleet_site.specs.question.AnswerRecords.{bare_octets}
+use Rattle.fleet_site.specs.SiteModel.{Effect, says_only}
 use Rattle.fleet_site.specs.question.Verdict.{Verdict, Unreadable}
 use Rattle.fleet_site.specs.declared.outcome.SiteFault.{SiteFault}
 use Rattle.fleet_site.specs.declared.outcome.SiteFault.TheVariants.{OutOfMemory}
@@ -28,23 +28,23 @@ use Rattle.fleet_site.specs.declared.verdict.Decision.TheVariants.{Dropped, Repl
 
 -- Of a site that took in the set s: a deed of this rule was done whole, or stopped for want of
 -- memory, and then nothing was taken where memory was needed, or the first of what it brings.
-abbrev pub Carries : (Deed → Type 0) → Type 0 → Observations → PendingData
+abbrev pub DoesOrStops : (Effect → Type 0) → Type 0 → Observations → PendingData
     → Result OutcomeData SiteFault → CacheData → PendingData → Type 0
-Carries Rule Needed s old (Ok o) cache new =
-    (d : Deed) × Rule d × (o ≡ d.says)
+DoesOrStops Rule Needed s old (Ok o) cache new =
+    (d : Effect) × Rule d × (o ≡ d.says)
     × IsCached (d.brings ++ s) cache.floor cache.items
     × (new ≡ d.asking)
-Carries Rule Needed s old (Err (OutOfMemory taken)) cache new =
+DoesOrStops Rule Needed s old (Err (OutOfMemory taken)) cache new =
     (new ≡ old)
     × (((taken ≡ 0) × IsCached s cache.floor cache.items × Needed)
-    ⊎ ((d : Deed) × Rule d × (taken < length d.brings)
+    ⊎ ((d : Effect) × Rule d × (taken < length d.brings)
     × IsCached (take taken d.brings ++ s) cache.floor cache.items))
 
 -- the same where nothing is ever brought
-abbrev pub Keeps : (Deed → Type 0) → Type 0 → PendingData
+abbrev pub SaysOrStops : (Effect → Type 0) → Type 0 → PendingData
     → Result OutcomeData SiteFault → PendingData → Type 0
-Keeps Rule Needed old (Ok o) new = Rule (says_only o new)
-Keeps Rule Needed old (Err (OutOfMemory taken)) new = (taken ≡ 0) × (new ≡ old) × Needed
+SaysOrStops Rule Needed old (Ok o) new = Rule (says_only o new)
+SaysOrStops Rule Needed old (Err (OutOfMemory taken)) new = (taken ≡ 0) × (new ≡ old) × Needed
 
 -- a miss can be asked of an upstream
 abbrev pub IsAskable : {A : Type 0} → Decision A → Type 0
@@ -82,10 +82,10 @@ IsFirstSaid upstreams o word q e =
     (told : Option ℕ) × TellsId o q word told × SendsFirst upstreams q told e
 
 -- these observations were taken, or without memory the first of them
-abbrev pub Takes : Observations → Observations
+abbrev pub TakesOrStops : Observations → Observations
     → Result OutcomeData SiteFault → CacheData
     → Type 0
-Takes s list (Ok o) cache = (o ≡ record nothing { taken = length list })
+TakesOrStops s list (Ok o) cache = (o ≡ record nothing { taken = length list })
     × IsCached (list ++ s) cache.floor cache.items
-Takes s list (Err (OutOfMemory taken)) cache =
+TakesOrStops s list (Err (OutOfMemory taken)) cache =
     (taken < length list) × IsCached (take taken list ++ s) cache.floor cache.items

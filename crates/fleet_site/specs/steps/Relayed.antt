@@ -12,9 +12,9 @@ use Rattle.fleet_pending.specs.Asking.{Settles}
 use Rattle.fleet_pending.specs.PendingData.{EntryData, PendingData}
 use Rattle.fleet_site.specs.OutcomeData.{OutcomeData, refusal}
 use Rattle.fleet_site.specs.reply.Reply.{relay_to, Replied}
-use Rattle.fleet_site.specs.SiteModel.{Deed, refuses}
-use Rattle.fleet_site.specs.declared.digested.Unheard.{Unheard}
-use Rattle.fleet_site.specs.declared.digested.Unheard.TheVariants.{Refused, NoMemory}
+use Rattle.fleet_site.specs.SiteModel.{Effect, refuses}
+use Rattle.fleet_site.specs.declared.digested.ReplyFault.{ReplyFault}
+use Rattle.fleet_site.specs.declared.digested.ReplyFault.TheVariants.{Refused, NoMemory}
 use Rattle.fleet_site.specs.declared.outcome.SiteFault.{SiteFault}
 use Rattle.fleet_site.specs.declared.outcome.SiteFault.TheVariants.{OutOfMemory}
 use Rattle.fleet_site.specs.declared.relay.Relay.{Relay}
@@ -45,7 +45,7 @@ pub record IsRelayOf {A : Type 0} (o : PendingData) (t : Seconds) (place : ℕ) 
       (record { says = relay_outcome r; brings = r.observed.items; asking = n })
 
 -- a refusal is what this rule says, or there was no memory for what needs it
-abbrev pub Unlearns : (Deed → Type 0) → Type 0 → PendingData → Unheard → Type 0
+abbrev pub Unlearns : (Effect → Type 0) → Type 0 → PendingData → ReplyFault → Type 0
 Unlearns Rule Needed o (Refused r) = Rule (refuses r o)
 Unlearns Rule Needed o NoMemory = Needed
 
@@ -61,7 +61,7 @@ IsRelayFor r s old (Err (OutOfMemory taken)) cache new =
     × IsCached (take taken r.observed.items ++ s) cache.floor cache.items
 
 -- the refusal is said, or there was no memory
-abbrev pub SaysRefusal : Unheard → Result OutcomeData SiteFault → Type 0
+abbrev pub SaysRefusal : ReplyFault → Result OutcomeData SiteFault → Type 0
 SaysRefusal (Refused r) (Ok o) = o ≡ refusal r
 SaysRefusal (Refused r) (Err f) = ⊥
 SaysRefusal NoMemory (Ok o) = ⊥

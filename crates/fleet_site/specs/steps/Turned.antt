@@ -6,10 +6,10 @@ use Rattle.fleet_wire.specs.Types.{Seconds}
 use Rattle.fleet_pending.specs.declared.bounds.TheConstants.{MOST_ENTRIES}
 use Rattle.fleet_pending.specs.declared.waiter.Addr.{Addr}
 use Rattle.fleet_site.specs.SiteData.{SiteData}
-use Rattle.fleet_site.specs.server.PortRecord.{PortCall, PortState, Made, AsksFor}
+use Rattle.fleet_site.specs.server.PortRecord.{PortCall, PortState, Made, HasRoomFor}
 use Rattle.fleet_site.specs.server.Sending.{count_call}
 use Rattle.fleet_site.specs.Step.{datagram}
-use Rattle.fleet_site.specs.server.Turn.{Act, calling, Acted, calls_of, count_acts, ROOM, Given, Ticks, SweepsWhenDue, Turn}
+use Rattle.fleet_site.specs.server.Turn.{Action, calling, HasActed, calls_of, count_actions, ROOM, Given, Ticks, SweepsWhenDue, Turn}
 use Rattle.fleet_site.specs.declared.report.Report.{Report}
 
 -- one turn was made
@@ -22,41 +22,41 @@ pub record Turned (old new : PortState) (t : Seconds) (word : ℕ) (every : Seco
   pub made : Made old new calls
 
 -- steps were taken, carried out and counted
-pub record Took (old new : PortState) (site after : SiteData) (r q : Report) (acts : List Act)
+pub record Took (old new : PortState) (site after : SiteData) (r q : Report) (actions : List Action)
     : Type 0 where
-  pub acted : Acted site after acts
-  pub made : Made old new (calls_of acts)
-  pub report : q ≡ count_acts acts r
+  pub acted : HasActed site after actions
+  pub made : Made old new (calls_of actions)
+  pub report : q ≡ count_actions actions r
 
 -- a datagram was given to the site, and what that gave was carried out and counted
 pub record GivenOne (old new : PortState) (t : Seconds) (from : Addr) (octets : OctetList) (word : ℕ)
     (site after : SiteData) (r q : Report) : Type 0 where
-  pub act : Act
-  pub deal : act.deal ≡ calling (datagram t from octets word)
-  pub took : Took old new site after r q (act ∷ [])
+  pub action : Action
+  pub step : action.step ≡ calling (datagram t from octets word)
+  pub took : Took old new site after r q (action ∷ [])
 
 -- what was received was given to the site
 pub record Heard (old new : PortState) (t : Seconds) (word : ℕ) (site after : SiteData) (r q : Report)
     : Type 0 where
   pub arrival : PortCall
-  pub acts : List Act
-  pub asks : AsksFor ROOM arrival
-  pub given : Given t word arrival acts
-  pub acted : Acted site after acts
-  pub made : Made old new (arrival ∷ calls_of acts)
-  pub report : q ≡ count_acts acts (count_call arrival r)
+  pub actions : List Action
+  pub asks : HasRoomFor ROOM arrival
+  pub given : Given t word arrival actions
+  pub acted : HasActed site after actions
+  pub made : Made old new (arrival ∷ calls_of actions)
+  pub report : q ≡ count_actions actions (count_call arrival r)
 
 -- the site ticked until no other entry was due, or a tick found no memory
 pub record TickedAll (old new : PortState) (t : Seconds) (site after : SiteData) (r q : Report)
     : Type 0 where
-  pub acts : List Act
-  pub ticks : Ticks t acts false
-  pub few : length acts ≤ MOST_ENTRIES
-  pub took : Took old new site after r q acts
+  pub actions : List Action
+  pub ticks : Ticks t actions false
+  pub few : length actions ≤ MOST_ENTRIES
+  pub took : Took old new site after r q actions
 
 -- it swept where it was time
 pub record SweptOnce (old new : PortState) (every since t : Seconds) (last : ℕ) (site after : SiteData)
     (r q : Report) : Type 0 where
-  pub acts : List Act
-  pub swept : SweepsWhenDue every since t acts last
-  pub took : Took old new site after r q acts
+  pub actions : List Action
+  pub swept : SweepsWhenDue every since t actions last
+  pub took : Took old new site after r q actions

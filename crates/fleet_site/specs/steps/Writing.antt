@@ -9,7 +9,7 @@ use Rattle.fleet_wire.specs.declared.rcode.TheConstants.{NO_ERROR, NAME_ERROR}
 use Rattle.fleet_observe.specs.Body.{positive_body}
 use Rattle.fleet_observe.specs.Observation.{IsNegativeKind}
 use Rattle.fleet_cache.specs.Answer.{ShownData, AnswerData, Missed, Found, NoData, NxDomain}
-use Rattle.fleet_site.specs.question.Rows.{row, AreChainRows, IsSoaRow}
+use Rattle.fleet_site.specs.question.AnswerRecords.{row, AreChainRows, IsSoaRow}
 
 -- the RCODE of an answer: a name error has its own
 abbrev pub answer_rcode : AnswerData → ℕ

@@ -1,6 +1,6 @@
 //! Lines of examples, done one by one on a fleet, and what a want of memory leaves of each.
 
-use crate::What;
+use crate::LineFault;
 use crate::command::{Command, Step, read_command};
 use crate::fleet::Fleet;
 use crate::print::{print_looked, print_same, print_site, print_stepped};
@@ -43,7 +43,7 @@ pub enum Ended<A: Allocator> {
 }
 
 /// Makes the sites of an example: as many as its first line says, or one.
-pub fn begin<A: Allocator + Copy>(fleet: &mut Fleet<A>, first: &str) -> Result<(), What> {
+pub fn begin<A: Allocator + Copy>(fleet: &mut Fleet<A>, first: &str) -> Result<(), LineFault> {
     if let Command::Sites { count } = read_command(first)? {
         return fleet.begin(count);
     }

@@ -4,7 +4,7 @@ use crate::tests::examples::{all_examples, parts_of};
 use crate::tests::refused::MANY;
 use crate::tests::refused::lines::{Line, lines_of};
 use crate::tests::refusing::Refusing;
-use crate::{What, run_script};
+use crate::{LineFault, run_script};
 use std::alloc::Global;
 use std::process::Abort;
 use std::test::Fail;
@@ -38,7 +38,7 @@ fn run_refused(
     let Err(fault) = ended else {
         return Ok(false);
     };
-    assert_eq!(rt; fault.what, What::OutOfMemory);
+    assert_eq!(rt; fault.what, LineFault::OutOfMemory);
     let lines = lines_of(alloc, transcript)?;
     let end = end_before(&lines, fault.line);
     let before = transcript.get(..end).ok_or("no such line")?;

@@ -12,5 +12,5 @@ returns-then-not-may_flush-clause-best g c n e =
 
 pub returns-clause-best : goal.returns-clause-best
 returns-clause-best g c n e =
-    c.look.ensures c.args.held.now n (lasts c.args.moment) (c.at.ensures.of_name n Flush e)
+    c.preferred_of.ensures c.args.held.now n (lasts c.args.moment) (c.at.ensures.of_name n Flush e)
     (moment_shows c.args.moment c.args.held.now n c.at-2.result c.at-2.ensures)

@@ -12,7 +12,7 @@ use Rattle.fleet_cache.specs.Cut.{CutData, is_hidden}
 use Rattle.fleet_cache.specs.steps.Packed.{words_of}
 use Rattle.fleet_cache.specs.steps.Slots.{is_nil, IsLaid}
 use Rattle.fleet_cache.proofs.Slots.{slot_of_key}
-use Rattle.fleet_cache.proofs.Sweeps.{IsTrim, written, taken_out, trim_laid, trim_thinned}
+use Rattle.fleet_cache.proofs.Reclaiming.{IsTrim, written, taken_out, trim_laid, trim_thinned}
 use Rattle.fleet_cache.proofs.store.drop_hidden.Goals as goal
 
 some_left : (xs : List ObservationData) → length xs ≢ 0 → is_nil xs ≡ false

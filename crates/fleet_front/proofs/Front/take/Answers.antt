@@ -21,8 +21,8 @@ returns-clause-taken g c s front =
     let dropped = λ (xs : List _). filter (λ y. not (r.dominates c.args.value y)) xs in
     let kept : c.drop_dominated.new.items.items ≡ dropped c.args.self.now =
     c.drop_dominated.ensures.items ∙ ap dropped (c.make_room.ensures.items ∙ c.self.view_is) in
-    let at : c.place-at.result ≡ count_above r.order c.args.value c.drop_dominated.new.items.items =
-    c.place-at.ensures.count ∙ ap (count_above r.order c.args.value) c.deref-2.ensures.value in
+    let at : c.insertion_index-at.result ≡ count_above r.order c.args.value c.drop_dominated.new.items.items =
+    c.insertion_index-at.ensures.count ∙ ap (count_above r.order c.args.value) c.deref-2.ensures.value in
     let new : c.insert.new.self.items
     ≡ insert_by r.order c.args.value c.drop_dominated.new.items.items =
     c.in_ok-insert.ensures.items

@@ -4,7 +4,7 @@ use Rattle.std.proofs.lemmas.Result.{err_from_is_err_and}
 use Rattle.fleet_wire.specs.Question.{QuestionData}
 use Rattle.fleet_wire.specs.declared.header.Header.{Header}
 use Rattle.fleet_name.proofs.Lemmas.{labels_of-spelled}
-use Rattle.fleet_observe.specs.Meaning.{bad_chain, no_memory}
+use Rattle.fleet_observe.specs.DigestOf.{bad_chain, no_memory}
 use Rattle.fleet_observe.proofs.Spelling.{spells}
 use Rattle.fleet_observe.proofs.LawfulMeanings.{all_plain, no_walk_cut, no_walk_coded, not_so}
 use Rattle.fleet_observe.proofs.reply.digest.Goals as goal

@@ -37,8 +37,8 @@ returns-clause-found c =
         question =
             rw is
             (question_stands c.args.message.now found.0 c.in_ok-others.others.now
-            c.in-Ok.ensures.0.long found.1 in_full c.split_at-2.result.0.now c.short_at.result
-            c.short_at-2.result name enough c.short_at.ensures c.short_at-2.ensures);
+            c.in-Ok.ensures.0.long found.1 in_full c.split_at-2.result.0.now c.read_u16.result
+            c.read_u16-2.result name enough c.read_u16.ensures c.read_u16-2.ensures);
       };
       lower_case = name ∙ ap wire (sym is);
       others = c.in_ok-others.others.now;

@@ -9,7 +9,7 @@ returns-clause-octets g c =
     (query_pieces c.args.id _ _ _ _ _ _ _ _ c.new-octets.ensures.items
     c.in_ok-push_query_head.ensures
     (c.in_ok-extend_from_slice.ensures.items ∙ ap (λ (x : List ℕ). head ++ x) name.octets)
-    c.in_ok-push_short.ensures c.in_ok-push_short-2.ensures)
+    c.in_ok-push_u16.ensures c.in_ok-push_u16-2.ensures)
 
 pub returns-clause-reads_back : goal.returns-clause-reads_back
 returns-clause-reads_back g c =

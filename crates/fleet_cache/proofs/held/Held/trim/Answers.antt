@@ -1,7 +1,7 @@
 use Rattle.std.proofs.Common.{◌≡◌, Bool, true, false, not, refl, subst}
 use Rattle.fleet_cache.specs.Cut.{is_hidden}
 use Rattle.fleet_cache.specs.steps.Slots.{items_of}
-use Rattle.fleet_cache.specs.steps.Swept.{IsTrimmed}
+use Rattle.fleet_cache.specs.steps.Reclaimed.{IsTrimmed}
 use Rattle.fleet_cache.proofs.Slots.{items_descend}
 use Rattle.fleet_cache.proofs.Holdings.{thinned_held}
 use Rattle.fleet_cache.proofs.held.Held.trim.Goals as goal

@@ -1,7 +1,7 @@
 use Rattle.std.proofs.Common.{◌<◌, ◌≤◌, ◌∷◌, ◌∙◌, [], inl, inr, length, take, refl, ap, sym, arith}
 use mathlib.Core.Bool.{false≢true}
 use Rattle.fleet_wire.specs.Record.{RecordData}
-use Rattle.fleet_observe.specs.Meaning.{HasNs, owners_of, IsRepeated}
+use Rattle.fleet_observe.specs.DigestOf.{HasNs, owners_of, IsRepeated}
 use Rattle.std.proofs.lemmas.List.{take_more, take_all}
 use Rattle.fleet_observe.proofs.Lists.{has_at}
 use Rattle.fleet_observe.proofs.Results.{if_err}
@@ -13,8 +13,8 @@ pub loop-record-init : goal.loop-record-init
 loop-record-init g c = rw c.new-sets.ensures.items
     (record { owners = refl; each = λ x h. absurd h })
 
-pub gather-requires : goal.gather-requires
-gather-requires g c =
+pub rrset_at-requires : goal.rrset_at-requires
+rrset_at-requires g c =
     let xs = c.args.authority.now in let i = c.loop-record.record-index in
     let item = c.record-item.result in
     let within : i < length xs = omega arith in

@@ -1,7 +1,7 @@
 use Rattle.std.proofs.Common.{take, []}
 use Rattle.fleet_observe.specs.Members.{Has}
 use Rattle.fleet_observe.specs.RrSet.{RrSetData, IsRrSet}
-use Rattle.fleet_observe.specs.Meaning.{AreOwners, owners_of}
+use Rattle.fleet_observe.specs.DigestOf.{AreOwners, owners_of}
 use Rattle.fleet_observe.proofs.reply.authority.ns_sets.Given as goal
 
 abbrev pub invariant-loop-record : goal.invariant-loop-record

@@ -2,7 +2,7 @@ use Rattle.std.proofs.Common.{◌<◌, inl, inr, length, take, ap, sym, ◌∙�
 use mathlib.Core.Bool.{false≢true}
 use Rattle.fleet_observe.specs.Members.{Has}
 use Rattle.fleet_observe.specs.RrSet.{RrSetData}
-use Rattle.fleet_observe.specs.Meaning.{owners_of}
+use Rattle.fleet_observe.specs.DigestOf.{owners_of}
 use Rattle.std.proofs.lemmas.List.{take_more}
 use Rattle.fleet_observe.proofs.Lists.{has_push, has_at}
 use Rattle.fleet_observe.proofs.Owners.{owners_of-append, owner_listed}

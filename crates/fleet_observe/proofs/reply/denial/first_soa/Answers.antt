@@ -1,7 +1,7 @@
 use Rattle.std.proofs.Common.{◌<◌, ◌≤◌, ◌∙◌, inl, inr, length, take, ap, subst, arith}
 use Rattle.fleet_wire.specs.Record.{RecordData}
 use Rattle.std.proofs.lemmas.List.{take_more, take_all}
-use Rattle.fleet_observe.specs.Meaning.{IsSoaRecord}
+use Rattle.fleet_observe.specs.DigestOf.{IsSoaRecord}
 use Rattle.fleet_observe.proofs.Lists.{has_push}
 use Rattle.fleet_observe.proofs.Soas.{first_at}
 use Rattle.fleet_observe.proofs.reply.denial.first_soa.Goals as goal

@@ -1,7 +1,7 @@
 use Rattle.std.proofs.Common.{◌∙◌, ap, sym, refl}
 use mathlib.Core.Bool.{false≢true}
 use Rattle.fleet_wire.specs.Record.{RecordData}
-use Rattle.fleet_observe.specs.Meaning.{HasSoa}
+use Rattle.fleet_observe.specs.DigestOf.{HasSoa}
 use Rattle.fleet_observe.proofs.Results.{if_err}
 use Rattle.fleet_observe.proofs.Soas.{none_counts, other_counts, first_member, soa_long}
 use Rattle.fleet_observe.proofs.reply.denial.soa_for.Goals as goal

@@ -2,7 +2,7 @@ use Rattle.std.proofs.Common.{◌∙◌, ap}
 use Rattle.fleet_wire.specs.Question.{QuestionData}
 use Rattle.fleet_wire.specs.declared.header.Header.{Header}
 use Rattle.fleet_observe.specs.Digest.{end_data}
-use Rattle.fleet_observe.specs.Meaning.{TellsWalk}
+use Rattle.fleet_observe.specs.DigestOf.{TellsWalk}
 use Rattle.fleet_name.proofs.Lemmas.{labels_of-spelled}
 use Rattle.fleet_observe.proofs.Spelling.{spells}
 use Rattle.fleet_observe.proofs.LawfulMeanings.{all_plain, lawful_meaning, meaning_along_walk}

@@ -8,8 +8,8 @@ pub found_at-requires-clause-plain : goal.found_at-requires-clause-plain
 found_at-requires-clause-plain g c = all_plain _ (rw c.answer-answer.ensures.answer
     c.requires.read.answer)
 
-pub gather-requires : goal.gather-requires
-gather-requires g c = (_, in_of_own _ _ _ _ (rw (← c.record.view_is) at c.in-Some.ensures))
+pub rrset_at-requires : goal.rrset_at-requires
+rrset_at-requires g c = (_, in_of_own _ _ _ _ (rw (← c.record.view_is) at c.in-Some.ensures))
 
 pub soa_for-requires : goal.soa_for-requires
 soa_for-requires g c = all_plain _ (rw c.authority.ensures.authority c.requires.read.authority)

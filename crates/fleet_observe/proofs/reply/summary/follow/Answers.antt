@@ -10,8 +10,8 @@ loop-alias-init g c = rw c.new-chain.ensures.items (record {
   spelled = c.requires.spelled;
 })
 
-pub gather-requires : goal.gather-requires
-gather-requires g c = (_, in_of_own _ _ _ _ (rw (← c.alias.view_is) at c.in-Alias.ensures).of_set)
+pub rrset_at-requires : goal.rrset_at-requires
+rrset_at-requires g c = (_, in_of_own _ _ _ _ (rw (← c.alias.view_is) at c.in-Alias.ensures).of_set)
 
 pub loop-alias-smaller : goal.loop-alias-smaller
 loop-alias-smaller g c =
@@ -24,7 +24,7 @@ loop-alias-preserved g c =
     let i = c.loop-alias.invariant in
     let alias = rw (← c.alias.view_is) at c.in-Alias.ensures in
     let on = rw (← c.as_slice-at.ensures) at alias in
-    let owned = rw alias.of_set.belongs.owner at c.in_ok-link.ensures in
+    let owned = rw alias.of_set.is_of_rrset.owner at c.in_ok-link.ensures in
     rw c.in_ok-push.ensures.items
     (record { linked = linked_more _ _ _ _ _ _ _ i.linked on.goes owned; spelled = on.spelled })
 

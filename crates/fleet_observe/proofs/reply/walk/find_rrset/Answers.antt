@@ -10,7 +10,7 @@ use Rattle.std.proofs.lemmas.List.{take_more, take_all}
 use Rattle.fleet_observe.proofs.Lists.{has_at}
 use Rattle.fleet_observe.proofs.Sections.{IsOne, in_whole, of_whole, one_first, one_same, one_more, empty_more}
 use Rattle.fleet_observe.proofs.reply.walk.find_rrset.Goals as goal
-use Rattle.fleet_observe.proofs.reply.walk.find_rrset.Goals.{then-belongs+in-None, then-belongs+in-Some+else-ne, else-belongs}
+use Rattle.fleet_observe.proofs.reply.walk.find_rrset.Goals.{then-is_of_rrset+in-None, then-is_of_rrset+in-Some+else-ne, else-is_of_rrset}
 
 first_kept : (s : List RecordData) (n : List (List ℕ)) (t : ℕ) (r : RecordData)
     (first : Option (Bor RecordData)) → ¬ Belongs n t r → MatchOption first (IsEmpty s n t)
@@ -25,7 +25,7 @@ returns-then-ne g c =
     let item = c.record-item.result in
     let n = labels_of c.args.name.now in let t = c.args.rtype in
     let within : i < length xs = omega arith in
-    let b = c.belongs.ensures.0 c.if-belongs.true in
+    let b = c.is_of_rrset.ensures.0 c.if-is_of_rrset.true in
     let inv = rw c.in-Some.is at c.loop-record.invariant in
     let held = c.in-Some.held.now in let rdata = λ (r : RecordData). r.rdata in
     let d = slice_eq-Decides Decides-eqb c.as_slice.result.now c.as_slice-in-Some.result.now _
@@ -35,7 +35,7 @@ returns-then-ne g c =
       carrier = item;
       member = has_at xs i item within
           c.record-item.is;
-      belongs = b;
+      is_of_rrset = b;
       rdata = refl;
     } in (
       of_whole xs i n t held inv.of_set,
@@ -57,13 +57,13 @@ loop-record-preserved g c =
     let item = c.record-item.result in
     let within : i < length xs = omega arith in
     let seen = take i xs in let rdata = λ (r : RecordData). r.rdata in
-    elim c.if-belongs.branch [
-      | then-belongs+in-None w ↦
+    elim c.if-is_of_rrset.branch [
+      | then-is_of_rrset+in-None w ↦
           let inv = rw w.in-None.is at c.loop-record.invariant in
-          let b = c.belongs.ensures.0 w.if-belongs.true in
+          let b = c.is_of_rrset.ensures.0 w.if-is_of_rrset.true in
           rw (w.first-is, take_more xs i item within, ← c.record-item.is)
           (one_first seen _ _ item inv b)
-      | then-belongs+in-Some+else-ne w ↦
+      | then-is_of_rrset+in-Some+else-ne w ↦
           let inv = rw w.in-Some.is at c.loop-record.invariant in
           let d = slice_eq-Decides Decides-eqb w.as_slice.result.now w.as_slice-in-Some.result.now
           _ refl in
@@ -72,10 +72,10 @@ loop-record-preserved g c =
           (one_same seen _ _ item _ inv
           (rw (ap rdata w.held.view_is, ap rdata c.record.view_is) at (sym w.as_slice.ensures
           ∙ (same ∙ w.as_slice-in-Some.ensures))))
-      | else-belongs w ↦
+      | else-is_of_rrset w ↦
           rw (w.first-is, take_more xs i item within, ← c.record-item.is)
           (first_kept seen (labels_of c.args.name.now) c.args.rtype item c.loop-record.first
-          (λ b. false≢true (sym w.if-belongs.false ∙ c.belongs.ensures.1 b))
+          (λ b. false≢true (sym w.if-is_of_rrset.false ∙ c.is_of_rrset.ensures.1 b))
           c.loop-record.invariant)
     ]
 

@@ -1,6 +1,6 @@
 use Rattle.std.proofs.Common.{ℕ, List, refl, sym, subst, arith}
 use Rattle.fleet_observe.specs.Observation.{ObservationData}
-use Rattle.fleet_site.specs.steps.Carried.{Carries}
+use Rattle.fleet_site.specs.steps.Carried.{DoesOrStops}
 use Rattle.fleet_site.specs.gossip.Flush.{Flushed}
 use Rattle.fleet_site.specs.SiteModel.{SiteModel}
 use Rattle.fleet_site.specs.StandsFor.{Follows}
@@ -29,7 +29,7 @@ returns-clause-follows g c =
       questions = c.self.invariant.questions;
     } in
     let R : List ObservationData → ℕ → Type 0 =
-    λ taken t. Carries (Flushed i.pending c.args.name.now t) (Unit {0}) taken
+    λ taken t. DoesOrStops (Flushed i.pending c.args.name.now t) (Unit {0}) taken
     i.pending c.flush_name.result c.flush_name.new.cache i.pending in
     for_model P old c.args.self.now c.self.view_is (λ taken cached.
     follows_carried (model_of old taken) call c.flush_name.result new

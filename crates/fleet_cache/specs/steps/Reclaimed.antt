@@ -1,0 +1,29 @@
+-- What a sweep does to what is held.
+-- Serves `Cache::take` and `Cache::purge`, where they free memory.
+use Rattle.std.specs.Prelude.{◌≡◌, ℕ, Bool, not, List, ◌≤◌, length}
+use Rattle.std.specs.List.{filter}
+use Rattle.fleet_observe.specs.Members.{Has}
+use Rattle.fleet_observe.specs.Observation.{ObservationData, Observations}
+use Rattle.fleet_cache.specs.Live.{live_of}
+use Rattle.fleet_cache.specs.Cut.{CutData, is_hidden}
+use Rattle.fleet_cache.specs.steps.Packed.{words_of}
+
+-- of the items, none was dropped of those that live
+pub record IsThinned (lives : ObservationData → Bool) (items rest : Observations) : Type 0
+  where
+    pub live_still : filter lives rest ≡ filter lives items
+    pub of_items : (x : ObservationData) → Has rest x → Has items x
+    pub size : length rest ≤ length items
+
+-- of the items, none was dropped but what is not live at the moment m
+pub record IsReclaimed (m : ℕ) (items rest : Observations) : Type 0 where
+  pub live_still : live_of rest m ≡ live_of items m
+  pub of_items : (x : ObservationData) → Has rest x → Has items x
+  pub size : length rest ≤ length items
+
+-- of the items none was dropped of those that live, whatever lives, where the cut hides just what does
+-- not, of those of the name with these words
+abbrev pub IsTrimmed : List ℕ → CutData → Observations → Observations → Type 0
+IsTrimmed words cut items rest = (lives : ObservationData → Bool)
+    → ((o : ObservationData) → Has items o → words_of o ≡ words → is_hidden cut o ≡ not (lives o))
+    → IsThinned lives items rest

@@ -1,0 +1,94 @@
+//! Dropping what is not live any more, a part of the map at a time.
+
+ghost use Rattle.std.specs.Prelude.{OnErr};
+ghost use Rattle.fleet_cache.specs.Cached.{IsCovered};
+ghost use Rattle.fleet_cache.specs.steps.Held.{IsHeld};
+ghost use Rattle.fleet_cache.specs.steps.Reclaimed.{IsReclaimed};
+
+use crate::held::Held;
+use crate::lookup::cut_at;
+use crate::store::Key;
+use crate::words::MOST_WORDS;
+use fleet_observe::{Moment, Observation};
+use std::alloc::{AllocError, Allocator};
+
+/// A sweep looks at one front of so many, ..
+const SHARE: usize = 256;
+
+/// .. and at least at so many.
+const LEAST: usize = 4096;
+
+/// Where a sweep stopped: the key of the front that it looked at last, or no words at the start.
+#[derive(Drop)]
+pub(crate) struct Cursor<A: Allocator> {
+    key: Key<A>,
+}
+
+impl<A: Allocator> Cursor<A> {
+    /// At the start, with no room for a key. This takes no memory.
+    pub(crate) fn new(alloc: A) -> Cursor<A> {
+        Cursor {
+            key: Vec::new(alloc),
+        }
+    }
+
+    /// Makes room for any key, going back to the start, before the map takes an observation in that
+    /// it does not hold. Memory is wanted once at most.
+    pub(crate) fn make_room(
+        &mut self,
+        held: &Held<A>,
+        observation: &Observation<A>,
+    ) -> Result<(), AllocError>
+        ensures memory { OnErr result (¬ IsCovered held.now observation.now) }
+        ensures own { OnErr result (IsHeld held.now) }
+    {
+        if self.key.capacity() >= MOST_WORDS || held.covers(observation) {
+            return Ok(());
+        }
+        self.key.clear();
+        self.key.reserve_exact(MOST_WORDS)
+    }
+
+    /// Goes back to the start.
+    pub(crate) fn rewind(&mut self) {
+        self.key.clear();
+    }
+
+    /// Goes on to the next key, or back to the start where there is none. It takes no memory: where
+    /// there is no room for the key, it goes back to the start too.
+    fn advance(&mut self, held: &Held<A>) -> bool {
+        let Some(key) = held.key_behind(&self.key) else {
+            self.key.clear();
+            return false;
+        };
+        self.key.clear();
+        key.len() <= self.key.capacity() && self.key.extend_from_slice(key).is_ok()
+    }
+}
+
+/// Drops what is not live at the moment, in a part of the fronts: those behind the cursor, which goes
+/// on with them, and back to the start behind the last one. Fronts of which nothing is left go too.
+pub(crate) fn reclaim<A: Allocator>(held: &mut Held<A>, cursor: &mut Cursor<A>, moment: Moment)
+    ensures reclaimed { IsReclaimed moment held.old held.new }
+    ensures own { IsHeld held.old }
+{
+    let mut left = (held.len() / SHARE).max(LEAST);
+    while left > 0 && cursor.advance(held) {
+        trim(held, &cursor.key, moment);
+        left -= 1;
+    }
+}
+
+/// Drops what is not live at the moment of the front of a name.
+fn trim<A: Allocator>(held: &mut Held<A>, key: &Key<A>, moment: Moment)
+    ensures reclaimed { IsReclaimed moment held.old held.new }
+{
+    let Some(front) = held.front(key) else {
+        return;
+    };
+    let Some(first) = front.items().first() else {
+        return;
+    };
+    let cut = cut_at(held, first.observation().name().octets(), moment);
+    held.trim(key, &cut);
+}
