@@ -10,7 +10,7 @@ use Rattle.fleet_wire.specs.declared.class.TheConstants.{IN}
 use Rattle.fleet_pending.specs.Asking.{Settles, Advances}
 use Rattle.fleet_pending.specs.Due.{IsFirstDue, NoneDue, Dues, due_at}
 use Rattle.fleet_pending.specs.DueCount.{CountsDue}
-use Rattle.fleet_pending.specs.PendingData.{EntryData, PendingData, IsPendingData, HasRoomFor}
+use Rattle.fleet_pending.specs.PendingData.{EntryData, PendingData, IsPendingData, AsksFor}
 use Rattle.fleet_pending.specs.Settled.{SettlesItsEntry}
 use Rattle.fleet_pending.specs.declared.answer.Due.{Due}
 use Rattle.fleet_pending.specs.declared.answer.Due.TheVariants.{Retry, Failed}
@@ -22,7 +22,7 @@ use Rattle.fleet_site.specs.Tick.{question_of, failure_to, Ticked, LeavesFewer}
 use Rattle.fleet_site.proofs.Tables.{settles_entry}
 
 -- a question for an entry's name and type asks, in lower case, what the entry asks
-lowered_same : (e : EntryData) (q : QuestionData) → HasRoomFor q e → q.class ≡ IN
+lowered_same : (e : EntryData) (q : QuestionData) → AsksFor q e → q.class ≡ IN
     → lowercase_question q ≡ question_of e
 lowered_same e q is class =
     let name : q.name ≡ e.name = sym is.0 in
@@ -32,7 +32,7 @@ lowered_same e q is class =
     ∙ ap (λ c. record (question_of e) { class = c }) class
 
 -- and the query does not tell the spelling
-pub asks_same : (id : ℕ) (q : QuestionData) (e : EntryData) → HasRoomFor q e → q.class ≡ IN
+pub asks_same : (id : ℕ) (q : QuestionData) (e : EntryData) → AsksFor q e → q.class ≡ IN
     → query_octets id q ≡ query_octets id (question_of e)
 asks_same id q e is class = ap (λ x. query_head id ++ question_octets x) (lowered_same e q is class)
 
