@@ -65,7 +65,11 @@ impl<A: Allocator + Copy> Fleet<A> {
             Some(world) => world.site(site).is_some(),
             None => site == 0,
         };
-        if there { Ok(()) } else { Err(LineFault::NoSuchSite) }
+        if there {
+            Ok(())
+        } else {
+            Err(LineFault::NoSuchSite)
+        }
     }
 
     /// Checks that a frame was sent under this number: none before the first event.

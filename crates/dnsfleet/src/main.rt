@@ -29,7 +29,7 @@ ghost use Rattle.dnsfleet.specs.declared.TheConstants.{BAD_WORDS};
 use clap::error::ErrorKind as Mistake;
 use clap::{Command, Error};
 use fault::fail;
-pub use fault::{ScriptFault, LineFault};
+pub use fault::{LineFault, ScriptFault};
 pub use script::run_script;
 use serve::{Words, run_server};
 pub use settings::{Settings, SettingsFault, read_settings};

@@ -3,7 +3,7 @@
 ghost use Rattle.std.specs.Prelude.{◌<◌, IfErr};
 
 use crate::command::{Command, Step, read_command};
-use crate::fault::{ScriptFault, LineFault};
+use crate::fault::{LineFault, ScriptFault};
 use crate::fleet::Fleet;
 use crate::lines::Lines;
 use crate::print::{print_looked, print_same, print_site, print_stepped};

@@ -15,7 +15,7 @@ mod serving;
 mod settings;
 mod told;
 
-use crate::{ScriptFault, LineFault, end_script, run_script};
+use crate::{LineFault, ScriptFault, end_script, run_script};
 use examples::{Example, all_examples, example_of};
 use messages::message_of;
 use readers::{Failing, Full, Slow};
@@ -435,7 +435,12 @@ fn names_each_fault_of_words(rt: HostRuntime) -> Result<(), Fail> {
     let alloc = rt.alloc();
     check_name(&rt, alloc, LineFault::NotAscii, "line 7: not ASCII")?;
     check_name(&rt, alloc, LineFault::UnknownEvent, "line 7: unknown event")?;
-    check_name(&rt, alloc, LineFault::WordCount, "line 7: wrong number of words")?;
+    check_name(
+        &rt,
+        alloc,
+        LineFault::WordCount,
+        "line 7: wrong number of words",
+    )?;
     check_name(&rt, alloc, LineFault::BadNumber, "line 7: bad number")?;
     check_name(&rt, alloc, LineFault::BadAddress, "line 7: bad address")?;
     check_name(&rt, alloc, LineFault::BadHex, "line 7: bad hex")

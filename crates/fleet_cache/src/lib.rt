@@ -14,9 +14,9 @@ mod items;
 mod laws;
 mod lookup;
 mod noted;
+mod reclaim;
 mod shown;
 mod store;
-mod reclaim;
 mod words;
 
 pub use answer::{Answer, Chain};

@@ -9,7 +9,7 @@ pub mod rank;
 mod reply;
 
 pub use bounds::{LONGEST_BODY, LONGEST_DENIAL, LONGEST_LIFE};
-pub use laws::{each_once, digest_or_fault, one_key, one_digest, one_walk};
+pub use laws::{digest_or_fault, each_once, one_digest, one_key, one_walk};
 pub use observation::Observation;
 pub use observation::fault::ObservationFault;
 pub use observation::kind::Kind;

@@ -9,7 +9,7 @@ ghost use Rattle.fleet_cache.specs.AnswerData.{answer_data};
 ghost use Rattle.fleet_site.specs.steps.Carried.{IsAskable, IsAnswered, SaysUnread};
 ghost use Rattle.fleet_site.specs.question.Verdict.{IsAsking, verdict, IsServedQuestion, DecidesAnswer, DecidesQuestion, Decides};
 
-use crate::writing::{bare_reply, is_miss, reply_without, reply_with_answer};
+use crate::writing::{bare_reply, is_miss, reply_with_answer, reply_without};
 use fleet_cache::{Answer, Cache};
 use fleet_name::Octets;
 use fleet_observe::{Moment, is_data_type};

@@ -7,7 +7,7 @@ ghost use Rattle.fleet_wire.specs.declared.bounds.TheConstants.{LONGEST_MESSAGE}
 
 use crate::fault::ReadFault;
 use crate::name_reader::{Spelled, name_of, spelling_at};
-use crate::number::{read_u32, read_u16};
+use crate::number::{read_u16, read_u32};
 use crate::shape::{Rdata, rdata_at};
 use fleet_name::{Name, Octets};
 use std::alloc::{AllocError, Allocator, Global};
