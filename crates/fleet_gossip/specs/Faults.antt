@@ -113,7 +113,7 @@ BodyFails Flush name rtype = λ octets f. ⊥
 -- the first fault of a name and of what stands behind it: the name fails, or it is one and what
 -- stands behind it fails
 pub data NameFieldFails (refusal : FrameFault)
-    (Behind : List OctetList → OctetList → FrameFault → Type 0) (octets : OctetList) (f : FrameFault)
+    (Behind : Labels → OctetList → FrameFault → Type 0) (octets : OctetList) (f : FrameFault)
     : Type 0 where
   name_fails : FrameNameFails refusal octets f → NameFieldFails refusal Behind octets f
   behind_name : (name : Labels) (rest : OctetList) → octets ≡ wire name ++ rest → IsName name
