@@ -248,7 +248,7 @@ pub fn write_reply<A: Allocator, B: Allocator>(
 }
 
 /// Writes the octets that `write_reply` gives in place of what `out` holds. Where it has room for
-/// 512 octets, this takes no memory.
+/// 512 octets, this takes no memory. `Err` where there is none for them; `out` then holds anything.
 pub fn write_reply_into<A: Allocator, B: Allocator>(
     out: &mut Vec<u8, A>,
     outline: &Outline<B>,
