@@ -1,13 +1,14 @@
 //! Questions that are lent.
 
-ghost use Rattle.std.specs.Prelude.{◌≡◌, None, List, ℕ, ◌++◌, ◌+◌, ◌≤◌, length, IfSome, MatchOption};
+ghost use Rattle.std.specs.Prelude.{◌≡◌, None, List, ℕ, ◌++◌, ◌+◌, ◌≤◌, length, IfOk, IfSome, MatchOption};
 ghost use Rattle.fleet_name.specs.Name.{wire, labels_of, IsName};
 ghost use Rattle.fleet_name.specs.declared.bounds.TheConstants.{LONGEST_NAME};
 ghost use Rattle.fleet_wire.specs.Number.{u16_at};
 ghost use Rattle.fleet_wire.specs.Question.{QuestionData, IsQuestionData};
 
 use crate::question::Question;
-use std::alloc::Allocator;
+use fleet_name::{Name, Octets};
+use std::alloc::{AllocError, Allocator};
 use std::marker::Model;
 
 /// A question (RFC 1035 4.1.2) that a message or a `Question` lends: nothing of it is copied.
@@ -56,6 +57,20 @@ impl<'a> LentQuestion<'a> {
         ensures { result ≡ self.now.class }
     {
         self.class
+    }
+
+    /// A copy in memory of its own, or `Err` where there is no memory for it.
+    pub fn try_copy<A: Allocator + Copy>(&self, alloc: A) -> Result<Question<A>, AllocError>
+        ensures { IfOk result (λ q. q ≡ self.now) }
+    {
+        let spelled = Octets::copy_of(alloc, self.spelled)?;
+        let name = Name::copy_of(alloc, self.name)?;
+        Ok(Question {
+            spelled,
+            name,
+            rtype: self.rtype,
+            class: self.class,
+        })
     }
 
     /// How many octets the name has in full, 255 at most (RFC 1035 2.3.4).

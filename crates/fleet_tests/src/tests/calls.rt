@@ -147,6 +147,7 @@ fn a_full_table(rt: HostRuntime) -> Result<(), Fail> {
         &mut site,
         "\
 100 datagram 6001 65535 question-0256 => 6001 failure-0256 refused Full
+100 handle 6001 65535 question-0256 => 6001 failure-0256 refused Full clock 100
 102 tick => 5302 query-0001 more
 ",
     )
@@ -174,6 +175,7 @@ fn a_full_entry(rt: HostRuntime) -> Result<(), Fail> {
         &mut site,
         "\
 100 datagram 6033 65535 question => 6033 failure refused Full
+100 handle 6033 65535 question => 6033 failure refused Full clock 100
 100 datagram 6001 4660 question =>
 ",
     )

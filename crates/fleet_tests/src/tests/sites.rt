@@ -4,7 +4,7 @@ use crate::tests::octets::{octets, spelt_out, tell_octets};
 use fleet_name::{Name, Octets};
 use fleet_observe::Moment;
 use fleet_pending::Addr;
-use fleet_site::{Config, Looked, Outcome, Packet, Site};
+use fleet_site::{Config, Handled, Looked, Outcome, Packet, Site};
 use fleet_wire::bounds::LONGEST_MESSAGE;
 use std::alloc::Global;
 use std::process::Abort;
@@ -118,15 +118,21 @@ fn tell_datagram(told: &mut String, site: &mut Site, now: Moment, words: &str) -
     tell_outcome(told, &site.datagram(now, from, octets.as_slice(), word)?)
 }
 
-/// A datagram that may be a hit comes in, from a port: what is written in place of what a buffer holds,
-/// where it is one, and the clock of the site behind it.
-fn tell_hit(told: &mut String, site: &mut Site, now: Moment, words: &str) -> Result<(), Fail> {
-    let (port, name) = words.split_once(' ').ok_or("no port")?;
+/// A datagram comes in: from a port, with a word, and with a buffer. `into` stands before a packet
+/// whose octets are then in the buffer. The clock of the site behind it comes last.
+fn tell_handled(told: &mut String, site: &mut Site, now: Moment, words: &str) -> Result<(), Fail> {
+    let (port, words) = words.split_once(' ').ok_or("no port")?;
+    let (word, name) = words.split_once(' ').ok_or("no word")?;
     let from = addr(number(port)?);
+    let word = number(word)?;
     let octets = octets(*told.allocator(), name)?;
     let mut out = vec![in *told.allocator(); 255u8; LONGEST_MESSAGE]?;
-    if site.hit(now, from, octets.as_slice(), &mut out) {
-        tell_packet(told, from, out.as_slice())?;
+    match site.datagram_into(now, from, octets.as_slice(), word, &mut out)? {
+        Handled::Reply => {
+            told.push_str(" into")?;
+            tell_packet(told, from, out.as_slice())?;
+        }
+        Handled::Outcome(outcome) => tell_outcome(told, &outcome)?,
     }
     told.push_str(" clock")?;
     tell_number(told, site.clock().value())
@@ -172,7 +178,7 @@ fn tell_call(told: &mut String, site: &mut Site, call: &str) -> Result<(), Fail>
     let now = moment(now)?;
     match call {
         "datagram" => tell_datagram(told, site, now, words),
-        "hit" => tell_hit(told, site, now, words),
+        "handle" => tell_handled(told, site, now, words),
         "tick" => tell_outcome(told, &site.tick(now)?),
         "frame" => tell_frame(told, site, now, words),
         "learn" => tell_learn(told, site, now, words),
