@@ -71,7 +71,7 @@ shape_or_fault m p k (Some parts) o f r (inl h) = parts_or_fault m parts p o (p 
 shape_or_fault m p k (Some parts) o f r (inr h) =
     h.3 (one_parts m parts p h.0 o h.1 (p + k) h.2 r).1
 
--- want of memory is no fault of parts, nor of RDATA
+-- out of memory is no fault of parts, nor of RDATA
 parts_no_memory : (m : List ℕ) (parts : List Part) (p : ℕ) (f : ReadFault) → PartsFail m parts p f
     → f ≡ OutOfMemory → ⊥
 parts_no_memory m [] p f h e = h

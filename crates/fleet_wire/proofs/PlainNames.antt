@@ -16,7 +16,7 @@ use Rattle.fleet_wire.specs.Shape.{ArePlain}
 use Rattle.fleet_wire.proofs.Readings.{one_reading, none_read, label_same, octets}
 use Rattle.fleet_wire.proofs.Written.{stands_written}
 
--- the name at the front of octets stands there
+-- the name at the front of octets is at that place of the message
 pub stands_first : (m : List ℕ) (n : List (List ℕ)) (others : List ℕ) → IsName n
     → m ≡ wire n ++ others → NameAt m 0 0 n (0 + length (wire n))
 stands_first m n others named e =

@@ -1,4 +1,4 @@
--- Questions that stand in full and in lower case.
+-- Questions in full and in lower case.
 use Rattle.std.proofs.Common.{◌≡◌, ℕ, ◌+◌, ◌-◌, ◌≤◌, List, [], ◌∷◌, ◌++◌, length, take, drop, refl, sym, ap, ◌∙◌, arith, length-append}
 use Rattle.std.proofs.Math.Seq.{take-append_seam}
 use Rattle.std.proofs.lemmas.List.{append-nil, take-append-drop, length-take-le}
@@ -37,7 +37,7 @@ name_lent octets n named e =
       named = rw is named;
     }
 
--- two numbers stand where octets do
+-- two numbers are where their octets are
 pub numbers_stand : (m : List ℕ) (p : ℕ) (others : List ℕ) → 4 ≤ length others → SitsAt m p others
     → (u16_at m p ≡ u16_at others 0) × (u16_at m (p + 2) ≡ u16_at others 2)
 numbers_stand m p [] long s = absurd (omega (arith, long))
@@ -54,7 +54,7 @@ numbers_stand m p (a ∷ b ∷ c ∷ d ∷ r) long s =
 
 module _ (m : List ℕ) (n : List (List ℕ)) (others : List ℕ) (long : 12 ≤ length m)
     (named : IsName n) (e : drop 12 m ≡ wire n ++ others) where
-  -- what stands behind the header
+  -- what follows the header
   sits : SitsAt m 12 (wire n ++ others)
   sits = record {
     front = take 12 m;
@@ -93,7 +93,7 @@ module _ (m : List ℕ) (n : List (List ℕ)) (others : List ℕ) (long : 12 ≤
         end_is = refl;
       }
 
--- behind the name of a plain question stand four octets
+-- four octets follow the name of a plain question
 pub plain_behind : (m : List ℕ) (h : Header) (q : QuestionData) (n : List (List ℕ))
     (others : List ℕ) → IsName n → drop 12 m ≡ wire n ++ others → IsPlainQuery m h q
     → 4 ≤ length others

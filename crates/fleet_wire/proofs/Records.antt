@@ -84,7 +84,7 @@ one_row m p (r ∷ rs) (r' ∷ rs') x y one two n =
       others.1,
     )
 
--- behind fewer records than stand there no record fails
+-- after fewer records than are there none fails
 row_or_fault : (m : List ℕ) (p middle e : ℕ) (rs all : List RecordData) (f : ReadFault)
     → RecordsAt m p rs middle → length rs < length all → RecordFails m middle f
     → RecordsAt m p all e → ⊥
@@ -101,14 +101,14 @@ pub records_or_fault : (m : List ℕ) (p count e : ℕ) (all : List RecordData) 
 records_or_fault m p count e all f at n h =
     row_or_fault m p h.1 e h.0 all f h.2 (omega (arith, n, h.3)) h.4 at
 
--- one more record behind those that stand there
+-- one more record after those that are there
 pub records_more : (m : List ℕ) (p middle e : ℕ) (rs : List RecordData) (r : RecordData)
     → RecordsAt m p rs middle → RecordAt m middle r e → RecordsAt m p (rs ++ r ∷ []) e
 records_more m p middle e [] r before at = (e, subst (λ (q : ℕ). RecordAt m q r e) before at, refl)
 records_more m p middle e (first ∷ rs) r before at =
     (before.0, before.1, records_more m before.0 middle e rs r before.2 at)
 
--- where records stand in a row, the first one doesn't fail, and the others stand behind it
+-- where records are in a row, the first one doesn't fail, and the others follow it
 pub first_stands : (m : List ℕ) (p count : ℕ) (f : ReadFault) → HasRecords m p count → 0 < count
     → RecordFails m p f → ⊥
 first_stands m p count f ([], e, at, n) some h = omega (arith, n, some)
@@ -167,7 +167,7 @@ one_question m p a b x y one two =
           ∙ (ap (λ (q : ℕ). q + 4) same.1 ∙ sym two.end_is),
     )
 
--- want of memory is no fault of a record, nor of a question
+-- out of memory is no fault of a record, nor of a question
 fixed_no_memory : (m : List ℕ) (past : ℕ) (f : ReadFault) → FixedFails m past f → f ≡ OutOfMemory
     → ⊥
 fixed_no_memory m past f (inl h) e = let t : Truncated ≡ OutOfMemory = sym h.1 ∙ e in absurd (cc)
@@ -193,7 +193,7 @@ sections_no_memory m past true f h e = h
 sections_no_memory m past false f (inl h) e = records_no_memory m past (u16_at m 6) f h e
 sections_no_memory m past false f (inr h) e = records_no_memory m h.1 (u16_at m 8) f h.4 e
 
--- want of memory is no fault of a query, nor of a reply
+-- out of memory is no fault of a query, nor of a reply
 pub query_no_memory : (m : List ℕ) (f : ReadFault) → QueryFails m f → f ≡ OutOfMemory → ⊥
 query_no_memory m f (inl h) e = header_no_memory m f h e
 query_no_memory m f (inr h) e = question_no_memory m 12 f h.1 e
@@ -286,7 +286,7 @@ module _ (m : List ℕ) (h : Header) (q : QuestionData) (past : ℕ) (f : ReadFa
       section_fails
       (inr (a, middle, at, count, subst (λ (n : ℕ). RecordsFail m middle n f) count' fails))
 
--- and the sections of a reply stand behind the question
+-- and the sections of a reply follow the question
 module _ (m : List ℕ) (h : Header) (q : QuestionData) (past : ℕ) (is : IsQuery m h q past)
     (whole : h.tc ≡ false) where
   sections_stand : HasReply m

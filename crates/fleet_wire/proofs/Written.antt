@@ -21,7 +21,7 @@ use Rattle.fleet_wire.specs.Outline.{flag, record_octets, question_octets, Outli
 use Rattle.fleet_name.proofs.Lemmas.{IsAnyCase, any_case-from_lower, lower_all-same, lower-wire}
 use Rattle.fleet_wire.proofs.Spelled.{labels_spelled}
 
--- these octets stand at a place of the message
+-- these octets are at a place of the message
 pub record SitsAt (m : List ℕ) (p : ℕ) (x : List ℕ) : Type 0 where
   pub front : List ℕ
   pub back : List ℕ

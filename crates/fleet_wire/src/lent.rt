@@ -1,4 +1,4 @@
-//! Questions that are lent.
+//! Questions that borrow their name.
 
 ghost use Rattle.std.specs.Prelude.{◌≡◌, None, List, ℕ, ◌++◌, ◌+◌, ◌≤◌, length, IfSome, MatchOption};
 ghost use Rattle.fleet_name.specs.Name.{wire, labels_of, IsName};
@@ -10,16 +10,16 @@ use crate::question::Question;
 use std::alloc::Allocator;
 use std::marker::Model;
 
-/// A question (RFC 1035 4.1.2) that a message or a `Question` lends: nothing of it is copied.
+/// A question (RFC 1035 4.1.2) that borrows its name from a message or a `Question`.
 #[derive(Drop)]
 pub struct LentQuestion<'a> {
     /// The name in full, in its own case.
     pub(crate) spelled: &'a [u8],
     /// The name in full, in lower case.
     pub(crate) name: &'a [u8],
-    /// The type that is asked for.
+    /// QTYPE.
     pub(crate) rtype: u16,
-    /// The class that is asked for.
+    /// QCLASS.
     pub(crate) class: u16,
 }
 
@@ -44,14 +44,14 @@ impl<'a> LentQuestion<'a> {
         self.name
     }
 
-    /// The type that is asked for.
+    /// QTYPE.
     pub fn rtype(&self) -> u16
         ensures { result ≡ self.now.rtype }
     {
         self.rtype
     }
 
-    /// The class that is asked for.
+    /// QCLASS.
     pub fn class(&self) -> u16
         ensures { result ≡ self.now.class }
     {
@@ -68,7 +68,7 @@ impl<'a> LentQuestion<'a> {
 }
 
 impl<A: Allocator> Question<A> {
-    /// The question, lent.
+    /// The question, with its name borrowed from this one.
     pub fn lend(&self) -> LentQuestion<'_>
         ensures { result ≡ self.now }
     {
