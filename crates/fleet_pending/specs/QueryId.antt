@@ -24,13 +24,13 @@ TellsId o q word None =
     ((i : ℕ) × ((e : EntryData) × At o.entries i e × AsksFor q e))
     ⊎ (MOST_ENTRIES ≤ length o.entries)
 
--- with an id, asking sends the query under it to the first upstream, or finds no memory; with none
--- it sends no query
+-- with an id, asking sends the query with it to the first upstream, or runs out of memory; with
+-- none it sends no query
 abbrev pub IsAskedUnder : Option ℕ → Result Asked PendingFault → Type 0
 IsAskedUnder (Some id) r = (r ≡ Ok (Send 0 id)) ⊎ (r ≡ Err OutOfMemory)
 IsAskedUnder None r = (upstream id : ℕ) → r ≢ Ok (Send upstream id)
 
--- so it is with the id that is told
+-- so it is with the id that `query_id` returns
 abbrev pub AskedUnderIdTold : Type 0
 AskedUnderIdTold =
     (o n : PendingData) (w : WaiterData) (moment : Seconds) (word : ℕ) (told : Option ℕ)
