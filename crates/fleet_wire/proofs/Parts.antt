@@ -17,17 +17,17 @@ pub name_or_fault : (m : List ℕ) (p : ℕ) (n : List (List ℕ)) (e : ℕ) (f 
     → ReadsName m p n e → NameFails m p f → ⊥
 name_or_fault m p n e f r h =
     none_from_fails m p f r.spelled e h (subst (λ (x : List (List ℕ)). IsName x) r.lowered r.named)
-    r.stands
+    r.name_at
 
 pub one_reads : (m : List ℕ) (p : ℕ) (a b : List (List ℕ)) (x y : ℕ) → ReadsName m p a x
     → ReadsName m p b y → (a ≡ b) × (x ≡ y)
 one_reads m p a b x y one two =
-    let same = one_reading m p p one.spelled two.spelled x y one.stands two.stands in
+    let same = one_reading m p p one.spelled two.spelled x y one.name_at two.name_at in
     (one.lowered ∙ (ap lower_all same.0 ∙ sym two.lowered), same.1)
 
 pub reads_within : (m : List ℕ) (p : ℕ) (n : List (List ℕ)) (e : ℕ) → ReadsName m p n e
     → e ≤ length m
-reads_within m p n e r = ends_within m p p r.spelled e r.stands
+reads_within m p n e r = ends_within m p p r.spelled e r.name_at
 
 pub reads_named : (m : List ℕ) (p : ℕ) (n : List (List ℕ)) (e : ℕ) → ReadsName m p n e → IsName n
 reads_named m p n e r = r.named

@@ -22,17 +22,17 @@ shape_moved m past past' t t' o e e' h =
     subst (λ (x : ℕ). ShapeAt m (past + 10) (u16_at m (past + 8)) (shape_of x) o) e'
     (subst (λ (x : ℕ). ShapeAt m (x + 10) (u16_at m (x + 8)) (shape_of t') o) e h)
 
-told_of : List (List ℕ) → ℕ → ℕ → ℕ → List ℕ → RecordData
-told_of name rtype class ttl rdata =
+record_from : List (List ℕ) → ℕ → ℕ → ℕ → List ℕ → RecordData
+record_from name rtype class ttl rdata =
     record { name = name; rtype = rtype; class = class; ttl = ttl; rdata = rdata }
 
-told_same : (a b : RecordData) → a.name ≡ b.name → a.rtype ≡ b.rtype → a.class ≡ b.class
+record_same : (a b : RecordData) → a.name ≡ b.name → a.rtype ≡ b.rtype → a.class ≡ b.class
     → a.ttl ≡ b.ttl
     → a.rdata ≡ b.rdata → a ≡ b
-unfolding told_of
-told_same a b name rtype class ttl rdata =
-    let h : told_of a.name a.rtype a.class a.ttl a.rdata
-    ≡ told_of b.name b.rtype b.class b.ttl b.rdata = cc in h
+unfolding record_from
+record_same a b name rtype class ttl rdata =
+    let h : record_from a.name a.rtype a.class a.ttl a.rdata
+    ≡ record_from b.name b.rtype b.class b.ttl b.rdata = cc in h
 
 pub one_record : (m : List ℕ) (p : ℕ) (a b : RecordData) (x y : ℕ) → RecordAt m p a x
     → RecordAt m p b y
@@ -48,7 +48,7 @@ one_record m p a b x y one two =
     one_shape m (one.past + 10) (u16_at m (one.past + 8)) (shape_of a.rtype) a.rdata b.rdata
     one.rdata (shape_moved m one.past two.past a.rtype b.rtype b.rdata (sym same.1) (sym rtype)
     two.rdata) in (
-      told_same a b same.0 rtype class ttl rdata,
+      record_same a b same.0 rtype class ttl rdata,
       one.end_is
           ∙ (ap (λ (q : ℕ). q + 10 + u16_at m (q + 8)) same.1 ∙ sym two.end_is),
     )
@@ -109,23 +109,23 @@ records_more m p middle e (first ∷ rs) r before at =
     (before.0, before.1, records_more m before.0 middle e rs r before.2 at)
 
 -- where records are in a row, the first one doesn't fail, and the others follow it
-pub first_stands : (m : List ℕ) (p count : ℕ) (f : ReadFault) → HasRecords m p count → 0 < count
+pub first_lies : (m : List ℕ) (p count : ℕ) (f : ReadFault) → HasRecords m p count → 0 < count
     → RecordFails m p f → ⊥
-first_stands m p count f ([], e, at, n) some h = omega (arith, n, some)
-first_stands m p count f (r ∷ rs, e, at, n) some h = record_or_fault m p r at.0 f at.1 h
+first_lies m p count f ([], e, at, n) some h = omega (arith, n, some)
+first_lies m p count f (r ∷ rs, e, at, n) some h = record_or_fault m p r at.0 f at.1 h
 
-pub others_stand : (m : List ℕ) (p count left : ℕ) (r : RecordData) (past : ℕ)
+pub others_lie : (m : List ℕ) (p count left : ℕ) (r : RecordData) (past : ℕ)
     → HasRecords m p count
     → count ≡ left + 1 → RecordAt m p r past → HasRecords m past left
-others_stand m p count left r past ([], e, at, n) some one = absurd (omega (arith, n, some))
-others_stand m p count left r past (r' ∷ rs, e, at, n) some one =
+others_lie m p count left r past ([], e, at, n) some one = absurd (omega (arith, n, some))
+others_lie m p count left r past (r' ∷ rs, e, at, n) some one =
     let same = one_record m p r' r at.0 past at.1 one in
     (rs, e, subst (λ (q : ℕ). RecordsAt m q rs e) same.1 at.2, omega (arith, n, some))
 
 reads_question : (m : List ℕ) (p : ℕ) (q : QuestionData) (e : ℕ) → (at : IsQuestion m p q e)
     → ReadsName m p q.name at.past
 reads_question m p q e at =
-    record { spelled = at.labels; stands = at.stands; lowered = at.name; named = at.named }
+    record { spelled = at.labels; name_at = at.name_at; lowered = at.name; named = at.named }
 
 question_or_fault : (m : List ℕ) (p : ℕ) (q : QuestionData) (e : ℕ) (f : ReadFault)
     → IsQuestion m p q e
@@ -155,7 +155,7 @@ asked_same a b spelled name rtype class =
 pub one_question : (m : List ℕ) (p : ℕ) (a b : QuestionData) (x y : ℕ) → IsQuestion m p a x
     → IsQuestion m p b y → (a ≡ b) × (x ≡ y)
 one_question m p a b x y one two =
-    let same = one_reading m p p one.labels two.labels one.past two.past one.stands two.stands in
+    let same = one_reading m p p one.labels two.labels one.past two.past one.name_at two.name_at in
     let spelled : a.spelled ≡ b.spelled = one.spelled ∙ (ap wire same.0 ∙ sym two.spelled) in
     let name : a.name ≡ b.name = one.name ∙ (ap lower_all same.0 ∙ sym two.name) in
     let rtype : a.rtype ≡ b.rtype =
@@ -289,9 +289,9 @@ module _ (m : List ℕ) (h : Header) (q : QuestionData) (past : ℕ) (f : ReadFa
 -- and the sections of a reply follow the question
 module _ (m : List ℕ) (h : Header) (q : QuestionData) (past : ℕ) (is : IsQuery m h q past)
     (whole : h.tc ≡ false) where
-  sections_stand : HasReply m
+  sections_lie : HasReply m
       → (a : List RecordData) × (b : List RecordData) × SectionsAt m past false a b
-  sections_stand (r, reply) =
+  sections_lie (r, reply) =
       let same = one_question m 12 r.question q reply.past past reply.query.question is.question in
       let tc : r.header.tc ≡ false =
       ap (λ (x : Header). x.tc) (reply.query.header ∙ sym is.header) ∙ whole in (
@@ -302,27 +302,27 @@ module _ (m : List ℕ) (h : Header) (q : QuestionData) (past : ℕ) (is : IsQue
             reply.sections),
       )
 
-  pub answer_stands : (k : ℕ) → k ≡ get_or h.counts 1 0 → HasReply m → HasRecords m past k
-  answer_stands k e reply =
-      let s = (sections_stand reply).2 in (
-        (sections_stand reply).0,
+  pub answer_lies : (k : ℕ) → k ≡ get_or h.counts 1 0 → HasReply m → HasRecords m past k
+  answer_lies k e reply =
+      let s = (sections_lie reply).2 in (
+        (sections_lie reply).0,
         s.0,
         s.2,
         s.3
             ∙ sym (e ∙ ap (λ (x : Header). get_or x.counts 1 0) is.header),
       )
 
-  pub authority_stands : (k l middle : ℕ) (a : List RecordData) → k ≡ get_or h.counts 1 0
+  pub authority_lies : (k l middle : ℕ) (a : List RecordData) → k ≡ get_or h.counts 1 0
       → l ≡ get_or h.counts 2 0 → RecordsAt m past a middle → length a ≡ k → HasReply m
       → HasRecords m middle l
-  authority_stands k l middle a e e' at n reply =
-      let s = (sections_stand reply).2 in
+  authority_lies k l middle a e e' at n reply =
+      let s = (sections_lie reply).2 in
       let count : length a ≡ u16_at m 6 =
       n ∙ (e ∙ ap (λ (x : Header). get_or x.counts 1 0) is.header) in
-      let same = one_row m past (sections_stand reply).0 a s.0 middle s.2 at (s.3 ∙ sym count) in (
-        (sections_stand reply).1,
+      let same = one_row m past (sections_lie reply).0 a s.0 middle s.2 at (s.3 ∙ sym count) in (
+        (sections_lie reply).1,
         s.1,
-        subst (λ (p : ℕ). RecordsAt m p (sections_stand reply).1 s.1) same.1 s.4,
+        subst (λ (p : ℕ). RecordsAt m p (sections_lie reply).1 s.1) same.1 s.4,
         s.5
             ∙ sym (e' ∙ ap (λ (x : Header). get_or x.counts 2 0) is.header),
       )

@@ -39,6 +39,6 @@ pub data NameAt (m : OctetList) : Place → Place → Labels → Place → Type 
 -- in message m the name n, in lower case, is at p, and ends before e
 pub record ReadsName (m : OctetList) (p : Place) (n : Labels) (e : Place) : Type 0 where
   pub spelled : Labels
-  pub stands : NameAt m p p spelled e
+  pub name_at : NameAt m p p spelled e
   pub lowered : n ≡ lower_all spelled
   pub named : IsName n

@@ -33,7 +33,7 @@ pub record IsLent (spelled name : OctetList) : Type 0 where
 pub record IsQuestion (m : OctetList) (p : Place) (q : QuestionData) (e : Place) : Type 0 where
   pub labels : Labels
   pub past : Place
-  pub stands : NameAt m p p labels past
+  pub name_at : NameAt m p p labels past
   pub spelled : q.spelled ≡ wire labels
   pub name : q.name ≡ lower_all labels
   pub named : IsName q.name

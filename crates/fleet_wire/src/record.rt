@@ -133,7 +133,7 @@ pub(crate) fn records_of<A: Allocator + Copy>(
     count: u16,
 ) -> Result<(Vec<Record<A>, A>, usize), AllocError>
     requires short { length message.now ≤ LONGEST_MESSAGE }
-    requires stand { HasRecords message.now offset count }
+    requires found { HasRecords message.now offset count }
     ensures found { IfOk result (λ r. RecordsAt message.now offset r.0.items r.1) }
     ensures counted { IfOk result (λ r. length r.0.items ≡ count) }
 {
