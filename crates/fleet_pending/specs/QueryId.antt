@@ -33,6 +33,6 @@ IsAskedUnder None r = (upstream id : ℕ) → r ≢ Ok (Send upstream id)
 -- so it is with the id that `query_id` returns
 abbrev pub AskedUnderIdTold : Type 0
 AskedUnderIdTold =
-    (o n : PendingData) (w : WaiterData) (moment : Seconds) (word : ℕ) (told : Option ℕ)
-    (r : Result Asked PendingFault) → TellsId o w.question word told → Asks o w moment word r n
-    → IsAskedUnder told r
+    (o n : PendingData) (w : WaiterData) (moment : Seconds) (word : ℕ) (id : Option ℕ)
+    (r : Result Asked PendingFault) → TellsId o w.question word id → Asks o w moment word r n
+    → IsAskedUnder id r
