@@ -16,11 +16,11 @@ use Rattle.fleet_pending.specs.declared.answer.PendingFault.TheVariants.{OutOfMe
 
 -- the question is new and there is room for it: the first id that no entry has; or an entry has the
 -- question, or MOST_ENTRIES are open
-abbrev pub TellsId : PendingData → QuestionData → ℕ → Option ℕ → Type 0
-TellsId o q word (Some id) =
+abbrev pub IsQueryId : PendingData → QuestionData → ℕ → Option ℕ → Type 0
+IsQueryId o q word (Some id) =
     NoneIs (AsksFor q) o.entries × (length o.entries < MOST_ENTRIES)
     × IsFirstFree word o.entries id
-TellsId o q word None =
+IsQueryId o q word None =
     ((i : ℕ) × ((e : EntryData) × At o.entries i e × AsksFor q e))
     ⊎ (MOST_ENTRIES ≤ length o.entries)
 
@@ -34,5 +34,5 @@ IsAskedUnder None r = (upstream id : ℕ) → r ≢ Ok (Send upstream id)
 abbrev pub AskedUnderIdTold : Type 0
 AskedUnderIdTold =
     (o n : PendingData) (w : WaiterData) (moment : Seconds) (word : ℕ) (id : Option ℕ)
-    (r : Result Asked PendingFault) → TellsId o w.question word id → Asks o w moment word r n
+    (r : Result Asked PendingFault) → IsQueryId o w.question word id → Asks o w moment word r n
     → IsAskedUnder id r

@@ -3,7 +3,7 @@
 ghost use Rattle.std.specs.Prelude.{◌≡◌, ◌<◌, ◌≤◌, [], IfErr, IfSome, OnErr, MatchOption, option_copied, IsTrue, ◌↔◌};
 ghost use Rattle.fleet_pending.specs.Asking.{Asks, Opens, Settles, Advances, ask_result, with_next_upstream};
 ghost use Rattle.fleet_pending.specs.Due.{Dues, due_at, due_entry};
-ghost use Rattle.fleet_pending.specs.QueryId.{TellsId};
+ghost use Rattle.fleet_pending.specs.QueryId.{IsQueryId};
 ghost use Rattle.fleet_pending.specs.PendingData.{UsesId, AsksFor, Matches, IsEntryData, IsPendingData};
 ghost use Rattle.fleet_pending.specs.declared.bounds.TheConstants.{MOST_UPSTREAMS};
 ghost use Rattle.fleet_wire.specs.declared.class.TheConstants.{IN};
@@ -81,7 +81,7 @@ impl<A: Allocator> Pending<A> {
     /// The id of the query that asking would send now, with the same word; `None` where an entry
     /// has the question's name and type, or 256 are open.
     pub fn query_id(&self, question: &Question<A>, word: u16) -> Option<u16>
-        ensures tells { TellsId self.now question.now word result }
+        ensures tells { IsQueryId self.now question.now word result }
         ensures lawful { IsPendingData self.now }
     {
         if place_of_question(self.entries.as_slice(), question).is_some() {
