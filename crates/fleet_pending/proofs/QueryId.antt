@@ -6,7 +6,7 @@ use Rattle.fleet_pending.specs.Waiter.{WaiterData}
 use Rattle.fleet_pending.specs.FreeId.{IsFirstFree}
 use Rattle.fleet_pending.specs.PendingData.{EntryData}
 use Rattle.fleet_pending.specs.Asking.{Joins, waits_already, waits_too, no_place, no_memory_for_place, Opens, is_sent, no_room, no_memory_for_room, joins, opens}
-use Rattle.fleet_pending.specs.QueryId.{AskedUnderIdTold}
+use Rattle.fleet_pending.specs.QueryId.{AsksUnderQueryId}
 use Rattle.fleet_pending.specs.declared.answer.Asked.{Asked}
 use Rattle.fleet_pending.specs.declared.answer.Asked.TheVariants.{Send}
 use Rattle.fleet_pending.specs.declared.answer.PendingFault.{PendingFault}
@@ -55,7 +55,7 @@ full_unsent es fs w moment word r l (is_sent k few free result_is more) u id p =
 full_unsent es fs w moment word r l (no_room many result_is same) u id p = cc
 full_unsent es fs w moment word r l (no_memory_for_room few result_is same) u id p = cc
 
-pub asks_under_query_id : AskedUnderIdTold
+pub asks_under_query_id : AsksUnderQueryId
 asks_under_query_id o n w moment word (Some id) r t (joins i e f at a j q) =
     absurd (t.0 i e at a)
 asks_under_query_id o n w moment word (Some id) r t (opens fs a j q) =

@@ -31,8 +31,8 @@ IsAskedUnder (Some id) r = (r ≡ Ok (Send 0 id)) ⊎ (r ≡ Err OutOfMemory)
 IsAskedUnder None r = (upstream id : ℕ) → r ≢ Ok (Send upstream id)
 
 -- so it is with the id that `query_id` returns
-abbrev pub AskedUnderIdTold : Type 0
-AskedUnderIdTold =
+abbrev pub AsksUnderQueryId : Type 0
+AsksUnderQueryId =
     (o n : PendingData) (w : WaiterData) (moment : Seconds) (word : ℕ) (id : Option ℕ)
     (r : Result Asked PendingFault) → IsQueryId o w.question word id → Asks o w moment word r n
     → IsAskedUnder id r

@@ -1,7 +1,7 @@
 //! Laws of the table. Each function does nothing: its contract is the law.
 
 ghost use Rattle.fleet_pending.specs.Refusal.{RefusesExactly};
-ghost use Rattle.fleet_pending.specs.QueryId.{AskedUnderIdTold};
+ghost use Rattle.fleet_pending.specs.QueryId.{AsksUnderQueryId};
 ghost use Rattle.fleet_pending.specs.Calls.{EachAsOften};
 ghost use Rattle.fleet_pending.specs.DueCount.{CountsDue};
 ghost use Rattle.fleet_pending.specs.Settled.{SettlesItsEntry};
@@ -22,7 +22,7 @@ pub fn waiters_kept()
 /// Where `query_id` returns an id, asking sends a query with it to the first upstream, or runs out
 /// of memory; where it returns `None`, asking sends no query.
 pub fn queries_have_the_id_told()
-    ensures { AskedUnderIdTold }
+    ensures { AsksUnderQueryId }
 {}
 
 /// Where an entry has an id, `settle` with it returns that entry and removes no other.
