@@ -21,7 +21,7 @@ pub fn waiters_kept()
 
 /// Where `query_id` returns an id, asking sends a query with it to the first upstream, or runs out
 /// of memory; where it returns `None`, asking sends no query.
-pub fn queries_have_the_id_told()
+pub fn asking_uses_query_id()
     ensures { AsksUnderQueryId }
 {}
 

@@ -16,7 +16,7 @@ mod waiters;
 pub use answer::{Asked, Due, PendingFault, Unasked};
 pub use entry::Entry;
 pub use laws::{
-    queries_have_the_id_told, refusals_are_exact, serving_leaves_fewer_due,
+    asking_uses_query_id, refusals_are_exact, serving_leaves_fewer_due,
     settling_gives_its_entry, waiters_kept, waiters_stay,
 };
 pub use pending::Pending;
