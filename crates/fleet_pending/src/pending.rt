@@ -81,7 +81,7 @@ impl<A: Allocator> Pending<A> {
     /// The id of the query that asking would send now, with the same word; `None` where an entry
     /// has the question's name and type, or 256 are open.
     pub fn query_id(&self, question: &Question<A>, word: u16) -> Option<u16>
-        ensures tells { IsQueryId self.now question.now word result }
+        ensures id { IsQueryId self.now question.now word result }
         ensures lawful { IsPendingData self.now }
     {
         if place_of_question(self.entries.as_slice(), question).is_some() {
