@@ -16,8 +16,8 @@ mod waiters;
 pub use answer::{Asked, Due, PendingFault, Unasked};
 pub use entry::Entry;
 pub use laws::{
-    asking_uses_query_id, refusals_are_exact, serving_leaves_fewer_due,
-    settling_gives_its_entry, waiters_kept, waiters_stay,
+    asking_uses_query_id, refusals_are_exact, serving_leaves_fewer_due, settling_gives_its_entry,
+    waiters_kept, waiters_stay,
 };
 pub use pending::Pending;
 pub use waiter::{Addr, Waiter};
