@@ -1,4 +1,4 @@
-//! What replies tell: the walk along aliases, how it ends, and observations of names, their order,
+//! What replies mean: the walk along aliases, how it ends, and observations of names, their order,
 //! and the octets of their bodies.
 #![tactic(auto)]
 

@@ -15,15 +15,15 @@ use std::marker::Model;
 /// An open question: what it asks, whom, and who waits for the answer.
 #[derive(Drop)]
 pub struct Entry<A: Allocator = Global> {
-    /// The name that is asked for.
+    /// QNAME, in lower case.
     pub name: Name<A>,
-    /// The type that is asked for.
+    /// QTYPE.
     pub rtype: u16,
     /// The id of the query.
     pub id: u16,
-    /// The place of the upstream that is asked now, from 0.
+    /// The index of the upstream that is asked now, from 0.
     pub upstream: u8,
-    /// When its time is over, in seconds; up to 2 past the greatest moment.
+    /// The moment at which its time is over, in seconds. It may be 2 later than `LATEST`.
     pub deadline: u64,
     /// Who waits, in order of joining: at least one.
     pub waiters: Waiters<A>,
@@ -71,7 +71,8 @@ pub(crate) fn make_entry<A: Allocator + Copy>(
     }
 }
 
-/// The waiter meets an entry for its question.
+/// What `ask` does where the question has an entry: the waiter is in it already, joins it, or is
+/// given back.
 pub(crate) fn join<A: Allocator>(
     entry: &mut Entry<A>,
     waiter: Waiter<A>,
