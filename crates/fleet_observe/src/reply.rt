@@ -9,7 +9,6 @@ pub(crate) mod denial;
 pub(crate) mod ending;
 pub(crate) mod names;
 pub(crate) mod observations;
-pub(crate) mod rdatas;
 pub(crate) mod relay;
 pub(crate) mod rows;
 pub(crate) mod rrset;

@@ -6,7 +6,7 @@ ghost use Rattle.fleet_pending.specs.Asking.{Joins, ask_result, new_entry};
 use crate::answer::{Asked, PendingFault, Unasked};
 use crate::bounds::{MOST_WAITERS, TRY_SECONDS};
 use crate::waiter::Waiter;
-use crate::waiters::Waiters;
+use crate::waiters::{Waiters, has_waiter};
 use fleet_name::Name;
 use fleet_observe::Moment;
 use std::alloc::{Allocator, Global};
@@ -67,7 +67,7 @@ pub(crate) fn make_entry<A: Allocator + Copy>(
             deadline: moment.value() + TRY_SECONDS,
             waiters,
         }),
-        Err(waiter) => Err(waiter),
+        Err(failed) => Err(failed.value),
     }
 }
 
@@ -80,7 +80,7 @@ pub(crate) fn join<A: Allocator>(
     ensures joins { Joins entry.old waiter (ask_result result) entry.new }
     ensures back { IfErr result (λ u. u.waiter ≡ waiter) }
 {
-    if entry.waiters.has(&waiter) {
+    if has_waiter(&entry.waiters, &waiter) {
         return Ok(Asked::Again);
     }
     if entry.waiters.len() >= MOST_WAITERS {

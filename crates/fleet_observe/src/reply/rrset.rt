@@ -7,8 +7,8 @@ ghost use Rattle.fleet_observe.specs.Members.{Has, IsAscending};
 ghost use Rattle.fleet_observe.specs.RrSet.{SpellsName, Belongs, InSet, IsTtl, IsRrSet, read_ttl, rrset_of_rows, count_below};
 
 use crate::bounds::LONGEST_LIFE;
+use crate::items::Items;
 use crate::observation::values::is_data_type;
-use crate::reply::rdatas::Rdatas;
 use crate::reply::rows::Rows;
 use fleet_name::{Name, Octets};
 use fleet_wire::Record;
@@ -26,7 +26,7 @@ pub struct RrSet<A: Allocator = Global> {
     /// The least of their TTLs, in seconds, at most `LONGEST_LIFE` (RFC 2181 5.2, 8).
     pub ttl: u32,
     /// Their RDATAs, ascending as octets, each once.
-    pub rdatas: Rdatas<A>,
+    pub rdatas: Items<Octets<A>, A>,
 }
 
 impl<A: Allocator> Model for RrSet<A> {
@@ -164,6 +164,6 @@ pub(crate) fn rrset_at<A: Allocator + Copy>(
         name: owner.try_clone()?,
         rtype,
         ttl: least_ttl(section, name, rtype),
-        rdatas: Rdatas::new(rdatas),
+        rdatas: Items::new(rdatas),
     })
 }
