@@ -34,10 +34,9 @@ FAULTS = {
 }
 
 
-# `serve` has no such answer, and counts each step as short; that of a hit is that it is none.
+# `serve` has no such answer, and counts each step as short.
 IN_PLACE_OF = {
     "serve": ("server.rt", "carry_out", "report.count_short(); return false;"),
-    "Site::hit": ("site.rt", "Site::hit", "return false;"),
 }
 
 

@@ -63,10 +63,10 @@ impl<'a> LentQuestion<'a> {
     pub fn try_copy<A: Allocator + Copy>(&self, alloc: A) -> Result<Question<A>, AllocError>
         ensures { IfOk result (λ q. q ≡ self.now) }
     {
-        let spelled = Octets::copy_of(alloc, self.spelled)?;
+        let spelling = Octets::copy_of(alloc, self.spelled)?;
         let name = Name::copy_of(alloc, self.name)?;
         Ok(Question {
-            spelled,
+            spelled: spelling,
             name,
             rtype: self.rtype,
             class: self.class,

@@ -2,7 +2,9 @@
 
 use crate::tests::rows::{Words, push_octets};
 use crate::tests::tables::check_rows;
-use fleet_wire::{Outline, read_plain_query, read_query, write_reply, write_reply_into};
+use fleet_wire::{
+    LentQuestion, Outline, Question, read_plain_query, read_query, write_reply, write_reply_into,
+};
 use std::alloc::Global;
 use std::process::Abort;
 use std::test::Fail;
@@ -49,6 +51,13 @@ pub(crate) fn written_twice(alloc: Global, outline: &Outline) -> Result<Vec<u8>,
     }
 }
 
+/// Whether a copy of a plain question is equal.
+fn is_copy(question: &LentQuestion<'_>, copy: &Question) -> bool {
+    copy.spelled.as_slice() == question.name()
+        && copy.name.octets() == question.name()
+        && (copy.rtype, copy.class) == (question.rtype(), question.class())
+}
+
 /// The identifier, the type, the class and the name of a question that is read in place, if it is.
 pub(crate) fn show_in_place(
     alloc: Global,
@@ -59,6 +68,9 @@ pub(crate) fn show_in_place(
     let Some((header, question)) = read_plain_query(message.as_slice()) else {
         return Ok(output.push_str("none")?);
     };
+    if !is_copy(&question, &question.try_copy(alloc)?) {
+        return Err("another copy".into());
+    }
     write!(
         output,
         "{} {} {} ",
