@@ -36,12 +36,6 @@ oversize_is : (f : ObservationData) → LONGEST_BODY < length f.body → fitting
 oversize_is f over = let a : nat_lt LONGEST_BODY (length f.body) ≡ true =
     grind (arith, nat_tests) in rw a refl
 
-lifeless_fitting : (f : ObservationData) → f.life ≡ 0 → fitting_observation f ≡ []
-lifeless_fitting f none = elim (cases_Bool (nat_lt LONGEST_BODY (length f.body))) [
-  | inl k ↦ rw k refl
-  | inr k ↦ rw k (lifeless_is f none)
-]
-
 -- an RRset's observation is kept where it can be made
 pub positive_kept : (x : RrSetData) (rank stamp : ℕ) → 1 ≤ x.ttl
     → length (positive_body x.rdatas) ≤ LONGEST_BODY
@@ -73,11 +67,11 @@ negative_kept kind n t rank stamp x some = living_is (soa_observation kind n t r
 pub negative_made : (fault : ObservationFault) (n : List (List ℕ)) (rtype : Option ℕ) (rank : ℕ)
     (x : SoaData) → 1 ≤ x.ttl → IsLawfulSoa n x → IsDenialRank rank → IsDeniedType rtype
     → ¬ IsNegativeFault n rtype rank x.ttl x.owner x.rdata fault
-negative_made fault n rtype rank x some is ranked typed (bad_rank wrong told) = wrong ranked
-negative_made fault n rtype rank x some is ranked typed (bad_life r wrong told) =
+negative_made fault n rtype rank x some is ranked typed (bad_rank wrong fault_is) = wrong ranked
+negative_made fault n rtype rank x some is ranked typed (bad_life r wrong fault_is) =
     wrong (some, is.ttl)
-negative_made fault n rtype rank x some is ranked typed (bad_kind r l wrong told) = wrong typed
-negative_made fault n rtype rank x some is ranked typed (bad_body r l t wrong told) =
+negative_made fault n rtype rank x some is ranked typed (bad_kind r l wrong fault_is) = wrong typed
+negative_made fault n rtype rank x some is ranked typed (bad_body r l t wrong fault_is) =
     wrong (record { named = is.owner; under = is.under; plain = is.plain })
 
 pub link_observations-push : (aa : Bool) (q : List (List ℕ)) (stamp : ℕ) (xs : List RrSetData)

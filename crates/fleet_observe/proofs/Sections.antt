@@ -37,9 +37,6 @@ in_cases s n t r d h = elim (has_push s r h.carrier h.member) [
   )
 ]
 
-pub empty_none : (n : List (List ℕ)) (t : ℕ) → IsEmpty [] n t
-empty_none n t d h = h.member
-
 pub empty_more : (s : List RecordData) (n : List (List ℕ)) (t : ℕ) (r : RecordData) → IsEmpty s n t
     → ¬ Belongs n t r → IsEmpty (s ++ r ∷ []) n t
 empty_more s n t r none not_here d h = elim (in_cases s n t r d h) [

@@ -146,9 +146,6 @@ pub record IsLeast (s : List RecordData) (n : List (List ℕ)) (t least : ℕ) :
   pub found : (least ≡ LONGEST_LIFE) ⊎ ((r : RecordData) × Has s r × Belongs n t r
       × (least ≡ read_ttl r.ttl))
 
-pub least_none : (n : List (List ℕ)) (t : ℕ) → IsLeast [] n t LONGEST_LIFE
-least_none n t = record { bound = omega arith; under = λ r h b. absurd h; found = inl refl }
-
 pub least_kept : (s : List RecordData) (n : List (List ℕ)) (t : ℕ) (r : RecordData) (least : ℕ)
     → IsLeast s n t least → ¬ Belongs n t r → IsLeast (s ++ r ∷ []) n t least
 least_kept s n t r least is out = record {
