@@ -6,7 +6,7 @@ use Rattle.fleet_site.proofs.hit.write_hit.Goals as goal
 pub returns : goal.returns
 returns g c = λ ok s cached.
     let later : max c.args.cache.now.floor c.args.clock ≡ c.args.clock = omega (arith, c.requires) in
-    let told = rw later at (c.answer_lent-answer.ensures.told s cached) in
+    let told = rw later at (c.answer_lent-answer.ensures.answer s cached) in
     hit_decided s c.args.clock c.args.octets.now c.tell_into.new.out.items c.in-Some.header
     c.in-Some.question (answer_data c.answer_lent-answer.result) c.in-Some.ensures.found
     (c.is_asking.ensures.0 c.if-not-is_asking.false)
