@@ -1,5 +1,5 @@
 -- Nothing is wrong with a reply that means something.
-use Rattle.std.proofs.Common.{◌≡◌, List, refl, inl, inr}
+use Rattle.std.proofs.Common.{◌≡◌, List, inl, inr}
 use Rattle.fleet_wire.specs.Message.{MessageData}
 use Rattle.fleet_observe.specs.declared.reply.ending.DigestFault.{DigestFault}
 use Rattle.fleet_observe.specs.declared.reply.ending.DigestFault.TheVariants.{OutOfMemory}

@@ -19,7 +19,7 @@ use Rattle.fleet_observe.proofs.Spelling.{plain_alias}
 use Rattle.fleet_wire.specs.declared.rtype.TheConstants.{CNAME}
 use Rattle.fleet_observe.specs.declared.bounds.TheConstants.{LATEST, LONGEST_BODY, LONGEST_DENIAL, LONGEST_LIFE}
 use Rattle.fleet_observe.specs.declared.observation.kind.Kind.{Kind}
-use Rattle.fleet_observe.specs.declared.observation.kind.Kind.TheVariants.{NameError, NoData, Positive}
+use Rattle.fleet_observe.specs.declared.observation.kind.Kind.TheVariants.{NameError, NoData}
 
 living_is : (f : ObservationData) → ¬ (f.life ≡ 0) → living_observation f ≡ f ∷ []
 living_is f some = let a : nat_eq f.life 0 ≡ false = grind (arith, nat_tests) in rw a refl

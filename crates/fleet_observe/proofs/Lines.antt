@@ -5,7 +5,7 @@ use Rattle.fleet_wire.specs.Record.{RecordData}
 use Rattle.fleet_wire.specs.Outline.{OutlineData, line}
 use Rattle.fleet_observe.specs.RrSet.{RrSetData}
 use Rattle.fleet_observe.specs.Digest.{EndData, WithRecords, WithoutData, WithoutName, WithCode, CutOff, IsLawfulEnd}
-use Rattle.fleet_observe.specs.Relay.{code_of, set_lines, chain_lines, with_answer_lines, with_authority_lines, with_end}
+use Rattle.fleet_observe.specs.Relay.{code_of, set_lines, chain_lines, with_answer_lines}
 
 pub no_answers : (o : OutlineData) → with_answer_lines o [] ≡ o
 no_answers o = rw (append-nil o.answer) refl

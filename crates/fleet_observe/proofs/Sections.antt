@@ -1,10 +1,8 @@
 -- What more records of a section change.
-use Rattle.std.proofs.Common.{◌≡◌, ℕ, ◌⊎◌, inl, inr, List, [], ◌∷◌, ◌++◌, take, drop, ap, sym, ◌∙◌, refl, subst, Bool, true, false, not}
-use mathlib.Core.Bool.{false≢true}
+use Rattle.std.proofs.Common.{◌≡◌, ℕ, ◌⊎◌, inl, inr, List, [], ◌∷◌, ◌++◌, take, drop, ap, sym, ◌∙◌, refl, subst}
 use Rattle.std.proofs.lemmas.List.{take-append-drop}
 use Rattle.fleet_name.proofs.Lemmas.{has_left, has_right}
 use Rattle.fleet_wire.specs.Record.{RecordData}
-use Rattle.fleet_observe.specs.Members.{Has}
 use Rattle.fleet_observe.specs.RrSet.{Belongs, InSet, IsEmpty, IsOnly}
 use Rattle.fleet_observe.specs.steps.Following.{IsOf}
 use Rattle.fleet_observe.proofs.Lists.{has_push}

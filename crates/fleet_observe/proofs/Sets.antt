@@ -1,5 +1,5 @@
 -- RDATAs in ascending order, and TTLs.
-use Rattle.std.proofs.Common.{◌≡◌, ℕ, suc, zero, ◌≤◌, ◌⊎◌, inl, inr, Bool, true, false, if◌then◌else◌, min, nat_le, List, [], ◌∷◌, ◌++◌, ap, sym, ◌∙◌, refl, arith, subst}
+use Rattle.std.proofs.Common.{◌≡◌, ℕ, suc, zero, ◌≤◌, ◌⊎◌, inl, inr, true, false, if◌then◌else◌, min, nat_le, List, [], ◌∷◌, ◌++◌, ap, sym, ◌∙◌, refl, arith, subst}
 use mathlib.Core.Bool.{false≢true}
 use Rattle.std.specs.List.{insert}
 use Rattle.std.specs.declared.cmp.Ordering.{Ordering}
