@@ -23,8 +23,8 @@ returns-clause-answer g c s cached n spells =
     let own : IsCached s i.floor (live_of i.held i.floor) =
     subst (λ v. IsCached s v.floor v.items) (sym c.self.view_is) cached in
     let same : i.floor ≡ c.args.self.now.floor = ap (λ (v : CacheData). v.floor) c.self.view_is in
-    let moment : at ≡ max c.args.self.now.floor c.args.moment = c.later-at.ensures
-    ∙ ap (λ v. max v c.args.moment) same in
+    let moment : at ≡ max c.args.self.now.floor c.args.moment = omega (arith, c.later-at.ensures, same)
+    in
     let le : i.floor ≤ at = omega (arith, c.later-at.ensures) in
     let alike : answer_of i.held at n c.args.rtype ≡ answer_of s at n c.args.rtype =
     sets_answer_alike i.held s (live_of i.held i.floor) i.floor at n c.args.rtype le
