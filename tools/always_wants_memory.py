@@ -20,6 +20,7 @@ from unproved_tests import copy_of_sources, fails
 # What a call answers that finds no memory, by the fault of its signature.
 FAULTS = {
     "AllocError": "AllocError",
+    "AllocFailed": "std::alloc::AllocFailed { value: item }",
     "NameFault": "NameFault::OutOfMemory",
     "ReadFault": "ReadFault::OutOfMemory",
     "DigestFault": "DigestFault::OutOfMemory",
@@ -34,10 +35,9 @@ FAULTS = {
 }
 
 
-# `serve` has no such answer, and counts each step as short; that of a hit is that it is none.
+# `serve` has no such answer, and counts each step as short.
 IN_PLACE_OF = {
     "serve": ("server.rt", "carry_out", "report.count_short(); return false;"),
-    "Site::hit": ("site.rt", "Site::hit", "return false;"),
 }
 
 

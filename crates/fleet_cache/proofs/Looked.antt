@@ -128,7 +128,7 @@ packable_wire name w bytes n is = record {
   named = subst IsName (wire_exact w.name n (sym w.whole ∙ is)) w.named;
 }
 
--- the words of a name tell it
+-- the words of a name determine it
 module _ (words : List ℕ) (n : List (List ℕ)) (items : List ObservationData)
     (e : words ≡ octet_words (wire n)) (kind : Kind) where
   one_name : (o : ObservationData) → o.name ≡ n → words_of o ≡ words
@@ -151,7 +151,7 @@ module _ (words : List ℕ) (n : List (List ℕ)) (items : List ObservationData)
     in_rows = front.own_front.descending;
   }
 
--- what is of the kind and the type is told so
+-- the test passes only what is of the kind and the type
 of_from : (kind : Kind) (rtype : ℕ) (o : ObservationData) → is_of kind rtype o ≡ true
     → (o.kind ≡ kind) × (o.rtype ≡ rtype)
 of_from kind rtype o e =
@@ -171,22 +171,22 @@ rows_first : (kind : Kind) (rtype : ℕ) (xs : List ObservationData) (x : Observ
     → ((o : ObservationData) → test o ≡ true → (o.kind ≡ kind) × (o.rtype ≡ rtype))
     → IsDescending row xs → filter test xs ≡ x ∷ rest
     → (y : ObservationData) → Has xs y → test y ≡ true → (preference x y ≡ Greater) ⊎ (x ≡ y)
-rows_first kind rtype [] x rest test tells d e y h k = absurd h
-rows_first kind rtype (z ∷ xs) x rest test tells d e y h k = elim (cases_Bool (test z)) [
+rows_first kind rtype [] x rest test decides d e y h k = absurd h
+rows_first kind rtype (z ∷ xs) x rest test decides d e y h k = elim (cases_Bool (test z)) [
   | inl yea ↦
       let f : z ∷ filter test xs ≡ x ∷ rest = rw yea at e in
       let same : z ≡ x = cc in
       elim h [
         | inl here ↦ inr (sym same ∙ here)
         | inr far ↦
-            let a = tells z yea in
-            let b = tells y k in
+            let a = decides z yea in
+            let b = decides y k in
             inl (ap (λ v. preference v y) (sym same)
             ∙ (sym (row_of_key z y (a.0 ∙ sym b.0) (a.1 ∙ sym b.1)) ∙ d.0 y far))
       ]
   | inr nay ↦ elim h [
     | inl here ↦ absurd (false≢true (sym nay ∙ (ap test here ∙ k)))
-    | inr far ↦ rows_first kind rtype xs x rest test tells d.1 (rw nay at e) y far k
+    | inr far ↦ rows_first kind rtype xs x rest test decides d.1 (rw nay at e) y far k
   ]
 ]
 
@@ -230,7 +230,7 @@ module _ (kind : Kind) (rtype : ℕ) (items here : List ObservationData) (n : Li
             of.in_rows first.1 y s.0 s.1,
       )
 
--- where no name of so many octets is noted, none stands
+-- where no name of this many octets is noted, there is none
 pub none_noted : (lives : ObservationData → Bool) (n : List (List ℕ)) (kind : Kind) (size : ℕ)
     (items : List ObservationData) → HasNone kind size items → length (wire n) ≡ size
     → IsBest (IsOn lives n kind 0) items None
@@ -267,10 +267,10 @@ pub none_first : (xs : List ObservationData) (x : ObservationData) → None ≡ 
 none_first [] x e h = h
 none_first (y ∷ xs) x e h = absurd (cc)
 
--- a cut at the name of one of a key tells of all of the key
-pub key_told : (items : List ObservationData) (words : List ℕ) (front : List ObservationData)
+-- a cut at the name of one observation of a key is a cut of all of the key
+pub key_cut : (items : List ObservationData) (words : List ℕ) (front : List ObservationData)
     → IsOfKey items words front → AreObservations items → (x : ObservationData) → Has front x
     → (t : ℕ) (cut : CutData) → IsCutAt items t x.name cut → (o : ObservationData) → Has items o
     → words_of o ≡ words → is_hidden cut o ≡ not (is_live items t o)
-key_told items words front is lawful x first t cut told o there key =
-    told o (lawful o there) (key_named items words front is x first o there key)
+key_cut items words front is lawful x first t cut known o there key =
+    known o (lawful o there) (key_named items words front is x first o there key)

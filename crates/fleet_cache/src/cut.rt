@@ -11,7 +11,9 @@ use std::marker::Model;
 /// the flushes of the name and of those above it, if there are any.
 #[derive(Drop)]
 pub struct Cut {
+    /// What ends by this moment is hidden.
     pub(crate) moment: Moment,
+    /// What is stamped by this moment is hidden, but for flushes.
     pub(crate) flushed: Option<Moment>,
 }
 
@@ -24,7 +26,7 @@ impl Model for Cut {
 }
 
 impl Cut {
-    /// What has ended by a moment.
+    /// The cut that hides what has ended by a moment, and nothing else.
     pub fn at(moment: Moment) -> Cut
         ensures { result ≡ record { moment = moment; flushed = None } }
     {
@@ -42,7 +44,8 @@ impl Cut {
     }
 }
 
-/// Whether an observation is no flush, and not stamped after this.
+/// Whether an observation is no flush and its stamp is at most `flushed`; `false` where there is
+/// none.
 fn is_withdrawn<A: Allocator>(flushed: Option<Moment>, observation: &Observation<A>) -> bool
     ensures { result ≡ is_flushed flushed observation.now }
 {

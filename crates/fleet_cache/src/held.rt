@@ -27,7 +27,8 @@ use std::ops::Bound;
 
 /// The observations that a cache holds in memory: those of a name in one front, by kind, then type,
 /// then the preferred first, and the fronts in a map by the octets of the names. None dominates
-/// another. `denied` says at which names a name error may stand, `flushed` at which a flush.
+/// another. `denied` says at which lengths of names there may be a name error, `flushed` at which a
+/// flush.
 #[derive(Drop)]
 pub(crate) struct Held<A: Allocator> {
     fronts: Fronts<A>,
@@ -54,7 +55,7 @@ impl<A: Allocator> Model for Held<A> {
 }
 
 impl<A: Allocator> Held<A> {
-    /// Nothing. This takes no memory.
+    /// Without observations. This allocates nothing.
     pub(crate) fn new(alloc: A) -> Held<A>
     where
         A: Copy,
@@ -67,7 +68,8 @@ impl<A: Allocator> Held<A> {
         }
     }
 
-    /// Takes an observation in beside what is held.
+    /// Takes an observation into the front of its name. `false` where it is there or dominated.
+    /// `Err` where an allocation fails; nothing changes.
     pub(crate) fn take(&mut self, alloc: A, observation: Observation<A>) -> Result<bool, AllocError>
     where
         A: Copy,
@@ -89,7 +91,7 @@ impl<A: Allocator> Held<A> {
         drop_hidden(&mut self.fronts, key, cut);
     }
 
-    /// Drops all.
+    /// Drops all observations.
     pub(crate) fn clear(&mut self)
         ensures { self.new ≡ [] }
     {
@@ -155,7 +157,7 @@ impl<A: Allocator> Held<A> {
         self.fronts.values()
     }
 
-    /// The words of the next key behind these.
+    /// The next key after this one.
     pub(crate) fn key_behind(&self, key: &Key<A>) -> Option<&Key<A>> {
         let mut behind = self.fronts.range((Bound::Excluded(key), Bound::Unbounded));
         let Some((next, _)) = behind.next() else {
@@ -164,7 +166,7 @@ impl<A: Allocator> Held<A> {
         Some(next)
     }
 
-    /// How many fronts there are.
+    /// The number of fronts.
     pub(crate) fn len(&self) -> usize
         ensures own { IsHeld self.now }
     {
@@ -176,7 +178,7 @@ impl<A: Allocator> Held<A> {
         requires { IsWire name.now }
         ensures { result ≡ false → HasNone NameError (length name.now) self.now }
     {
-        self.denied.may_stand(name)
+        self.denied.has_length_of(name)
     }
 
     /// Whether a flush may be held of a name of as many octets.
@@ -185,14 +187,14 @@ impl<A: Allocator> Held<A> {
         ensures none { result ≡ false → HasNone Flush (length name.now) self.now }
         ensures own { IsHeld self.now }
     {
-        self.flushed.may_stand(name)
+        self.flushed.has_length_of(name)
     }
     /// Whether a name error may be held of a name of fewer octets.
     pub(crate) fn may_deny_above(&self, name: &[u8]) -> bool
         ensures none { result ≡ false → HasNoneShorter NameError (length name.now) self.now }
         ensures own { IsHeld self.now }
     {
-        self.denied.may_stand_above(name)
+        self.denied.has_shorter_than(name)
     }
 
     /// Whether a flush may be held of a name of fewer octets.
@@ -200,6 +202,6 @@ impl<A: Allocator> Held<A> {
         ensures none { result ≡ false → HasNoneShorter Flush (length name.now) self.now }
         ensures own { IsHeld self.now }
     {
-        self.flushed.may_stand_above(name)
+        self.flushed.has_shorter_than(name)
     }
 }

@@ -1,4 +1,4 @@
-//! An entry: one observation.
+//! Entries: an observation each.
 
 ghost use Rattle.std.specs.Prelude.{◌≡◌, ◌++◌, IfOk, MatchResult};
 ghost use Rattle.fleet_name.specs.Types.{Labels};
@@ -21,16 +21,18 @@ use fleet_name::{Name, Octets};
 use fleet_observe::{Kind, Observation, Soa};
 use std::alloc::{AllocError, Allocator};
 
-/// An entry that was read, and is lawful. Its name and its body are octets of the frame.
+/// A lawful entry that was read. Its name and its body are borrowed from the frame.
 #[derive(Clone, Copy)]
 pub(crate) struct FrameEntry<'a> {
     pub head: Head,
+    /// The name, in full and in lower case.
     pub name: &'a [u8],
     pub rtype: u16,
+    /// The octets of the body.
     pub body: &'a [u8],
 }
 
-/// The entry of the version that is read next. This takes no memory.
+/// Reads an entry of the version. This allocates nothing. `Err` is its first fault.
 pub(crate) fn read_entry<'a>(
     reader: &mut Reader<'a>,
     version: u8,
@@ -52,7 +54,7 @@ pub(crate) fn read_entry<'a>(
     })
 }
 
-/// The name of octets in full.
+/// The name that octets are in full. `Err` where its allocation fails.
 fn copy_name<A: Allocator>(alloc: A, octets: &[u8]) -> Result<Name<A>, AllocError>
     requires { IsWire octets.now }
     ensures { IfOk result (λ name.
@@ -64,7 +66,7 @@ fn copy_name<A: Allocator>(alloc: A, octets: &[u8]) -> Result<Name<A>, AllocErro
     Ok(name)
 }
 
-/// The RDATAs of a positive body.
+/// Copies of the RDATAs of a positive body. `Err` where an allocation fails.
 fn copy_rdatas<A: Allocator + Copy>(alloc: A, body: &[u8]) -> Result<Vec<Octets<A>, A>, AllocError>
     requires { IsRdatasBody body.now }
     ensures { IfOk result (λ rdatas. body.now ≡ positive_body rdatas.items) }
@@ -83,7 +85,8 @@ fn copy_rdatas<A: Allocator + Copy>(alloc: A, body: &[u8]) -> Result<Vec<Octets<
     Ok(rdatas)
 }
 
-/// The SOA of the body of a denial.
+/// A copy of the SOA of a denial's body, which has no TTL: it is 0. `Err` where an allocation
+/// fails.
 fn copy_soa<A: Allocator + Copy>(alloc: A, body: &[u8]) -> Result<Soa<A>, AllocError>
     requires { IsSoaBody body.now }
     ensures { IfOk result (λ soa.
@@ -108,7 +111,7 @@ fn copy_soa<A: Allocator + Copy>(alloc: A, body: &[u8]) -> Result<Soa<A>, AllocE
 impl FrameEntry<'_> {
     /// The observation of a positive entry.
     fn to_records<A: Allocator + Copy>(&self, alloc: A) -> Result<Observation<A>, AllocError>
-        requires tells { (o : ObservationData) × IsEntryOf self.now o }
+        requires entry { (o : ObservationData) × IsEntryOf self.now o }
         requires kind { self.now.head.kind ≡ Positive }
         ensures { IfOk result (λ made. (o : ObservationData) → IsEntryOf self.now o → made ≡ o) }
     {
@@ -129,7 +132,7 @@ impl FrameEntry<'_> {
         alloc: A,
         rtype: Option<u16>,
     ) -> Result<Observation<A>, AllocError>
-        requires tells { (o : ObservationData) × IsEntryOf self.now o }
+        requires entry { (o : ObservationData) × IsEntryOf self.now o }
         requires kind { self.now.head.kind ≡ denied_kind rtype }
         requires rtype { self.now.rtype ≡ denied_type rtype }
         ensures { IfOk result (λ made. (o : ObservationData) → IsEntryOf self.now o → made ≡ o) }
@@ -147,7 +150,7 @@ impl FrameEntry<'_> {
 
     /// The observation of a flush.
     fn to_flush<A: Allocator>(&self, alloc: A) -> Result<Observation<A>, AllocError>
-        requires tells { (o : ObservationData) × IsEntryOf self.now o }
+        requires entry { (o : ObservationData) × IsEntryOf self.now o }
         requires kind { self.now.head.kind ≡ Flush }
         ensures { IfOk result (λ made. (o : ObservationData) → IsEntryOf self.now o → made ≡ o) }
     {
@@ -155,7 +158,7 @@ impl FrameEntry<'_> {
         Ok(Observation::flush(name, self.head.stamp))
     }
 
-    /// The observation that it tells.
+    /// The observation of the entry. `Err` where an allocation fails.
     pub fn to_observation<A: Allocator + Copy>(
         &self,
         alloc: A,

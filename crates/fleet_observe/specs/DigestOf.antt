@@ -41,7 +41,7 @@ IsWalkable r = HasWalk r.answer r.question.rtype r.question.name
 abbrev pub IsSound : MessageData → Type 0
 IsSound r = IsServed r × (AsksWalk r → IsWalkable r)
 
--- why there is no digest, the first reason: want of memory only where nothing is wrong with the
+-- why there is no digest, the first reason: out of memory only where nothing is wrong with the
 -- reply
 pub data IsFault (r : MessageData) (f : DigestFault) : Type 0 where
   not_reply : ¬ IsServed r → f ≡ NotReply → IsFault r f
@@ -95,7 +95,7 @@ IsEnd r n (WithCode c) = ⊥
 IsEnd r n CutOff = ⊥
 
 -- the chain and the end of a reply with a walk
-pub record TellsWalk (r : MessageData) (chain : List RrSetData) (e : EndData) : Type 0 where
+pub record WalkEndsAs (r : MessageData) (chain : List RrSetData) (e : EndData) : Type 0 where
   pub asks : AsksWalk r
   pub later : List Labels
   pub walk : IsWalk r.answer r.question.rtype r.question.name later
@@ -103,13 +103,13 @@ pub record TellsWalk (r : MessageData) (chain : List RrSetData) (e : EndData) : 
   pub end_is : IsEnd r (last r.question.name later) e
 
 -- the chain and the end of a reply
-abbrev pub Tells : MessageData → List RrSetData → EndData → Type 0
-Tells r chain CutOff = (r.header.tc ≡ true) × (chain ≡ [])
-Tells r chain (WithCode c) = (r.header.tc ≡ false) × (¬ (r.header.rcode ≡ NO_ERROR))
+abbrev pub EndsAs : MessageData → List RrSetData → EndData → Type 0
+EndsAs r chain CutOff = (r.header.tc ≡ true) × (chain ≡ [])
+EndsAs r chain (WithCode c) = (r.header.tc ≡ false) × (¬ (r.header.rcode ≡ NO_ERROR))
     × (¬ (r.header.rcode ≡ NAME_ERROR)) × (c ≡ r.header.rcode) × (chain ≡ [])
-Tells r chain (WithRecords x) = TellsWalk r chain (WithRecords x)
-Tells r chain (WithoutData soa) = TellsWalk r chain (WithoutData soa)
-Tells r chain (WithoutName soa) = TellsWalk r chain (WithoutName soa)
+EndsAs r chain (WithRecords x) = WalkEndsAs r chain (WithRecords x)
+EndsAs r chain (WithoutData soa) = WalkEndsAs r chain (WithoutData soa)
+EndsAs r chain (WithoutName soa) = WalkEndsAs r chain (WithoutName soa)
 
 -- an authority NS record at the question's name or an ancestor of it
 pub record IsNs (q : Labels) (r : RecordData) : Type 0 where
@@ -145,7 +145,7 @@ pub record AreNsSets (q : Labels) (s : List RecordData) (sets : List RrSetData) 
     pub owners : AreOwners q [] s (owners_of sets)
     pub each : (x : RrSetData) → Has sets x → IsRrSet s x.name NS x
 
--- whether the authority section of a reply is told at all
+-- the NS RRsets of the authority section count
 pub record HasAuthority (r : MessageData) : Type 0 where
   pub whole : r.header.tc ≡ false
   pub aa : r.header.aa ≡ true
@@ -162,10 +162,10 @@ pub record IsDigest (r : MessageData) (d : DigestData) : Type 0 where
   pub name : d.name ≡ r.question.name
   pub rtype : d.rtype ≡ r.question.rtype
   pub aa : d.aa ≡ r.header.aa
-  pub tells : Tells r d.chain d.end
+  pub ends_as : EndsAs r d.chain d.end
   pub authority : IsAuthority r d.ns
 
--- nothing is wrong with a reply that means something, so none of its faults is told
+-- nothing is wrong with a reply that has a digest, so it has no fault but out of memory
 abbrev pub DigestOrFault : Type 0
 DigestOrFault =
     (r : MessageData) (d : DigestData) (f : DigestFault) → IsDigest r d → IsFault r f

@@ -3,7 +3,7 @@ use Rattle.std.proofs.Common.{◌≡◌, IsTrue, IfOk, Vec, ℕ, ◌+◌, ◌<�
 use Rattle.std.proofs.lemmas.List.{append-nil}
 use Rattle.std.specs.Option.{unwrap_or}
 use Rattle.fleet_pending.specs.declared.bounds.TheConstants.{MOST_ENTRIES}
-use Rattle.fleet_pending.specs.declared.waiter.Addr.{Addr}
+use Rattle.fleet_pending.specs.declared.addr.Addr.{Addr}
 use Rattle.fleet_pending.specs.Due.{due_at}
 use Rattle.fleet_pending.specs.PendingData.{PendingData}
 use Rattle.std.specs.declared.alloc.AllocError.{AllocError}
@@ -11,7 +11,6 @@ use Rattle.fleet_site.specs.OutcomeData.{OutcomeData, packet_to, sends}
 use Rattle.fleet_site.specs.SiteModel.{SiteModel}
 use Rattle.fleet_site.specs.SiteData.{SiteData}
 use Rattle.fleet_site.specs.StandsFor.{StandsFor, Follows}
-use Rattle.fleet_site.specs.question.Hit.{RepliesOnly}
 use Rattle.fleet_site.specs.Step.{Call, datagram, tick}
 use Rattle.fleet_site.specs.gossip.Sweep.{IsSweep}
 use Rattle.fleet_site.specs.Tick.{LeavesFewer}
@@ -106,23 +105,14 @@ given_one old new t w s u r q from octets a k c = record {
   took = took_one old new s u (calling (datagram t from octets w)) a r q k c;
 }
 
--- one that was answered at once, and whose reply was sent
-pub given_hit : (old new : PortState) (t w : ℕ) (s u : SiteData) (r q : Report) (from : Addr)
-    (octets reply : List ℕ) → RepliesOnly s t from octets reply u
+-- one whose reply was in a buffer, and was sent from there
+pub given_reply : (old new : PortState) (t w : ℕ) (s u : SiteData) (r q : Report) (from : Addr)
+    (octets reply : List ℕ)
+    → Stepped (calling (datagram t from octets w)) (Ok (sends from reply)) s u
     → Sends old new (packet_to from reply) r q → GivenOne old new t from octets w s u r q
-given_hit old new t w s u r q from octets reply k c =
-    given_one old new t w s u r q from octets (Ok (sends from reply))
-    (record { step = λ m i. k.step m i w; config = k.config })
+given_reply old new t w s u r q from octets reply k c =
+    given_one old new t w s u r q from octets (Ok (sends from reply)) k
     (record { calls = c.calls; made = c.made; sent = c.sent; report = c.report })
-
--- one that was none, and was given to the site that it had left as it was
-pub given_other : (old new : PortState) (t w : ℕ) (s same u : SiteData) (r q : Report)
-    (from : Addr) (octets : List ℕ) (a : Result OutcomeData SiteFault) → same ≡ s
-    → Stepped (calling (datagram t from octets w)) a same u
-    → CarriesOut old new u.config.peers a r q → GivenOne old new t from octets w s u r q
-given_other old new t w s same u r q from octets a e k c =
-    given_one old new t w s u r q from octets a
-    (subst (λ (x : SiteData). Stepped (calling (datagram t from octets w)) a x u) e k) c
 
 pub heard_one : (old mid new : PortState) (asked t w : ℕ) (s u : SiteData) (r q p : Report)
     (from : Addr) (octets : List ℕ) → asked ≡ ROOM

@@ -2,4 +2,4 @@ pub mod AnswerRecords
 pub mod Verdict
 pub mod Question
 pub mod Looking
-pub mod Hit
+pub mod Handling

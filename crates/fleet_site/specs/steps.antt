@@ -1,5 +1,6 @@
 pub mod Sender
 pub mod Carried
+pub mod Plain
 pub mod ReplyFault
 pub mod Relayed
 pub mod Plan

@@ -1,16 +1,28 @@
-//! What the cache answers at once.
+//! Plain questions: in full and in lower case, so that they are read in place.
 
-ghost use Rattle.std.specs.Prelude.{◌≡◌, ◌≤◌, ◌↔◌, IsTrue};
+ghost use Rattle.std.specs.Prelude.{◌≡◌, ◌≤◌, ◌↔◌, IsTrue, IfOk, OnErr};
 ghost use Rattle.fleet_observe.specs.Observation.{Observations};
 ghost use Rattle.fleet_cache.specs.Cached.{IsCached};
-ghost use Rattle.fleet_site.specs.question.Verdict.{Answer, Decides, IsPlainAsking};
+ghost use Rattle.fleet_site.specs.question.Verdict.{IsAsking, IsPlainAsking};
+ghost use Rattle.fleet_site.specs.steps.Plain.{DecidesPlain, IsPlainMiss};
 
 use crate::verdict::is_served;
 use crate::writing::{is_miss, tell_into};
 use fleet_cache::Cache;
 use fleet_observe::Moment;
-use fleet_wire::{Header, read_plain_query};
-use std::alloc::Allocator;
+use fleet_wire::{Header, Question, read_plain_query};
+use std::alloc::{AllocError, Allocator};
+
+/// What is made of octets that may be a plain question.
+#[derive(Drop)]
+pub(crate) enum Plain<A: Allocator> {
+    /// They are none, or one that is not served.
+    Other,
+    /// The cache answers it, and the buffer holds the reply.
+    Hit,
+    /// Nothing that is known answers the question.
+    Miss(Header, Question<A>),
+}
 
 /// Whether a header is that of a plain question: QR is clear and the Opcode is 0.
 fn is_asking(header: Header) -> bool
@@ -19,31 +31,34 @@ fn is_asking(header: Header) -> bool
     !header.response && header.opcode == 0
 }
 
-/// Whether octets are a question that is spelled in full and in lower case, and that the cache
-/// answers at a moment that is not before its floor; `out` then holds the reply, and else whatever
-/// it may. `false` too where there was no memory for the reply. Where `out` has room for 512 octets
-/// and no section of the reply has more than four records, this takes none.
-pub(crate) fn write_hit<A: Allocator + Copy>(
+/// What is made of octets at a moment that is not before the cache's floor, if they are a question
+/// that is spelled in full and in lower case. The reply of a hit is written in place of what `out`
+/// holds. Where `out` has room for 512 octets and no section of the reply has more than four
+/// records, this takes no memory; a miss takes a copy of the question.
+pub(crate) fn decide_plain<A: Allocator + Copy>(
     alloc: A,
     cache: &Cache<A>,
     clock: Moment,
     octets: &[u8],
     out: &mut Vec<u8, A>,
-) -> bool
+) -> Result<Plain<A>, AllocError>
     requires { cache.now.floor ≤ clock }
-    ensures { IsTrue result → (s : Observations)
-        → IsCached s cache.now.floor cache.now.items
-        → Decides s clock octets.now (Answer out.new.items) }
+    ensures decides { (s : Observations) → IsCached s cache.now.floor cache.now.items
+        → IfOk result (λ p. DecidesPlain s clock octets.now out.new.items p) }
+    ensures miss { IfOk result (λ p. IsPlainMiss octets.now p) }
+    ensures memory { OnErr result (IsAsking octets.now) }
 {
     let Some((header, question)) = read_plain_query(octets) else {
-        return false;
+        return Ok(Plain::Other);
     };
     if !is_asking(header) || !is_served(&question) {
-        return false;
+        return Ok(Plain::Other);
     }
     let answer = cache.answer_lent(&question, clock);
     if is_miss(&answer) {
-        return false;
+        let copy = question.try_copy(alloc)?;
+        return Ok(Plain::Miss(header, copy));
     }
-    tell_into(out, alloc, header, question, &answer).is_ok()
+    tell_into(out, alloc, header, question, &answer)?;
+    Ok(Plain::Hit)
 }

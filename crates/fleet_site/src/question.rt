@@ -1,6 +1,7 @@
 //! What a miss makes of the table of open questions.
 
 ghost use Rattle.std.specs.Prelude.{◌≡◌, ◌<◌, ◌≤◌, ⊤, IfOk, IfErr, OnErr};
+ghost use Rattle.fleet_name.specs.Types.{OctetList};
 ghost use Rattle.fleet_wire.specs.Query.{query_octets};
 ghost use Rattle.fleet_wire.specs.declared.class.TheConstants.{IN};
 ghost use Rattle.fleet_observe.specs.Observation.{Observations};
@@ -8,11 +9,14 @@ ghost use Rattle.fleet_cache.specs.Cached.{IsCached};
 ghost use Rattle.fleet_pending.specs.Asking.{Asks, ask_result};
 ghost use Rattle.fleet_site.specs.steps.Carried.{SaysOrStops, IsAskable, IsAnswered, TurnsAway, IsFirstSaid};
 ghost use Rattle.fleet_site.specs.OutcomeData.{sends};
+ghost use Rattle.fleet_site.specs.question.Handling.{handled_result};
 ghost use Rattle.fleet_site.specs.question.Question.{Reacts, Forwards, Questioned, turns_away};
 ghost use Rattle.fleet_site.specs.Table.{IsTableOf, KeepsTable};
 ghost use Rattle.fleet_site.specs.question.Verdict.{IsAsking, verdict};
 
 use crate::config::addr_of;
+use crate::handled::Handled;
+use crate::hit::{Plain, decide_plain};
 use crate::outcome::{Outcome, Refusal, SiteFault};
 use crate::verdict::{Decision, decide};
 use crate::writing::reply_without;
@@ -20,7 +24,7 @@ use fleet_cache::Cache;
 use fleet_name::Octets;
 use fleet_observe::Moment;
 use fleet_pending::{
-    Addr, Asked, Pending, PendingFault, Unasked, Waiter, queries_have_the_id_told, waiters_stay,
+    Addr, Asked, Pending, PendingFault, Unasked, Waiter, asking_uses_query_id, waiters_stay,
 };
 use fleet_wire::rcode::{REFUSED, SERVER_FAILURE};
 use fleet_wire::{Header, Question, write_query};
@@ -57,6 +61,51 @@ pub(crate) fn take_question<A: Allocator + Copy>(
     match decide(alloc, cache, arrival.clock, octets) {
         Ok(decision) => respond(alloc, pending, upstreams, arrival, decision),
         Err(_) => Err(SiteFault::OutOfMemory { taken: 0 }),
+    }
+}
+
+/// The same, with the reply of a hit written in place of what `out` holds, where the octets are a
+/// question in full and in lower case. Such a question is read, and looked up, once.
+pub(crate) fn take_question_into<A: Allocator + Copy>(
+    alloc: A,
+    cache: &Cache<A>,
+    pending: &mut Pending<A>,
+    upstreams: &[Addr],
+    arrival: Arrival,
+    octets: &[u8],
+    out: &mut Vec<u8, A>,
+) -> Result<Handled<A>, SiteFault>
+    requires reached { cache.now.floor ≤ arrival.clock }
+    requires table { IsTableOf upstreams.now pending.old }
+    ensures questioned { (s : Observations) → IsCached s cache.now.floor cache.now.items
+        → SaysOrStops
+        (Questioned s upstreams.now pending.old arrival.clock arrival.from arrival.word octets.now)
+        (IsAsking octets.now) pending.old (handled_result arrival.from out.new.items result)
+        pending.new }
+    ensures table { KeepsTable pending.old pending.new }
+{
+    match decide_plain(alloc, cache, arrival.clock, octets, out) {
+        Ok(Plain::Other) => {
+            whole(take_question(alloc, cache, pending, upstreams, arrival, octets))
+        }
+        Ok(Plain::Hit) => Ok(Handled::Reply),
+        Ok(Plain::Miss(header, question)) => {
+            let miss = Decision::Miss(header, question);
+            whole(respond(alloc, pending, upstreams, arrival, miss))
+        }
+        Err(_) => Err(SiteFault::OutOfMemory { taken: 0 }),
+    }
+}
+
+/// What was given, none of it in a buffer.
+pub(crate) fn whole<A: Allocator>(
+    given: Result<Outcome<A>, SiteFault>,
+) -> Result<Handled<A>, SiteFault>
+    ensures { (from : Addr) → (octets : OctetList) → handled_result from octets result ≡ given }
+{
+    match given {
+        Ok(outcome) => Ok(Handled::Outcome(outcome)),
+        Err(fault) => Err(fault),
     }
 }
 
@@ -108,7 +157,7 @@ fn forward<A: Allocator + Copy>(
         arrival.word header question) ⊤ pending.old result pending.new }
     ensures table { KeepsTable pending.old pending.new }
 {
-    queries_have_the_id_told();
+    asking_uses_query_id();
     let outcome = first_outcome(alloc, pending, upstreams, arrival.word, &question)?;
     let from = arrival.from;
     let id = header.id;

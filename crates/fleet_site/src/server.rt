@@ -8,6 +8,7 @@ ghost use Rattle.fleet_site.specs.server.Turn.{IsSweepDue, HasPassed, left_after
 ghost use Rattle.fleet_site.specs.server.Served.{Served, FollowsSteps};
 ghost use Rattle.fleet_site.specs.steps.Turned.{Turned, GivenOne, Heard, TickedAll, SweptOnce};
 
+use crate::handled::Handled;
 use crate::outcome::{Outcome, Packet, Refusal, SiteFault};
 use crate::port::{Clock, Port};
 use crate::report::Report;
@@ -132,11 +133,12 @@ fn give<P: Port, A: Allocator + Copy>(
     ensures { GivenOne (P.tells port.old) (P.tells port.new) now from bytes.now word site.old
         site.new report.old report.new }
 {
-    if site.hit(now, from, bytes, reply) {
-        send(port, from, reply.as_slice(), report);
-    } else {
-        let answer = site.datagram(now, from, bytes, word);
-        carry_out(port, site.peers(), answer, report);
+    match site.datagram_into(now, from, bytes, word, reply) {
+        Ok(Handled::Reply) => send(port, from, reply.as_slice(), report),
+        Ok(Handled::Outcome(outcome)) => {
+            carry_out(port, site.peers(), Ok(outcome), report);
+        }
+        Err(_) => report.count_short(),
     }
 }
 

@@ -5,7 +5,7 @@ ghost use Rattle.fleet_site.specs.SiteModel.{SiteModel};
 ghost use Rattle.fleet_site.specs.StandsFor.{StandsFor, Follows, Answers, Gathers, opening};
 ghost use Rattle.fleet_site.specs.steps.Sender.{IsSender};
 ghost use Rattle.fleet_site.specs.SiteData.{IsSiteData};
-ghost use Rattle.fleet_site.specs.question.Hit.{RepliesOnly};
+ghost use Rattle.fleet_site.specs.question.Handling.{handled_result};
 ghost use Rattle.fleet_site.specs.Step.{datagram as a_datagram, tick as a_tick, frame as a_frame, learn as a_reply, flush as a_flush};
 ghost use Rattle.fleet_site.specs.gossip.Sweep.{IsSweep};
 ghost use Rattle.fleet_site.specs.Tick.{LeavesFewer};
@@ -16,10 +16,10 @@ ghost use Rattle.fleet_site.specs.declared.outcome.SiteFault.TheVariants.{OutOfM
 use crate::config::{Config, place_of};
 use crate::flush::flush_name;
 use crate::frame::take_frame;
-use crate::hit::write_hit;
+use crate::handled::Handled;
 use crate::looked::Looked;
 use crate::outcome::{Outcome, SiteFault};
-use crate::question::{Arrival, take_question};
+use crate::question::{Arrival, take_question, take_question_into, whole};
 use crate::relay::{learn_reply, take_reply};
 use crate::tick::serve_due;
 use crate::verdict::{Decision, decide};
@@ -69,6 +69,7 @@ fn later_moment(one: Moment, other: Moment) -> Moment
 }
 
 /// Where a datagram comes from.
+#[derive(Clone, Copy)]
 enum Sender {
     /// An upstream, at this place.
     Upstream(u8),
@@ -91,11 +92,11 @@ fn sender_of<A: Allocator>(config: &Config<A>, from: Addr) -> Sender
     }
 }
 
-/// Whether what comes from an address is a question: it is neither an upstream's nor a peer's.
-fn is_asker<A: Allocator>(config: &Config<A>, from: Addr) -> bool
-    ensures { IsTrue result ↔ IsSender config.now.upstreams config.now.peers from Other }
+/// Whether what comes from such a sender is a question: it is neither an upstream nor a peer.
+fn is_asker(sender: Sender) -> bool
+    ensures { IsTrue result ↔ (sender ≡ Other) }
 {
-    match sender_of(config, from) {
+    match sender {
         Sender::Upstream(_) => false,
         Sender::Peer => false,
         Sender::Other => true,
@@ -182,8 +183,63 @@ impl<A: Allocator + Copy> Site<A> {
             → Follows m (a_datagram now from bytes.now word) result self.new }
         ensures config { self.new.config ≡ self.old.config }
     {
+        let sender = sender_of(&self.config, from);
+        self.hear(sender, now, from, bytes, word)
+    }
+
+    /// `datagram`, whose reply may be in a buffer. The reply of a hit is written in place of what
+    /// `out` holds, where the question is in full and in lower case. Such a question is read, and
+    /// looked up, once, also where it is a miss.
+    ///
+    /// Where `out` has room for 512 octets, a hit takes no memory for up to four records in a
+    /// section. Whatever is no `Reply` leaves anything in `out`.
+    pub fn datagram_into(
+        &mut self,
+        now: Moment,
+        from: Addr,
+        bytes: &[u8],
+        word: u16,
+        out: &mut Vec<u8, A>,
+    ) -> Result<Handled<A>, SiteFault>
+        ensures follows { (m : SiteModel) → StandsFor self.old m
+            → Follows m (a_datagram now from bytes.now word)
+            (handled_result from out.new.items result) self.new }
+        ensures config { self.new.config ≡ self.old.config }
+    {
+        let sender = sender_of(&self.config, from);
+        if !is_asker(sender) {
+            return whole(self.hear(sender, now, from, bytes, word));
+        }
+        let clock = later_moment(self.clock, now);
+        self.clock = clock;
+        let arrival = Arrival { clock, from, word };
+        take_question_into(
+            self.alloc,
+            &self.cache,
+            &mut self.pending,
+            self.config.upstreams(),
+            arrival,
+            bytes,
+            out,
+        )
+    }
+
+    /// What comes from such a sender.
+    fn hear(
+        &mut self,
+        sender: Sender,
+        now: Moment,
+        from: Addr,
+        bytes: &[u8],
+        word: u16,
+    ) -> Result<Outcome<A>, SiteFault>
+        requires { IsSender self.old.config.upstreams self.old.config.peers from sender }
+        ensures follows { (m : SiteModel) → StandsFor self.old m
+            → Follows m (a_datagram now from bytes.now word) result self.new }
+        ensures config { self.new.config ≡ self.old.config }
+    {
         self.clock = later_moment(self.clock, now);
-        match sender_of(&self.config, from) {
+        match sender {
             Sender::Upstream(place) => {
                 take_reply(
                     self.alloc,
@@ -213,32 +269,8 @@ impl<A: Allocator + Copy> Site<A> {
         }
     }
 
-    /// A datagram that the cache answers at once: whether it is a question in full and in lower
-    /// case, from an address that is neither an upstream's nor a peer's, with QR clear, Opcode 0,
-    /// class 1 (IN) and a type that data can have, to which the cache has an answer. The reply is
-    /// then written in place of what `out` holds, and it is all that `datagram` would give,
-    /// whatever the word.
-    ///
-    /// `false`: nothing of the site has changed, `out` holds anything, and the datagram is to be
-    /// given to `datagram`. This is the answer too where there is no memory for the reply. Where
-    /// `out` has room for 512 octets, none is taken for up to four records in a section.
-    pub fn hit(&mut self, now: Moment, from: Addr, bytes: &[u8], out: &mut Vec<u8, A>) -> bool
-        ensures replies { IsTrue result
-            → RepliesOnly self.old now from bytes.now out.new.items self.new }
-        ensures unchanged { result ≡ false → self.new ≡ self.old }
-    {
-        if !is_asker(&self.config, from) {
-            return false;
-        }
-        let clock = later_moment(self.clock, now);
-        if !write_hit(self.alloc, &self.cache, clock, bytes, out) {
-            return false;
-        }
-        self.clock = clock;
-        true
-    }
-
-    /// A vector for the replies of `hit`, with room for a whole one where there is memory for that.
+    /// A vector for the replies of `datagram_into`, with room for a whole one where there is memory
+    /// for that.
     pub(crate) fn reply_buffer(&self) -> Vec<u8, A> {
         let mut out = Vec::new(self.alloc);
         if let Err(_) = out.reserve(LONGEST_MESSAGE) {

@@ -1,25 +1,26 @@
-//! Questions that are lent.
+//! Questions that borrow their name.
 
-ghost use Rattle.std.specs.Prelude.{◌≡◌, None, List, ℕ, ◌++◌, ◌+◌, ◌≤◌, length, IfSome, MatchOption};
+ghost use Rattle.std.specs.Prelude.{◌≡◌, None, List, ℕ, ◌++◌, ◌+◌, ◌≤◌, length, IfOk, IfSome, MatchOption};
 ghost use Rattle.fleet_name.specs.Name.{wire, labels_of, IsName};
 ghost use Rattle.fleet_name.specs.declared.bounds.TheConstants.{LONGEST_NAME};
 ghost use Rattle.fleet_wire.specs.Number.{u16_at};
 ghost use Rattle.fleet_wire.specs.Question.{QuestionData, IsQuestionData};
 
 use crate::question::Question;
-use std::alloc::Allocator;
+use fleet_name::{Name, Octets};
+use std::alloc::{AllocError, Allocator};
 use std::marker::Model;
 
-/// A question (RFC 1035 4.1.2) that a message or a `Question` lends: nothing of it is copied.
+/// A question (RFC 1035 4.1.2) that borrows its name from a message or a `Question`.
 #[derive(Drop)]
 pub struct LentQuestion<'a> {
     /// The name in full, in its own case.
     pub(crate) spelled: &'a [u8],
     /// The name in full, in lower case.
     pub(crate) name: &'a [u8],
-    /// The type that is asked for.
+    /// QTYPE.
     pub(crate) rtype: u16,
-    /// The class that is asked for.
+    /// QCLASS.
     pub(crate) class: u16,
 }
 
@@ -44,18 +45,32 @@ impl<'a> LentQuestion<'a> {
         self.name
     }
 
-    /// The type that is asked for.
+    /// QTYPE.
     pub fn rtype(&self) -> u16
         ensures { result ≡ self.now.rtype }
     {
         self.rtype
     }
 
-    /// The class that is asked for.
+    /// QCLASS.
     pub fn class(&self) -> u16
         ensures { result ≡ self.now.class }
     {
         self.class
+    }
+
+    /// A copy in memory of its own, or `Err` where there is no memory for it.
+    pub fn try_copy<A: Allocator + Copy>(&self, alloc: A) -> Result<Question<A>, AllocError>
+        ensures { IfOk result (λ q. q ≡ self.now) }
+    {
+        let spelling = Octets::copy_of(alloc, self.spelled)?;
+        let name = Name::copy_of(alloc, self.name)?;
+        Ok(Question {
+            spelled: spelling,
+            name,
+            rtype: self.rtype,
+            class: self.class,
+        })
     }
 
     /// How many octets the name has in full, 255 at most (RFC 1035 2.3.4).
@@ -68,7 +83,7 @@ impl<'a> LentQuestion<'a> {
 }
 
 impl<A: Allocator> Question<A> {
-    /// The question, lent.
+    /// The question, with its name borrowed from this one.
     pub fn lend(&self) -> LentQuestion<'_>
         ensures { result ≡ self.now }
     {

@@ -7,7 +7,7 @@ ghost use Rattle.fleet_observe.specs.RrSet.{SpellsName};
 ghost use Rattle.fleet_observe.specs.Walk.{HasWalk, Ends};
 ghost use Rattle.fleet_observe.specs.steps.Following.{ArePlainRecords, IsFollowed};
 ghost use Rattle.fleet_observe.specs.Digest.{end_data, IsLawful};
-ghost use Rattle.fleet_observe.specs.DigestOf.{IsServed, IsDigest, IsEnd, Tells, AsksWalk, IsWalkable};
+ghost use Rattle.fleet_observe.specs.DigestOf.{IsServed, IsDigest, IsEnd, EndsAs, AsksWalk, IsWalkable};
 
 use crate::reply::authority::authority_sets;
 use crate::reply::denial::soa_for;
@@ -22,7 +22,7 @@ use fleet_wire::{Message, Record};
 use std::alloc::{AllocError, Allocator, Global};
 use std::marker::Model;
 
-/// What a reply tells: the links of the walk from the question's name along aliases, how it ends,
+/// What a reply means: the links of the walk from the question's name along aliases, how it ends,
 /// and the NS RRsets that it is an authority for. `digest` alone makes one.
 #[derive(Drop)]
 pub struct Digest<A: Allocator = Global> {
@@ -163,8 +163,8 @@ fn end_of<A: Allocator + Copy>(
     Ok(End::NxDomain(soa))
 }
 
-/// What a reply that asks for no walk tells, with a copy of the question's name. This takes no
-/// memory.
+/// The digest of a reply that asks for no walk. It is made of a copy of the question's name, so
+/// this allocates nothing.
 pub(crate) fn digest_without_walk<A: Allocator + Copy>(
     alloc: A,
     message: &Message<A>,
@@ -173,7 +173,7 @@ pub(crate) fn digest_without_walk<A: Allocator + Copy>(
 ) -> Digest<A>
     requires served { IsServed message.now }
     requires named { name ≡ message.now.question.name }
-    requires tells { Tells message.now [] (end_data end) }
+    requires ends_as { EndsAs message.now [] (end_data end) }
     requires idle { ¬ AsksWalk message.now }
     ensures { IsDigest message.now result }
 {
@@ -187,7 +187,7 @@ pub(crate) fn digest_without_walk<A: Allocator + Copy>(
     }
 }
 
-/// What a reply with a walk tells.
+/// The digest of a reply with a walk. `Err` where an allocation fails.
 pub(crate) fn digest_along_walk<A: Allocator + Copy>(
     alloc: A,
     message: &Message<A>,

@@ -12,20 +12,27 @@ use fleet_wire::Record;
 use fleet_wire::rtype::CNAME;
 use std::alloc::Allocator;
 
-/// What an RRset has: its first record, where there is one.
+/// What the walk finds of an RRset: its first record, where there is one.
 #[derive(Drop)]
 pub(crate) enum Found<'a, A: Allocator> {
+    /// There is no record of it.
     Nothing,
+    /// Its records have one RDATA.
     One(&'a Record<A>),
+    /// Its records have several RDATAs.
     Several(&'a Record<A>),
 }
 
 /// What the walk does at a name: with a record of the RRset that decides it.
 #[derive(Drop)]
 pub(crate) enum Step<'a, A: Allocator> {
+    /// It ends with records of the type.
     Records(&'a Record<A>),
+    /// It goes on to the target of this alias.
     Alias(&'a Record<A>),
+    /// It ends without records.
     Bare,
+    /// There are several aliases, so there is no walk.
     Fork,
 }
 
@@ -98,7 +105,7 @@ pub(crate) fn has_walk<A: Allocator>(answer: &[Record<A>], name: &[u8], rtype: u
     false
 }
 
-/// A record of those that the walk found where it ended, if any.
+/// A record of the RRset that the walk found where it ended, if any.
 pub(crate) fn found_at<'a, A: Allocator>(
     answer: &'a [Record<A>],
     name: &[u8],

@@ -4,7 +4,6 @@ use Rattle.std.specs.Prelude.{◌≡◌, ℕ, List, [], ◌∷◌, ◌++◌, map
 use Rattle.fleet_name.specs.Types.{OctetList}
 use Rattle.fleet_wire.specs.Outline.{OutlineData}
 use Rattle.fleet_wire.specs.Record.{RecordData}
-use Rattle.fleet_wire.specs.declared.rtype.TheConstants.{SOA}
 use Rattle.fleet_wire.specs.declared.rcode.TheConstants.{NO_ERROR, NAME_ERROR}
 use Rattle.fleet_observe.specs.Body.{positive_body}
 use Rattle.fleet_observe.specs.Observation.{IsNegativeKind}

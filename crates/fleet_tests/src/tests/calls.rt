@@ -1,7 +1,7 @@
 //! Worked examples.
 
 use crate::tests::octets::{add_octets, octets, spelt_out};
-use crate::tests::sites::{addr, check_new, check_rows, new_site, number, tell_sweep};
+use crate::tests::sites::{addr, check_new, check_rows, new_site, number, show_sweep};
 use fleet_pending::Addr;
 use fleet_site::{Config, Site, SiteFault};
 use std::alloc::Global;
@@ -140,13 +140,19 @@ fn check_asked(rt: &impl Abort, alloc: Global, site: &mut Site) -> Result<(), Fa
 #[test]
 fn a_full_table(rt: HostRuntime) -> Result<(), Fail> {
     let mut site = new_site(rt.alloc(), &[addr(5401)])?;
-    check_asked(&rt, rt.alloc(), &mut site)?;
+    check_full_table(&rt, rt.alloc(), &mut site)
+}
+
+/// As many questions are asked as may.
+fn check_full_table(rt: &impl Abort, alloc: Global, site: &mut Site) -> Result<(), Fail> {
+    check_asked(rt, alloc, site)?;
     check_rows(
-        &rt,
-        rt.alloc(),
-        &mut site,
+        rt,
+        alloc,
+        site,
         "\
 100 datagram 6001 65535 question-0256 => 6001 failure-0256 refused Full
+100 handle 6001 65535 question-0256 => 6001 failure-0256 refused Full clock 100
 102 tick => 5302 query-0001 more
 ",
     )
@@ -162,21 +168,27 @@ fn check_joined(rt: &impl Abort, alloc: Global, site: &mut Site) -> Result<(), F
     Ok(())
 }
 
-#[test]
-fn a_full_entry(rt: HostRuntime) -> Result<(), Fail> {
-    let mut site = new_site(rt.alloc(), &[addr(5401)])?;
+/// As many join a question as may.
+fn check_full_entry(rt: &impl Abort, alloc: Global, site: &mut Site) -> Result<(), Fail> {
     let first = "100 datagram 6001 4660 question => 5301 query";
-    check_rows(&rt, rt.alloc(), &mut site, first)?;
-    check_joined(&rt, rt.alloc(), &mut site)?;
+    check_rows(rt, alloc, site, first)?;
+    check_joined(rt, alloc, site)?;
     check_rows(
-        &rt,
-        rt.alloc(),
-        &mut site,
+        rt,
+        alloc,
+        site,
         "\
 100 datagram 6033 65535 question => 6033 failure refused Full
+100 handle 6033 65535 question => 6033 failure refused Full clock 100
 100 datagram 6001 4660 question =>
 ",
     )
+}
+
+#[test]
+fn a_full_entry(rt: HostRuntime) -> Result<(), Fail> {
+    let mut site = new_site(rt.alloc(), &[addr(5401)])?;
+    check_full_entry(&rt, rt.alloc(), &mut site)
 }
 
 #[test]
@@ -261,9 +273,9 @@ fn a_question_is_looked_up(rt: HostRuntime) -> Result<(), Fail> {
 
 /// A sweep gives these frames.
 fn check_sweep(rt: &impl Abort, alloc: Global, site: &Site, wanted: &str) -> Result<(), Fail> {
-    let mut told = String::new(alloc);
-    tell_sweep(&mut told, site)?;
-    assert_eq!(rt; told.as_str(), spelt_out(alloc, wanted)?.as_str());
+    let mut output = String::new(alloc);
+    show_sweep(&mut output, site)?;
+    assert_eq!(rt; output.as_str(), spelt_out(alloc, wanted)?.as_str());
     Ok(())
 }
 

@@ -1,35 +1,35 @@
-//! Questions that are answered at once, and those that are not.
+//! Datagrams that are handled with a buffer for the reply of a hit.
 
 use crate::tests::octets::octets;
 use crate::tests::sites::{addr, check_each, moment};
-use fleet_site::{Config, Site};
+use fleet_site::{Config, Handled, Site};
 use fleet_wire::bounds::LONGEST_MESSAGE;
 use linked_list_allocator::LocalHeap;
 use std::alloc::{AllocError, Global};
 use std::process::Abort;
 use std::test::Fail;
 
-/// What is learnt at 100, and then a datagram that is a hit: the buffer holds the packet that it is to
-/// give, the clock has been raised, and `datagram` gives just this too.
+/// What is learnt at 100, and then a datagram that is a plain hit: the buffer holds the packet that is
+/// to be sent, and `datagram` gives just this too.
 const HITS: &str = "\
 100 learn reply => taken 1
-110 hit 6001 question => 6001 relay-290 clock 110
+110 handle 6001 0 question => into 6001 relay-290 clock 110
 110 datagram 6001 0 question => 6001 relay-290
 
 100 learn reply => taken 1
-110 hit 6002 local => 6002 local-relay clock 110
+110 handle 6002 65535 local => into 6002 local-relay clock 110
 110 datagram 6002 65535 local => 6002 local-relay
 
 100 learn no-data-reply => taken 1
-110 hit 6001 no-data => 6001 no-data-relay clock 110
+110 handle 6001 0 no-data => into 6001 no-data-relay clock 110
 110 datagram 6001 0 no-data => 6001 no-data-relay
 
 100 learn no-name-reply => taken 1
-110 hit 6001 no-name => 6001 no-name-relay clock 110
+110 handle 6001 0 no-name => into 6001 no-name-relay clock 110
 110 datagram 6001 0 no-name => 6001 no-name-relay
 
 100 learn aliases-reply => taken 3
-110 hit 6001 aliases => 6001 aliases-relay clock 110
+110 handle 6001 0 aliases => into 6001 aliases-relay clock 110
 110 datagram 6001 0 aliases => 6001 aliases-relay";
 
 #[test]
@@ -37,54 +37,66 @@ fn hits_are_answered_at_once(rt: HostRuntime) -> Result<(), Fail> {
     check_each(&rt, rt.alloc(), HITS)
 }
 
-/// Datagrams that are no hits at a site that learnt the reply, so that nothing changes before they are
-/// handed on, with all that they then give: capital letters; a pointer to the header's first octet, so
-/// that the root is asked for; another class, a type that no data has, another Opcode; a reply; a header
-/// alone; a miss; and what comes from an upstream's address and from a peer's.
-const NO_HITS: &str = "\
-100 learn reply => taken 1
-110 hit 6001 capitals => clock 100
-110 datagram 6001 0 capitals => 6001 capitals-relay
+/// Plain misses: one that is asked, another who joins and one who waits already, with the relay to
+/// both; and one without RD, which is refused.
+const MISSES: &str = "\
+100 handle 6001 4660 question => 5301 query clock 100
+100 handle 6002 9 question-8 => clock 100
+101 handle 6001 4660 question => clock 101
+101 datagram 5301 0 reply => 6001 relay 6002 relay-8 frame frame-101 taken 1
+101 handle 6002 0 question-8 => into 6002 relay-8 clock 101
+
+100 handle 6001 4660 local => 6001 local-denial clock 100
+100 datagram 6001 4660 question => 5301 query
 
 100 learn reply => taken 1
-110 hit 6001 pointing => clock 100
-110 datagram 6001 17 pointing => 5301 pointing-query
-
-100 learn reply => taken 1
-110 hit 6001 chaos => clock 100
-110 datagram 6001 0 chaos => 6001 chaos-denial
-
-100 learn reply => taken 1
-110 hit 6001 any => clock 100
-110 datagram 6001 0 any => 6001 any-denial
-
-100 learn reply => taken 1
-110 hit 6001 inverse => clock 100
-110 datagram 6001 0 inverse => 6001 inverse-denial
-
-100 learn reply => taken 1
-110 hit 6001 relay => clock 100
-110 datagram 6001 0 relay => refused Dropped
-
-100 learn reply => taken 1
-110 hit 6001 header => clock 100
-110 datagram 6001 0 header => 6001 unread refused Read(Truncated)
-
-100 learn reply => taken 1
-110 hit 6001 asked => clock 100
-110 datagram 6001 4369 asked => 5301 asked-1111
-
-100 learn reply => taken 1
-110 hit 5301 question => clock 100
-110 datagram 5301 0 question => refused Dropped
-
-100 learn reply => taken 1
-110 hit 5401 question => clock 100
-110 datagram 5401 0 question => refused Frame(BadMagic)";
+110 handle 6001 4369 asked => 5301 asked-1111 clock 110";
 
 #[test]
-fn what_is_no_hit_goes_the_other_way(rt: HostRuntime) -> Result<(), Fail> {
-    check_each(&rt, rt.alloc(), NO_HITS)
+fn plain_misses_are_asked(rt: HostRuntime) -> Result<(), Fail> {
+    check_each(&rt, rt.alloc(), MISSES)
+}
+
+/// Datagrams that are no plain questions, at a site that learnt the reply, so that they are read in
+/// memory of their own: capital letters; a pointer to the header's first octet, so that the root is
+/// asked for; another class, a type that no data has, another Opcode; a reply; a header alone; and what
+/// comes from an upstream's address and from a peer's.
+const OTHERS: &str = "\
+100 learn reply => taken 1
+110 handle 6001 0 capitals => 6001 capitals-relay clock 110
+
+100 learn reply => taken 1
+110 handle 6001 17 pointing => 5301 pointing-query clock 110
+
+100 learn reply => taken 1
+110 handle 6001 0 chaos => 6001 chaos-denial clock 110
+
+100 learn reply => taken 1
+110 handle 6001 0 any => 6001 any-denial clock 110
+
+100 learn reply => taken 1
+110 handle 6001 0 inverse => 6001 inverse-denial clock 110
+
+100 learn reply => taken 1
+110 handle 6001 0 relay => refused Dropped clock 110
+
+100 learn reply => taken 1
+110 handle 6001 0 header => 6001 unread refused Read(Truncated) clock 110
+
+100 learn reply => taken 1
+110 handle 5301 0 question => refused Dropped clock 110
+
+100 learn reply => taken 1
+110 handle 5401 0 question => refused Frame(BadMagic) clock 110
+
+100 datagram 6001 4660 question => 5301 query
+101 handle 5301 0 reply => 6001 relay frame frame-101 taken 1 clock 101
+
+100 handle 5401 0 frame-100 => taken 1 clock 100";
+
+#[test]
+fn what_is_not_plain_is_read_as_ever(rt: HostRuntime) -> Result<(), Fail> {
+    check_each(&rt, rt.alloc(), OTHERS)
 }
 
 /// All that is left of a heap.
@@ -115,8 +127,8 @@ fn learn(global: Global, site: &mut Site<&LocalHeap>) -> Result<(), Fail> {
     Ok(())
 }
 
-/// A hit goes into a buffer that has room, and not into one that has none; nor can the datagram then be
-/// answered in another way.
+/// A hit goes into a buffer that has room, and not into one that has none; nor can it then be answered
+/// in another way. A miss finds no memory.
 fn check_full<'a>(
     rt: &impl Abort,
     global: Global,
@@ -126,10 +138,20 @@ fn check_full<'a>(
 ) -> Result<(), Fail> {
     let (now, from) = (moment("110")?, addr(6001));
     let asked = octets(global, "question")?;
-    assert!(rt; site.hit(now, from, asked.as_slice(), out));
-    assert!(rt; !site.hit(now, from, asked.as_slice(), &mut Vec::new(heap)));
-    assert!(rt; site.datagram(now, from, asked.as_slice(), 0).is_err());
+    let handled = site.datagram_into(now, from, asked.as_slice(), 0, out)?;
+    assert!(rt; matches!(&handled, Handled::Reply));
     assert_eq!(rt; out.as_slice(), octets(global, "relay-290")?.as_slice());
+    let mut none = Vec::new(heap);
+    assert!(rt;
+        site.datagram_into(now, from, asked.as_slice(), 0, &mut none)
+            .is_err()
+    );
+    assert!(rt; site.datagram(now, from, asked.as_slice(), 0).is_err());
+    let missed = octets(global, "asked")?;
+    assert!(rt;
+        site.datagram_into(now, from, missed.as_slice(), 0, out)
+            .is_err()
+    );
     Ok(())
 }
 

@@ -4,7 +4,7 @@ use Rattle.fleet_observe.specs.Members.{Has}
 use Rattle.fleet_observe.specs.Observation.{ObservationData}
 use Rattle.fleet_cache.specs.Live.{is_live}
 use Rattle.fleet_cache.specs.steps.Keyed.{IsOfKey}
-use Rattle.fleet_cache.proofs.Looked.{first_has, none_first, key_told, twice}
+use Rattle.fleet_cache.proofs.Looked.{first_has, none_first, key_cut, twice}
 use Rattle.fleet_cache.proofs.Holdings.{thinned_reclaimed}
 use Rattle.fleet_cache.proofs.reclaim.trim.Goals as goal
 
@@ -19,14 +19,14 @@ returns g c =
     ∙ ap (λ v. slice_get v 0) c.items.ensures.items) in
     let named = c.octets.ensures.octets ∙ ap wire (c.name.ensures.value
     ∙ ap (λ (o : ObservationData). o.name) c.observation.ensures) in
-    let told = key_told items c.args.key.now.items front
+    let cuts = key_cut items c.args.key.now.items front
     (subst (λ q. IsOfKey items q front) c.deref.ensures.value c.in-Some.ensures.found) lawful x first t
     c.cut_at-cut.result (c.cut_at-cut.ensures.cut x.name named) in
     let thin = thinned_reclaimed t items c.trim.new.self lawful (c.trim.ensures.trimmed (is_live items t)
-        told) in
+        cuts) in
     record {
       reclaimed = thin;
-      live = λ o h key. twice (is_live items t o) (sym (told o (thin.of_items o h) key)
+      live = λ o h key. twice (is_live items t o) (sym (cuts o (thin.of_items o h) key)
           ∙ c.trim.ensures.cleared o h key);
     }
 

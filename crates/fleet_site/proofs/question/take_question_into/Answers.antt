@@ -1,0 +1,31 @@
+use Rattle.std.proofs.Common.{Result, refl, sym, subst}
+use Rattle.fleet_site.specs.OutcomeData.{OutcomeData}
+use Rattle.fleet_site.specs.question.Question.{Reacts, Questioned}
+use Rattle.fleet_site.specs.question.Verdict.{Answer, Unknown, IsAsking}
+use Rattle.fleet_site.specs.steps.Carried.{SaysOrStops}
+use Rattle.fleet_site.specs.declared.outcome.SiteFault.{SiteFault}
+use Rattle.fleet_site.proofs.Following.{keeps_weaker}
+use Rattle.fleet_site.proofs.question.take_question_into.Goals as goal
+
+pub returns-in-Ok-Hit-clause-questioned : goal.returns-in-Ok-Hit-clause-questioned
+returns-in-Ok-Hit-clause-questioned g c = λ s cached. (
+  Answer c.decide_plain.new.out.items,
+  rw c.in-Ok-Hit.field-0-is at (c.in-Ok-Hit.ensures.decides s cached),
+  refl,
+)
+
+pub returns-in-Ok-Miss-clause-questioned : goal.returns-in-Ok-Miss-clause-questioned
+returns-in-Ok-Miss-clause-questioned g c = λ s cached.
+    let a = c.args.arrival in
+    let old = c.args.pending.now in
+    let v = Unknown c.in-Ok-Miss.header c.in-Ok-Miss.question in
+    let miss = rw c.in-Ok-Miss.field-0-is at c.in-Ok-Miss.ensures.miss in
+    let decides = rw c.in-Ok-Miss.field-0-is at (c.in-Ok-Miss.ensures.decides s cached) in
+    let P : Result OutcomeData SiteFault → Type 0 =
+    λ r. SaysOrStops (Questioned s c.args.upstreams.now old a.clock a.from a.word
+    c.args.octets.now) (IsAsking c.args.octets.now) old r c.respond.new.pending in
+    subst P (sym (c.whole-in-Ok-Miss.ensures a.from c.decide_plain.new.out.items))
+    (keeps_weaker (Reacts c.args.upstreams.now old a.clock a.from a.word v)
+    (Questioned s c.args.upstreams.now old a.clock a.from a.word c.args.octets.now) (Unit {0})
+    (IsAsking c.args.octets.now) old c.respond.new.pending c.respond.result
+    (λ d k. (v, decides, k)) (λ u. miss.0) c.respond.ensures.reacts)

@@ -1,0 +1,20 @@
+-- What handling a datagram gives, where a reply may be in a buffer.
+-- Serves `Site::datagram_into`.
+use Rattle.std.specs.Prelude.{Result, Ok, Err}
+use Rattle.fleet_name.specs.Types.{OctetList}
+use Rattle.fleet_pending.specs.declared.addr.Addr.{Addr}
+use Rattle.fleet_site.specs.OutcomeData.{OutcomeData, sends}
+use Rattle.fleet_site.specs.declared.handled.Handled.{Handled}
+use Rattle.fleet_site.specs.declared.handled.Handled.TheVariants.{Reply, Outcome}
+use Rattle.fleet_site.specs.declared.outcome.SiteFault.{SiteFault}
+
+-- what is given: the octets in the buffer to who asked and nothing else, or this outcome
+abbrev pub handled_data : {A : Type 0} → Addr → OctetList → Handled A → OutcomeData
+handled_data from octets Reply = sends from octets
+handled_data from octets (Outcome o) = o
+
+-- the same of a call that may be stopped
+abbrev pub handled_result : {A : Type 0} → Addr → OctetList → Result (Handled A) SiteFault
+    → Result OutcomeData SiteFault
+handled_result from octets (Ok h) = Ok (handled_data from octets h)
+handled_result from octets (Err f) = Err f

@@ -1,0 +1,23 @@
+-- What is made of a plain question, which is read in place.
+-- Serves `Site::datagram_into`.
+use Rattle.std.specs.Prelude.{◌≡◌, ◌<◌}
+use Rattle.fleet_name.specs.Types.{OctetList}
+use Rattle.fleet_wire.specs.Types.{Seconds}
+use Rattle.fleet_wire.specs.declared.class.TheConstants.{IN}
+use Rattle.fleet_observe.specs.Observation.{Observations}
+use Rattle.fleet_site.specs.question.Verdict.{Answer, Unknown, IsAsking, Decides}
+use Rattle.fleet_site.specs.declared.hit.Plain.{Plain}
+use Rattle.fleet_site.specs.declared.hit.Plain.TheVariants.{Other, Hit, Miss}
+
+-- of a hit the buffer holds the reply; of octets that are no plain question nothing is said yet
+abbrev pub DecidesPlain : {A : Type 0} → Observations → Seconds → OctetList → OctetList → Plain A
+    → Type 0
+DecidesPlain s t octets out Other = Unit {0}
+DecidesPlain s t octets out Hit = Decides s t octets (Answer out)
+DecidesPlain s t octets out (Miss h q) = Decides s t octets (Unknown h q)
+
+-- a miss can be asked of an upstream
+abbrev pub IsPlainMiss : {A : Type 0} → OctetList → Plain A → Type 0
+IsPlainMiss octets Other = Unit {0}
+IsPlainMiss octets Hit = Unit {0}
+IsPlainMiss octets (Miss h q) = IsAsking octets × (h.opcode < 16) × (q.class ≡ IN)
