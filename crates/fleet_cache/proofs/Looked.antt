@@ -35,7 +35,7 @@ use Rattle.fleet_name.proofs.Lemmas.{wire_exact, Has-filter, Has-in_filter}
 use Rattle.fleet_observe.proofs.Lemmas.{kind_exact, preference_exact}
 
 -- what is not false is true
-twice : (b : Bool) → not b ≡ false → b ≡ true
+pub twice : (b : Bool) → not b ≡ false → b ≡ true
 twice true e = refl
 twice false e = absurd (false≢true (sym e))
 
@@ -260,6 +260,12 @@ pub first_has : (xs : List ObservationData) (x : ObservationData) → Some x ≡
     → Has xs x
 first_has [] x e = absurd (cc)
 first_has (y ∷ xs) x e = let same : y ≡ x = cc in inl same
+
+-- a list without a first one has none
+pub none_first : (xs : List ObservationData) (x : ObservationData) → None ≡ slice_get xs 0
+    → Has xs x → ⊥
+none_first [] x e h = h
+none_first (y ∷ xs) x e h = absurd (cc)
 
 -- a cut at the name of one observation of a key is a cut of all of the key
 pub key_cut : (items : List ObservationData) (words : List ℕ) (front : List ObservationData)

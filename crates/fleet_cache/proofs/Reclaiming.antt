@@ -15,6 +15,11 @@ use Rattle.fleet_cache.proofs.Holdings.{live_shorter}
 use Rattle.fleet_cache.specs.steps.Orders.{cut_laws}
 use Rattle.fleet_observe.specs.Preference.{octets_cmp}
 use Rattle.std.proofs.lemmas.Bool.{cases_Bool}
+use mathlib.Core.Bool.{false≢true}
+use Rattle.std.specs.Ordering.{is_eq}
+use Rattle.std.specs.declared.cmp.Ordering.TheVariants.{Equal, Greater}
+use Rattle.std.specs.Cmp.{Equal-is}
+use Rattle.std.proofs.lemmas.Cmp.{tied_itself, nat_list_cmp_total}
 use Rattle.fleet_front.proofs.Lemmas.{front_itself, front_shown}
 use Rattle.fleet_name.proofs.Lemmas.{Has-filter, has_left, has_right, has_either}
 
@@ -205,3 +210,38 @@ module _ {K : Type 0} (octets : K → List ℕ) (words : List ℕ) (cut : CutDat
             (subst (IsThinned lives e.1) gone.1 (part_thinned e.1 gone.2 lives first))
             (trim_thinned es t.0 t.1 lives after))
       ]
+
+-- what was written back is found
+pub look_set : {K : Type 0} (test : K → Bool) (es : List (K × List ObservationData))
+    (f g : List ObservationData) → lookup test es ≡ Some f → lookup test (set_value test es g) ≡ Some g
+look_set test [] f g found = absurd (cc)
+look_set test (e ∷ es) f g found = elim (cases_Bool (test e.0)) [
+  | inl yea ↦ rw (yea, yea) refl
+  | inr nay ↦ rw (nay, nay) (look_set test es f g (rw nay at found))
+]
+
+-- no slot is left of a key that was taken out
+pub key_gone : {K : Type 0} (octets : K → List ℕ) (q : List ℕ)
+    (es : List (K × List ObservationData)) (f g : List ObservationData)
+    → IsDescending (λ (a b : K × List ObservationData). octets_cmp (octets b.0) (octets a.0)) es
+    → lookup (λ k. is_eq (octets_cmp q (octets k))) es ≡ Some f
+    → (d : K × List ObservationData)
+    → Has (remove_entry (λ k. is_eq (octets_cmp q (octets k)))
+        (set_value (λ k. is_eq (octets_cmp q (octets k))) es g)) d
+    → octets d.0 ≡ q → ⊥
+key_gone octets q [] f g down found d h same = absurd (cc)
+key_gone octets q (e ∷ es) f g down found d h same =
+    elim (cases_Bool (is_eq (octets_cmp q (octets e.0)))) [
+      | inl yea ↦
+          let far : Has es d = rw (yea, yea) at h in
+          let tied : octets_cmp q (octets e.0) ≡ Equal = (Equal-is _).0 yea in
+          let over : octets_cmp q (octets e.0) ≡ Greater =
+              ap (λ v. octets_cmp v (octets e.0)) (sym same) ∙ down.0 d far in
+          absurd (cc)
+      | inr nay ↦ elim (rw (nay, nay) at h) [
+        | inl here ↦ absurd (false≢true (sym nay
+            ∙ ap is_eq (ap (λ v. octets_cmp q (octets v.0)) here
+            ∙ (ap (octets_cmp q) same ∙ tied_itself nat_list_cmp_total q))))
+        | inr far ↦ key_gone octets q es f g down.1 (rw nay at found) d far same
+      ]
+    ]

@@ -276,6 +276,8 @@ impl<A: Allocator> Cache<A> {
         A: Copy,
         ensures taken { (s : Observations) → IsCached s self.old.floor self.old.items
             → OnOk result (IsCached (observation.now ∷ s) self.new.floor self.new.items) }
+        ensures kept { IfOk result (λ kept.
+            (kept ≡ false) ↔ IsNeedless self.old.floor self.old.items observation.now) }
         ensures floor { self.new.floor ≡ self.old.floor }
         ensures memory { OnErr result (¬ IsNeedless self.old.floor self.old.items observation.now) }
         ensures err { OnErr result (self.new ≡ self.old) }

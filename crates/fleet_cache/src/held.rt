@@ -9,7 +9,7 @@ ghost use Rattle.fleet_cache.specs.Cached.{IsCovered};
 ghost use Rattle.fleet_cache.specs.steps.Held.{IsHeld, IsTaken};
 ghost use Rattle.fleet_cache.specs.steps.Keyed.{HasNoKey, IsOfKey, IsOfName};
 ghost use Rattle.fleet_cache.specs.steps.Noted.{HasNone, HasNoneShorter};
-ghost use Rattle.fleet_cache.specs.steps.Reclaimed.{IsTrimmed};
+ghost use Rattle.fleet_cache.specs.steps.Reclaimed.{IsTrimmed, IsCleared};
 ghost use Rattle.fleet_cache.specs.steps.Slots.{concat};
 
 use crate::cut::Cut;
@@ -85,7 +85,8 @@ impl<A: Allocator> Held<A> {
 
     /// Drops what a cut hides of the front of a name, and the front where nothing is left of it.
     pub(crate) fn trim(&mut self, key: &Key<A>, cut: &Cut)
-        ensures { IsTrimmed key.now.items cut.now self.old self.new }
+        ensures trimmed { IsTrimmed key.now.items cut.now self.old self.new }
+        ensures cleared { IsCleared key.now.items cut.now self.new }
     {
         drop_hidden(&mut self.fronts, key, cut);
     }

@@ -3,7 +3,7 @@
 ghost use Rattle.std.specs.Prelude.{OnErr};
 ghost use Rattle.fleet_cache.specs.Cached.{IsCovered};
 ghost use Rattle.fleet_cache.specs.steps.Held.{IsHeld};
-ghost use Rattle.fleet_cache.specs.steps.Reclaimed.{IsReclaimed};
+ghost use Rattle.fleet_cache.specs.steps.Reclaimed.{IsReclaimed, AllLive};
 
 use crate::held::Held;
 use crate::lookup::cut_at;
@@ -83,6 +83,7 @@ pub(crate) fn reclaim<A: Allocator>(held: &mut Held<A>, cursor: &mut Cursor<A>, 
 /// Drops what is not live at the moment of the front of a name.
 fn trim<A: Allocator>(held: &mut Held<A>, key: &Key<A>, moment: Moment)
     ensures reclaimed { IsReclaimed moment held.old held.new }
+    ensures live { AllLive key.now.items moment held.old held.new }
 {
     let Some(front) = held.front(key) else {
         return;

@@ -7,7 +7,7 @@ ghost use Rattle.fleet_cache.specs.steps.Row.{row};
 ghost use Rattle.fleet_cache.specs.Cached.{is_covered, IsCovered};
 ghost use Rattle.fleet_cache.specs.steps.Packed.{words_of, IsPackable};
 ghost use Rattle.fleet_cache.specs.steps.Slots.{items_of, IsLaid, IsPut};
-ghost use Rattle.fleet_cache.specs.steps.Reclaimed.{IsTrimmed};
+ghost use Rattle.fleet_cache.specs.steps.Reclaimed.{IsTrimmed, IsCleared};
 
 use crate::cut::Cut;
 use crate::item::Item;
@@ -80,6 +80,7 @@ pub(crate) fn drop_hidden<A: Allocator>(fronts: &mut Fronts<A>, key: &Key<A>, cu
     ensures laid { IsLaid (λ k. k.items) fronts.new.entries }
     ensures trimmed { IsTrimmed key.now.items cut.now (items_of fronts.old.entries)
         (items_of fronts.new.entries) }
+    ensures cleared { IsCleared key.now.items cut.now (items_of fronts.new.entries) }
 {
     let Some(front) = fronts.get_mut(key) else {
         return;

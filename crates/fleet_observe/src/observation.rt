@@ -235,7 +235,7 @@ impl<A: Allocator> Observation<A> {
         ensures value { result ≡ end_of self.now }
         ensures lawful { IsObservation self.now }
     {
-        self.stamp.value() + self.life as u64
+        self.life as u64 + self.stamp.value()
     }
 
     /// The RDATAs of a positive observation, ascending; empty for the other kinds.

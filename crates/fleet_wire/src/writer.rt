@@ -156,7 +156,9 @@ fn size_of<A: Allocator>(outline: &Outline<A>) -> Option<usize>
 }
 
 /// How many octets the reply has where it is cut off: header and question.
-fn cut_size<A: Allocator>(outline: &Outline<A>) -> usize {
+fn cut_size<A: Allocator>(outline: &Outline<A>) -> usize
+    ensures { result ≡ length (cut_octets outline.now) }
+{
     12 + question_size(&outline.question)
 }
 

@@ -1,10 +1,10 @@
 -- What a sweep does to what is held.
 -- Serves `Cache::take` and `Cache::purge`, where they free memory.
-use Rattle.std.specs.Prelude.{◌≡◌, ℕ, Bool, not, List, ◌≤◌, length}
+use Rattle.std.specs.Prelude.{◌≡◌, ℕ, Bool, true, false, not, List, ◌≤◌, length}
 use Rattle.std.specs.List.{filter}
 use Rattle.fleet_observe.specs.Members.{Has}
 use Rattle.fleet_observe.specs.Observation.{ObservationData, Observations}
-use Rattle.fleet_cache.specs.Live.{live_of}
+use Rattle.fleet_cache.specs.Live.{is_live, live_of}
 use Rattle.fleet_cache.specs.Cut.{CutData, is_hidden}
 use Rattle.fleet_cache.specs.steps.Packed.{words_of}
 
@@ -27,3 +27,13 @@ abbrev pub IsTrimmed : List ℕ → CutData → Observations → Observations �
 IsTrimmed words cut items rest = (lives : ObservationData → Bool)
     → ((o : ObservationData) → Has items o → words_of o ≡ words → is_hidden cut o ≡ not (lives o))
     → IsThinned lives items rest
+
+-- the cut hides none of the items of the name with these words
+abbrev pub IsCleared : List ℕ → CutData → Observations → Type 0
+IsCleared words cut items =
+    (o : ObservationData) → Has items o → words_of o ≡ words → is_hidden cut o ≡ false
+
+-- what is left of the name with these words lives at the moment m, as the items say
+abbrev pub AllLive : List ℕ → ℕ → Observations → Observations → Type 0
+AllLive words m items rest =
+    (o : ObservationData) → Has rest o → words_of o ≡ words → is_live items m o ≡ true

@@ -1,4 +1,4 @@
-use Rattle.std.proofs.Common.{ℕ, ◌≡◌, ◌≢◌, Bool, true, false, List, [], ◌∷◌, Some, length, sym, ap, refl, ◌∙◌, subst, arith}
+use Rattle.std.proofs.Common.{ℕ, ◌≡◌, ◌≢◌, Bool, true, false, not, List, [], ◌∷◌, Some, length, sym, ap, refl, ◌∙◌, subst, arith}
 use Rattle.std.specs.Bool.{◌==◌}
 use Rattle.std.specs.Ordering.{is_eq}
 use Rattle.std.proofs.lemmas.Bool.Decides.{nat_tests}
@@ -10,9 +10,13 @@ use Rattle.fleet_observe.specs.Preference.{octets_cmp}
 use Rattle.fleet_cache.specs.Front.{without_hidden}
 use Rattle.fleet_cache.specs.Cut.{CutData, is_hidden}
 use Rattle.fleet_cache.specs.steps.Packed.{words_of}
-use Rattle.fleet_cache.specs.steps.Slots.{is_nil, IsLaid}
-use Rattle.fleet_cache.proofs.Slots.{slot_of_key}
-use Rattle.fleet_cache.proofs.Reclaiming.{IsTrim, written, taken_out, trim_laid, trim_thinned}
+use Rattle.fleet_cache.specs.steps.Slots.{items_of, is_nil, IsLaid}
+use Rattle.fleet_cache.specs.steps.Reclaimed.{IsCleared}
+use Rattle.std.proofs.lemmas.Bool.{not-true}
+use Rattle.fleet_name.proofs.Lemmas.{Has-filter}
+use Rattle.fleet_cache.proofs.Slots.{in_slot, slot_of_key}
+use Rattle.fleet_cache.proofs.Looked.{look_none, look_some}
+use Rattle.fleet_cache.proofs.Reclaiming.{IsTrim, written, taken_out, trim_laid, trim_thinned, look_set, key_gone}
 use Rattle.fleet_cache.proofs.store.drop_hidden.Goals as goal
 
 some_left : (xs : List ObservationData) → length xs ≢ 0 → is_nil xs ≡ false
@@ -45,6 +49,27 @@ module _ {K : Type 0} (octets : K → List ℕ) (q : List ℕ) (cut : CutData)
       (is ∙ ap (set_value (λ k. is_eq (octets_cmp q (octets k))) es) shown)))
       (taken_out octets q cut (λ k. is_eq (octets_cmp q (octets k))) es f (sym found) keyed
       (nil_from_length (without_hidden is_hidden cut f) (sym (ap length shown) ∙ none)))
+
+  kept_clear : length g ≢ 0 → IsCleared q cut (items_of new)
+  kept_clear some o h key =
+      let test = λ (k : K). is_eq (octets_cmp q (octets k)) in
+      let shows = λ (x : ObservationData). not (is_hidden cut x) in
+      let front = look_some octets q new (without_hidden is_hidden cut f)
+          (trim_laid octets q cut es new (kept some) laid)
+          (ap (lookup test) (is ∙ ap (set_value test es) shown)
+          ∙ look_set test es f (without_hidden is_hidden cut f) (sym found)) in
+      not-true (is_hidden cut o) (Has-filter shows f o (front.whole o h key)).1
+
+  dropped_clear : (left : List (K × List ObservationData))
+      → left ≡ remove_entry (λ k. is_eq (octets_cmp q (octets k))) new → length g ≡ 0
+      → IsCleared q cut (items_of left)
+  dropped_clear left gone none o h key =
+      let whole = trim_laid octets q cut es left (dropped left gone none) laid in
+      let e = in_slot left o h in
+      absurd (key_gone octets q es f g laid.ascending (sym found) e.0
+      (subst (λ v. Has v e.0)
+      (gone ∙ ap (remove_entry (λ k. is_eq (octets_cmp q (octets k)))) is) e.1)
+      (sym ((whole.slots e.0 e.1).one_key o e.2) ∙ key))
 
 pub returns-then-is_empty-clause-laid : goal.returns-then-is_empty-clause-laid
 returns-then-is_empty-clause-laid g c =
@@ -97,3 +122,28 @@ returns-else-is_empty-clause-trimmed g c lives decides =
     c.drop_hidden.new.self c.requires c.in-Some.ensures.value c.drop_hidden.ensures.items
     (c.get_mut.follows.holds c.drop_hidden.new.self).0 some)
     lives decides
+
+pub returns-then-is_empty-clause-cleared : goal.returns-then-is_empty-clause-cleared
+returns-then-is_empty-clause-cleared g c =
+    let none : length c.drop_hidden.new.self ≡ 0 = sym (ap length c.items.ensures.items)
+    ∙ is_zero (length c.items.result.now) c.is_empty.result c.is_empty.ensures c.if-is_empty.true in
+    dropped_clear (λ k. k.items) c.args.key.now.items c.args.cut.now c.args.fronts.now.entries
+    (c.get_mut.follows.lender c.drop_hidden.new.self).entries c.in-Some.front.now
+    c.drop_hidden.new.self c.requires c.in-Some.ensures.value c.drop_hidden.ensures.items
+    (c.get_mut.follows.holds c.drop_hidden.new.self).0 c.remove.new.self.entries
+    c.remove.ensures.entries none
+
+pub returns-else-is_empty-clause-cleared : goal.returns-else-is_empty-clause-cleared
+returns-else-is_empty-clause-cleared g c =
+    let some : length c.drop_hidden.new.self ≢ 0 =
+    λ e. (let same : length c.items.result.now ≡ 0 = ap length c.items.ensures.items ∙ e
+    in grind (arith, nat_tests, c.is_empty.ensures, c.if-is_empty.false, same)) in
+    kept_clear (λ k. k.items) c.args.key.now.items c.args.cut.now c.args.fronts.now.entries
+    (c.get_mut.follows.lender c.drop_hidden.new.self).entries c.in-Some.front.now
+    c.drop_hidden.new.self c.requires c.in-Some.ensures.value c.drop_hidden.ensures.items
+    (c.get_mut.follows.holds c.drop_hidden.new.self).0 some
+
+pub returns-in_default-clause-cleared : goal.returns-in_default-clause-cleared
+returns-in_default-clause-cleared g c o h key = absurd (look_none (λ k. k.items)
+    c.args.key.now.items c.args.fronts.now.entries c.requires (sym c.in_default.ensures.value) o
+    (subst (λ v. Has (items_of v.entries) o) c.get_mut.follows.holds-at-none h) key)

@@ -17,7 +17,7 @@ overflow_add-word c =
     let most : weigh WEIGHTS c.args.octets.now < 18446744073709551616 =
     weigh_below 72057594037927936 (drop 1 WEIGHTS) are_weights.0 c.args.octets.now
     (bytes_read c.args.octets.now c.type_inv.octets) in
-    omega (arith, more, digit, most, c.loop-i.invariant)
+    grind (arith, more, c.from.ensures, digit, most, c.loop-i.invariant, c.loop-i-test.true, c.requires)
 
 pub loop-i-preserved : goal.loop-i-preserved
 loop-i-preserved c =
@@ -25,7 +25,7 @@ loop-i-preserved c =
     (omega (arith, c.requires, c.loop-i-test.true)) c.loop-i-test.true in
     let digit = ap (λ v. v * slice_index_or WEIGHTS c.loop-i.i 0) c.from.ensures in
     let next = ap (λ j. weigh (drop j WEIGHTS) (drop j c.args.octets.now)) (add-one c.loop-i.i) in
-    omega (arith, more, digit, next, c.loop-i.invariant)
+    grind (arith, more, c.from.ensures, digit, next, c.loop-i.invariant, c.loop-i-test.true, c.requires)
 
 pub returns : goal.returns
 returns c =

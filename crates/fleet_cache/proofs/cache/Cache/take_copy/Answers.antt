@@ -1,4 +1,4 @@
-use Rattle.std.proofs.Common.{OnErr, subst}
+use Rattle.std.proofs.Common.{◌≡◌, false, ◌↔◌, IfOk, OnErr, subst}
 use Rattle.fleet_cache.specs.Cached.{IsNeedless}
 use Rattle.fleet_cache.proofs.Caches.{cached_needless}
 use Rattle.fleet_cache.proofs.cache.Cache.take_copy.Goals as goal
@@ -12,3 +12,8 @@ pub returns-clause-memory : goal.returns-clause-memory
 returns-clause-memory g c = subst (λ v. OnErr c.take.result
     (¬ IsNeedless c.args.self.now.floor c.args.self.now.items v)) c.in_ok-try_clone.ensures
     c.take.ensures.memory
+
+pub returns-clause-kept : goal.returns-clause-kept
+returns-clause-kept g c = subst (λ v. IfOk c.take.result (λ kept.
+    (kept ≡ false) ↔ IsNeedless c.args.self.now.floor c.args.self.now.items v))
+    c.in_ok-try_clone.ensures c.take.ensures.kept

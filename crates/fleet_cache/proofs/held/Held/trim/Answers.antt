@@ -23,6 +23,9 @@ invariant_of-self g c =
       λ o h. i.3 o (thin.of_items o h),
     )
 
-pub returns : goal.returns
-returns g c = subst (λ v. IsTrimmed c.args.key.now.items c.args.cut.now v
+pub returns-clause-trimmed : goal.returns-clause-trimmed
+returns-clause-trimmed g c = subst (λ v. IsTrimmed c.args.key.now.items c.args.cut.now v
     (items_of c.drop_hidden.new.fronts.entries)) c.self.view_is c.drop_hidden.ensures.trimmed
+
+pub returns-clause-cleared : goal.returns-clause-cleared
+returns-clause-cleared g c = c.drop_hidden.ensures.cleared
