@@ -207,6 +207,15 @@ fn check_sends(
     port.send(to, b"m")?;
     assert_eq!(rt; receive(alloc, client)?.as_slice(), b"m".as_slice());
     assert_eq!(rt; count_arrived(client)?, 0);
+    check_left(rt, port, client)
+}
+
+/// Two frames go out while the port receives, and the rest at the end.
+fn check_left(
+    rt: &impl Abort,
+    port: &mut UdpPort<'_, HostRuntime>,
+    client: &UdpSocket,
+) -> Result<(), Fail> {
     let mut buffer: Buffer = [0; FRAME + 1];
     send(client, port.address(), b"q")?;
     assert!(rt; matches!(port.recv(&mut buffer), Ok(Some((_, 1)))));
@@ -228,8 +237,16 @@ fn sends_frames_while_it_receives(rt: HostRuntime) -> Result<(), Fail> {
 #[test]
 fn fails_where_a_frame_can_not_be_sent(rt: HostRuntime) -> Result<(), Fail> {
     let mut port = UdpPort::bind(&rt, &rt, rt.alloc(), loopback(0))?;
-    let frame = marked(rt.alloc(), b'f', FRAME)?;
-    port.send(loopback(0), &frame)?;
+    check_unsent(&rt, rt.alloc(), &mut port)
+}
+
+/// A frame that waits can't be sent.
+fn check_unsent(
+    rt: &impl Abort,
+    alloc: Global,
+    port: &mut UdpPort<'_, HostRuntime>,
+) -> Result<(), Fail> {
+    port.send(loopback(0), &marked(alloc, b'f', FRAME)?)?;
     assert_eq!(rt; port.failures(), 0);
     let mut buffer: Buffer = [0; FRAME + 1];
     assert!(rt; port.recv(&mut buffer).is_err());

@@ -316,22 +316,32 @@ fn free_port(rt: &HostRuntime) -> Result<u16, Fail> {
     )
 }
 
+/// All is printed.
+fn check_report(stop: &impl Abort, rt: &HostRuntime, port: u16) -> Result<(), Fail> {
+    let printed = format!(in rt.alloc();
+        "listening 127.0.0.1:{port}\nturns 3 received 0 sent 0 lost 0 faults 0 refused 0 short 0\n"
+    )?;
+    check_end(stop, serve_at(rt, port, 2)?, 0, printed.as_str(), "");
+    Ok(())
+}
+
+/// Output that fails is reported, at either line.
+fn check_failed_output(stop: &impl Abort, rt: &HostRuntime, port: u16) -> Result<(), Fail> {
+    let reported = "dnsfleet: write\n";
+    let listens = format!(in rt.alloc(); "listening 127.0.0.1:{port}\n")?;
+    check_end(stop, serve_at(rt, port, 1)?, 1, listens.as_str(), reported);
+    check_end(stop, serve_at(rt, port, 0)?, 1, "", reported);
+    Ok(())
+}
+
 #[test]
 fn prints_where_it_listens_and_what_it_counted(rt: HostRuntime) -> Result<(), Fail> {
     let taken = UdpPort::bind(&rt, &rt, rt.alloc(), loopback(0))?;
     let port = taken.address().port;
     check_run(&rt, serve_at(&rt, port, 2)?, 1, "dnsfleet: socket\n");
     drop(taken);
-    let listens = format!(in rt.alloc(); "listening 127.0.0.1:{port}\n")?;
-    let printed = format!(in rt.alloc();
-        "{listens}turns 3 received 0 sent 0 lost 0 faults 0 refused 0 short 0\n"
-    )?;
-    check_end(&rt, serve_at(&rt, port, 2)?, 0, printed.as_str(), "");
-    // Output that fails is reported, at either line.
-    let reported = "dnsfleet: write\n";
-    check_end(&rt, serve_at(&rt, port, 1)?, 1, listens.as_str(), reported);
-    check_end(&rt, serve_at(&rt, port, 0)?, 1, "", reported);
-    Ok(())
+    check_report(&rt, &rt, port)?;
+    check_failed_output(&rt, &rt, port)
 }
 
 #[test]
@@ -344,6 +354,23 @@ fn reports_what_ends_it(rt: HostRuntime) -> Result<(), Fail> {
     Ok(())
 }
 
+/// Runs the program with the configuration that a descriptor leads to.
+fn run_file(rt: &HostRuntime, file: i32) -> Result<(ExitCode, String, String), Fail> {
+    let words = format!(in rt.alloc();
+        "dnsfleet serve --turns 2 --key {KEY} --config /proc/self/fd/{file}"
+    )?;
+    run_words(rt, words.as_str())
+}
+
+/// The program serves two turns at a port.
+fn check_served(stop: &impl Abort, rt: &HostRuntime, port: u16, file: i32) -> Result<(), Fail> {
+    let printed = format!(in rt.alloc();
+        "listening 127.0.0.1:{port}\nturns 2 received 0 sent 0 lost 0 faults 0 refused 0 short 0\n"
+    )?;
+    check_end(stop, run_file(rt, file)?, 0, printed.as_str(), "");
+    Ok(())
+}
+
 #[test]
 fn serves_a_number_of_turns(rt: HostRuntime) -> Result<(), Fail> {
     let port = free_port(&rt)?;
@@ -352,20 +379,7 @@ fn serves_a_number_of_turns(rt: HostRuntime) -> Result<(), Fail> {
     let file = reader.as_raw_fd();
     writer.write_all(configuration(rt.alloc(), port)?.as_bytes())?;
     drop(writer);
-    let words = format!(in rt.alloc();
-        "dnsfleet serve --turns 2 --key {KEY} --config /proc/self/fd/{file}"
-    )?;
-    let printed = format!(in rt.alloc();
-        "listening 127.0.0.1:{port}\nturns 2 received 0 sent 0 lost 0 faults 0 refused 0 short 0\n"
-    )?;
-    check_end(
-        &rt,
-        run_words(&rt, words.as_str())?,
-        0,
-        printed.as_str(),
-        "",
-    );
-    Ok(())
+    check_served(&rt, &rt, port, file)
 }
 
 #[test]

@@ -4,7 +4,7 @@ use crate::tests::examples::{all_examples, parts_of};
 use crate::tests::refused::MANY;
 use crate::tests::refused::lines::{Line, lines_of};
 use crate::tests::refusing::Refusing;
-use crate::{LineFault, run_script};
+use crate::{LineFault, ScriptFault, run_script};
 use std::alloc::Global;
 use std::process::Abort;
 use std::test::Fail;
@@ -23,6 +23,28 @@ fn end_before(lines: &[Line<'_>], number: u64) -> usize {
     end
 }
 
+/// The part of a transcript before the line with this number.
+fn before_line(alloc: Global, transcript: &str, number: u64) -> Result<&str, Fail> {
+    let lines = lines_of(alloc, transcript)?;
+    let end = end_before(&lines, number);
+    Ok(transcript.get(..end).ok_or("no such line")?)
+}
+
+/// Checks what was printed before a line that ran out of memory.
+fn check_printed(
+    rt: &impl Abort,
+    alloc: Global,
+    transcript: &str,
+    fault: ScriptFault,
+    printed: &[u8],
+) -> Result<(), Fail> {
+    assert_eq!(rt; fault.what, LineFault::OutOfMemory);
+    let before = before_line(alloc, transcript, fault.line)?;
+    let (_, wanted) = parts_of(alloc, before)?;
+    assert_eq!(rt; printed, wanted.as_bytes());
+    Ok(())
+}
+
 /// Runs the lines of a transcript with a call refused, and says whether that call was made.
 fn run_refused(
     rt: &impl Abort,
@@ -35,16 +57,13 @@ fn run_refused(
     let mut printed = Vec::new(alloc);
     let ended = run_script(&refusing, &mut text.as_bytes(), &mut printed);
     assert_eq!(rt; ended.is_err(), refusing.has_refused());
-    let Err(fault) = ended else {
-        return Ok(false);
-    };
-    assert_eq!(rt; fault.what, LineFault::OutOfMemory);
-    let lines = lines_of(alloc, transcript)?;
-    let end = end_before(&lines, fault.line);
-    let before = transcript.get(..end).ok_or("no such line")?;
-    let (_, wanted) = parts_of(alloc, before)?;
-    assert_eq!(rt; printed.as_slice(), wanted.as_bytes());
-    Ok(true)
+    match ended {
+        Ok(()) => Ok(false),
+        Err(fault) => {
+            check_printed(rt, alloc, transcript, fault, &printed)?;
+            Ok(true)
+        }
+    }
 }
 
 /// Runs the lines of a transcript with each call refused in turn, until one is not made.
