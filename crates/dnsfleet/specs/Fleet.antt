@@ -16,7 +16,7 @@ abbrev pub frame_count : Option WorldData → ℕ
 frame_count None = 0
 frame_count (Some world) = length world.frames
 
--- so many sites that took nothing in, at their addresses
+-- a number of sites that took nothing in, at their addresses
 abbrev pub BeginsWith : ℕ → Option WorldData → Type 0
 BeginsWith count None = ⊥
 BeginsWith count (Some world) = StandsFor world (opening (configs_of count count))

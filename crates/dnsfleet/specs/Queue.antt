@@ -23,7 +23,7 @@ pub record Queues {A : Type 0} (old : Inbox A) (d : Datagram) (fits : Bool) (new
   pub frame : LONGEST_MESSAGE < length d.1
       → Pushes old.frames d fits new.frames × (new.messages ≡ old.messages)
 
--- the datagram comes, cut to so many octets, at the front of the buffer
+-- the datagram comes, cut to a length, at the front of the buffer
 abbrev pub Fills : ℕ → Datagram → Option (Addr × ℕ) → OctetList → Type 0
 Fills asked d got buffer =
     (got ≡ Some (d.0, min (length d.1) asked))

@@ -17,8 +17,8 @@ use Rattle.dnsfleet.specs.declared.settings.Settings.{Settings}
 abbrev pub key_stream : OctetList → Stream
 key_stream key = stream_of (steps_u32 (next_word DOUBLE_ROUNDS)) (of_seed key)
 
--- so many turns were served, with the upstreams, the peers and the seconds between sweeps that the
--- settings say, by a site that took nothing in before; over them it follows the model's steps
+-- this number of turns was served, with the upstreams, the peers and the seconds between sweeps
+-- that the settings say, by a site that took nothing in before; it follows the model's steps
 pub record ServesNew (old new : PortState) (moments : Option (ℕ → ℕ)) (key : OctetList) (turns : ℕ)
     (settings : Settings) (report : Report) : Type 0 where
   pub site : SiteData

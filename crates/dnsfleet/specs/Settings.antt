@@ -13,21 +13,21 @@ local_addr port = record { host = LOOPBACK; port = port }
 abbrev pub upstreams : List Addr
 upstreams = local_addr FIRST_UPSTREAM_PORT ∷ local_addr SECOND_UPSTREAM_PORT ∷ []
 
--- where a site stands
+-- the address of a site
 abbrev pub site_address : ℕ → Addr
 site_address site = local_addr (FIRST_SITE_PORT + site)
 
--- the peers of a site: every other one of so many
+-- the peers of a site: every other one
 abbrev pub peers_of : ℕ → ℕ → List Addr
 peers_of site zero = []
 peers_of site (suc others) = if nat_eq others site then peers_of site others
     else (peers_of site others ++ site_address others ∷ [])
 
--- where a site asks, and whom it tells
+-- the upstreams and the peers of a site
 abbrev pub config_of : ℕ → ℕ → ConfigData
 config_of count site = record { upstreams = upstreams; peers = peers_of site count }
 
--- the same for the first of so many sites
+-- the same for the first sites
 abbrev pub configs_of : ℕ → ℕ → List ConfigData
 configs_of count zero = []
 configs_of count (suc sites) = configs_of count sites ++ config_of count sites ∷ []

@@ -1,4 +1,4 @@
-//! A reader that is called so often at most.
+//! A reader that is called a number of times at most.
 
 ghost use Rattle.std.specs.Prelude.{◌≡◌, ◌+◌, ◌<◌, ◌≤◌, length, IfOk};
 
@@ -13,7 +13,7 @@ pub struct Calls<'a, R> {
 }
 
 impl<'a, R: Read> Calls<'a, R> {
-    /// A reader that may be called so often.
+    /// A reader that may be called this often.
     pub fn new(reader: &'a mut R, left: u32) -> Calls<'a, R>
         ensures { result.left ≡ left }
     {

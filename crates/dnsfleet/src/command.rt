@@ -13,7 +13,7 @@ use std::alloc::{AllocError, Allocator};
 /// What a line asks for.
 #[derive(Debug, Drop)]
 pub enum Command<'a> {
-    /// There are so many sites.
+    /// The fleet has this number of sites.
     Sites {
         count: SiteCount,
     },
@@ -155,7 +155,7 @@ impl Step<'_> {
     }
 }
 
-/// The words of a line, as many as tell what it asks for: no line has more than six.
+/// The first words of a line, up to seven: no line has more than six.
 fn first_words(line: &str) -> ArrayVec<&str, 7> {
     let mut words = ArrayVec::new();
     for word in line.split(' ') {

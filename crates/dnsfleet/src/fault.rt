@@ -10,7 +10,7 @@ use std::fmt::Display;
 use std::process::ExitCode;
 use thiserror::Error;
 
-/// What is wrong with a line, in the order in which it is told.
+/// What is wrong with a line, in the order in which faults are reported.
 #[derive(Clone, Copy, Debug, PartialEq, Eq, Error)]
 pub enum LineFault {
     /// The reader failed, or was called too often.
@@ -49,7 +49,7 @@ pub enum LineFault {
     /// There is no frame of this number.
     #[error("no such frame")]
     NoSuchFrame,
-    /// There was no memory for it.
+    /// An allocation failed.
     #[error("out of memory")]
     OutOfMemory,
     /// The writer failed.
@@ -96,7 +96,7 @@ pub struct ScriptFault {
     pub what: LineFault,
 }
 
-/// Tells on standard error what ends a run, and gives its status, 1. What is told may be lost.
+/// Prints to standard error what ends a run, and returns its status, 1. The text may be lost.
 pub fn fail<E: Eprint, D: Display + Drop>(rt: &E, fault: D) -> ExitCode
     ensures { result ≡ ExitCode.FAILURE }
 {

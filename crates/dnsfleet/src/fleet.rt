@@ -13,7 +13,7 @@ use fleet_site::Config;
 use fleet_world::World;
 use std::alloc::{AllocError, Allocator};
 
-/// The address 127.0.0.1, at which all stand.
+/// The address 127.0.0.1, which all have.
 pub const LOOPBACK: u32 = 0x7f00_0001;
 
 /// The port of the first upstream of every site.
@@ -42,7 +42,7 @@ impl<A: Allocator + Copy> Fleet<A> {
         Fleet { alloc, world: None }
     }
 
-    /// Makes so many sites, if this is the first event.
+    /// Makes this number of sites, if this is the first event.
     pub fn begin(&mut self, count: SiteCount) -> Result<(), LineFault>
         ensures begun { OnOk result (BeginsWith count.value self.new.world) }
         ensures late { IsErrOf result LineFault.SitesNotFirst ↔ IsSome self.old.world }
@@ -119,7 +119,7 @@ fn new_world<A: Allocator + Copy>(alloc: A, count: usize) -> Result<World<A>, Al
     World::new(alloc, configs)
 }
 
-/// The upstreams of a site, and for its peers the others of so many.
+/// The upstreams of a site, and for its peers the other sites.
 fn new_config<A: Allocator + Copy>(
     alloc: A,
     count: usize,
@@ -146,7 +146,7 @@ fn new_upstreams<A: Allocator + Copy>(alloc: A) -> Result<Vec<Addr, A>, AllocErr
     Ok(addrs)
 }
 
-/// The addresses of so many sites but one.
+/// The addresses of all sites but one.
 fn new_peers<A: Allocator + Copy>(
     alloc: A,
     count: usize,

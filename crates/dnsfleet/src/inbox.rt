@@ -36,8 +36,8 @@ impl<A: Allocator + Copy> Inbox<A> {
         self.messages.is_empty() && self.frames.is_empty()
     }
 
-    /// Keeps a copy of a datagram, behind those of its kind. `false` where so many of them wait as
-    /// may; where there is no memory for it, nothing changes either.
+    /// Keeps a copy of a datagram, behind those of its kind. `false` where their queue is full;
+    /// nothing changes then, nor where an allocation fails.
     pub fn keep(&mut self, from: Addr, octets: &[u8]) -> Result<bool, AllocError>
         ensures kept { IfOk result (λ fits. Queues self.old (from, octets.now) fits self.new) }
         ensures memory { OnErr result (self.new ≡ self.old) }

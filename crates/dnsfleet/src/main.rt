@@ -74,8 +74,8 @@ fn program<'a>(alloc: Global, version: &'a str) -> Result<Command<'a>, AllocErro
     Ok(program)
 }
 
-/// Tells a usage fault on standard error, with status 2, where it may be lost; or shows a help page
-/// or the version on standard output, with status 0.
+/// Prints a usage fault to standard error, with status 2, where it may be lost; or a help page or
+/// the version to standard output, with status 0.
 fn explain<R: Print + Eprint>(rt: &R, error: &Error) -> io::Result<ExitCode>
     ensures fault { ¬ IsPage (kind_of error.now) → (kind_of error.now ≢ Mistake.OutOfMemory)
         → IsOkAnd result (λ code. exit_status code ≡ BAD_WORDS) }
@@ -94,7 +94,7 @@ fn explain<R: Print + Eprint>(rt: &R, error: &Error) -> io::Result<ExitCode>
     Ok(ExitCode::SUCCESS)
 }
 
-/// The status that a script ends with, 1 where a line is at fault, which is told on standard error.
+/// The status that a script ends with: 1 where a line is at fault, which standard error reports.
 fn end_script<R: Eprint>(rt: &R, ended: Result<(), ScriptFault>) -> ExitCode
     ensures done { IsOk ended → result ≡ ExitCode.SUCCESS }
     ensures fault { IsErr ended → result ≡ ExitCode.FAILURE }
@@ -145,8 +145,8 @@ fn run_process(rt: &HostRuntime) -> io::Result<ExitCode> {
     }
 }
 
-/// The status that a run ends with. Where output failed or memory was wanted, this is told on
-/// standard error, and the status is 1.
+/// The status that a run ends with. Where output or an allocation failed, standard error reports
+/// it, and the status is 1.
 fn end_run<R: Eprint>(rt: &R, ran: io::Result<ExitCode>) -> ExitCode
     ensures done { IfOk ran (λ code. result ≡ code) }
     ensures fault { IsErr ran → result ≡ ExitCode.FAILURE }

@@ -9,8 +9,8 @@ use std::alloc::{AllocError, Allocator, Global};
 use std::collections::VecDeque;
 use std::marker::Model;
 
-/// How many datagrams wait at most. Of one octet more than the longest frame each, so many have
-/// less than 64 MiB.
+/// How many datagrams wait at most. They have less than 64 MiB where each has one octet more than
+/// the longest frame.
 pub const MOST_WAITING: usize = 4095;
 
 /// Datagrams that wait in their order, each with the address that it came from or goes to.
@@ -50,8 +50,8 @@ impl<A: Allocator + Copy> Queue<A> {
         self.waiting.is_empty()
     }
 
-    /// Puts a copy of a datagram behind the others. `false` where so many wait as may; where there
-    /// is no memory for it, nothing changes either.
+    /// Puts a copy of a datagram behind the others. `false` where the queue is full; nothing changes
+    /// then, nor where an allocation fails.
     pub fn push(&mut self, addr: Addr, octets: &[u8]) -> Result<bool, AllocError>
         ensures pushed { IfOk result (λ fits. Pushes self.old (addr, octets.now) fits self.new) }
         ensures memory { OnErr result (self.new ≡ self.old) }

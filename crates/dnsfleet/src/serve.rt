@@ -143,7 +143,7 @@ pub fn print_report<O: Print>(out: &O, report: &Report) -> io::Result<()> {
     )
 }
 
-/// Serves so many turns with these settings, over any port and clock, with the words of a key.
+/// Serves a number of turns with these settings, over any port and clock, with the words of a key.
 fn serve_new<P: Port, C: Clock>(
     alloc: Global,
     port: &mut P,
@@ -160,7 +160,7 @@ fn serve_new<P: Port, C: Clock>(
     serve(port, clock, &mut rng, &mut site, turns, settings.sweep)
 }
 
-/// Serves so many turns over a socket, and prints where it listens and what it counted.
+/// Serves a number of turns over a socket, and prints where it listens and what it counted.
 fn serve_port<R: time::Clock + AllocGlobal, O: Print>(
     rt: &R,
     out: &O,
@@ -178,8 +178,8 @@ fn serve_port<R: time::Clock + AllocGlobal, O: Print>(
     print_report(out, &report)
 }
 
-/// Serves with these settings, if there are any. A fault is told on standard error, and ends with
-/// status 1; where output fails, its error is the answer.
+/// Serves with these settings, if there are any. A fault is printed to standard error, and ends
+/// with status 1; where output fails, its error is returned.
 pub fn serve_settings<R: time::Clock + Net + AllocGlobal, O: Print + Eprint>(
     rt: &R,
     out: &O,

@@ -58,10 +58,10 @@ pub enum SettingsFault {
     /// There are more than 16 peers.
     #[error("too many peers")]
     TooManyPeers,
-    /// An address stands twice among the upstreams and the peers.
+    /// An address appears twice among the upstreams and the peers.
     #[error("address twice")]
     AddressTwice,
-    /// There was no memory for it.
+    /// An allocation failed.
     #[error("out of memory")]
     OutOfMemory,
 }
@@ -71,15 +71,15 @@ pub enum SettingsFault {
 pub struct Settings {
     /// Where the site listens.
     pub listen: Addr,
-    /// Where it asks, and whom it tells.
+    /// Its upstreams and its peers.
     pub config: Config,
     /// How many seconds lie between two sweeps; 0 is never.
     pub sweep: u32,
 }
 
 /// Reads a configuration, a TOML text with the keys `listen`, `upstreams`, `peers` and `sweep`. Of
-/// several faults the first is told, in the order of `SettingsFault`, but that the faults of a
-/// value are told key by key; `OutOfMemory` at the growth that met it.
+/// several faults the first is returned, in the order of `SettingsFault`, but the faults of values
+/// come key by key, and `OutOfMemory` at the allocation that failed.
 pub fn read_settings(alloc: Global, octets: &[u8]) -> Result<Settings, SettingsFault>
     ensures { ReadsSettings octets.now result }
 {

@@ -54,7 +54,7 @@ impl<'a, C: time::Clock> Clock for SystemClock<'a, C> {
     }
 }
 
-/// The moment so long after 1970, or the latest.
+/// The moment that is this long after 1970, or the latest.
 fn moment_of(since: Duration) -> Moment
     ensures { result ≡ moment_in since }
 {

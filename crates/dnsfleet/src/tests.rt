@@ -1,7 +1,8 @@
-//! What is printed, of which no contract speaks, and every fault of a line.
+//! What is printed, which no contract describes, and every fault of a line.
 
 mod bodies;
 mod bursts;
+mod captured;
 mod datagrams;
 mod examples;
 mod frames;
@@ -13,9 +14,9 @@ mod refused;
 mod refusing;
 mod serving;
 mod settings;
-mod told;
 
 use crate::{LineFault, ScriptFault, end_script, run_script};
+use captured::Captured;
 use examples::{Example, all_examples, example_of};
 use messages::message_of;
 use readers::{Failing, Full, Slow};
@@ -23,7 +24,6 @@ use std::alloc::Global;
 use std::io::Read;
 use std::process::{Abort, ExitCode};
 use std::test::Fail;
-use told::Told;
 
 /// Runs the lines that a reader gives, which are all done, and compares what they print.
 fn check_reader<R: Read>(
@@ -85,30 +85,46 @@ fn add_prefixes(lines: &mut String, event: &str, octets: &str) -> Result<(), Fai
     Ok(())
 }
 
+/// Adds such lines for a message by its name.
+fn add_message_prefixes(lines: &mut String, event: &str, name: &str) -> Result<(), Fail> {
+    let octets = message_of(*lines.allocator(), name)?;
+    add_prefixes(lines, event, octets.as_str())
+}
+
+/// Adds lines with a reply and a frame that end early.
+fn add_early_ends(lines: &mut String) -> Result<(), Fail> {
+    add_message_prefixes(lines, "learn 0 100", "aliases-reply")?;
+    add_message_prefixes(lines, "frame 0 100", "first-100")?;
+    Ok(lines.push_str("show 0\n")?)
+}
+
+/// Adds a line a number of times.
+fn add_times(text: &mut String, count: u32, line: &str) -> Result<(), Fail> {
+    for _ in 0..count {
+        writeln!(text, "{line}")?;
+    }
+    Ok(())
+}
+
+/// Adds what these lines print.
+fn add_early_faults(text: &mut String) -> Result<(), Fail> {
+    add_times(text, 12, "refused read TooShort")?;
+    add_times(text, 87, "refused read Truncated")?;
+    add_times(text, 42, "refused frame Truncated")?;
+    Ok(text.push_str("floor 0\nitems 0\n")?)
+}
+
 #[test]
-fn tells_where_octets_end_early(rt: HostRuntime) -> Result<(), Fail> {
+fn reports_where_octets_end_early(rt: HostRuntime) -> Result<(), Fail> {
     let mut lines = String::new(rt.alloc());
+    add_early_ends(&mut lines)?;
     let mut wanted = String::new(rt.alloc());
-    let reply = message_of(rt.alloc(), "aliases-reply")?;
-    add_prefixes(&mut lines, "learn 0 100", reply.as_str())?;
-    for _ in 0..12 {
-        wanted.push_str("refused read TooShort\n")?;
-    }
-    for _ in 12..99 {
-        wanted.push_str("refused read Truncated\n")?;
-    }
-    let frame = message_of(rt.alloc(), "first-100")?;
-    add_prefixes(&mut lines, "frame 0 100", frame.as_str())?;
-    for _ in 0..42 {
-        wanted.push_str("refused frame Truncated\n")?;
-    }
-    lines.push_str("show 0\n")?;
-    wanted.push_str("floor 0\nitems 0\n")?;
+    add_early_faults(&mut wanted)?;
     check_lines(&rt, rt.alloc(), lines.as_str(), wanted.as_str());
     Ok(())
 }
 
-/// Adds the label of so many decimal digits of a number, in hexadecimal digits.
+/// Adds the label of decimal digits, in hexadecimal digits.
 fn add_label(text: &mut String, digits: &str) -> Result<(), Fail> {
     let length = digits.len();
     write!(text, "{length:02x}")?;
@@ -118,71 +134,100 @@ fn add_label(text: &mut String, digits: &str) -> Result<(), Fail> {
     Ok(())
 }
 
+/// Adds the entry of a frame, with an address of a name of seven digits.
+fn add_entry(text: &mut String, number: u16) -> Result<(), Fail> {
+    text.push_str("030300000000000000640000012c")?;
+    let digits = format!(in *text.allocator(); "{number:07}")?;
+    add_label(text, digits.as_str())?;
+    Ok(text.push_str("03636f6d00000100010004c0000201")?)
+}
+
 /// Adds entries of frames, each with an address of its own name.
 fn add_entries(text: &mut String, first: u16, end: u16) -> Result<(), Fail> {
     for number in first..end {
-        let digits = format!(in *text.allocator(); "{number:07}")?;
-        text.push_str("030300000000000000640000012c")?;
-        add_label(text, digits.as_str())?;
-        text.push_str("03636f6d00000100010004c0000201")?;
+        add_entry(text, number)?;
     }
-    text.push_str("\n")?;
-    Ok(())
+    Ok(text.push_str("\n")?)
+}
+
+/// Adds the lines in which a site takes in more than a frame holds, and a frame that is too long.
+fn add_packing(lines: &mut String) -> Result<(), Fail> {
+    lines.push_str("frame 0 100 44470101ba")?;
+    add_entries(lines, 0, 442)?;
+    lines.push_str("frame 0 100 4447010001")?;
+    add_entries(lines, 442, 443)?;
+    lines.push_str("sweep 0\nframe 0 100 44470101bb")?;
+    add_entries(lines, 0, 443)
+}
+
+/// Adds what these lines print.
+fn add_packed(text: &mut String) -> Result<(), Fail> {
+    text.push_str("taken 442\ntaken 1\nframe 0 44470201ba")?;
+    add_entries(text, 0, 442)?;
+    text.push_str("frame 1 4447020001")?;
+    add_entries(text, 442, 443)?;
+    Ok(text.push_str("swept 2\nrefused frame TooLong\n")?)
 }
 
 #[test]
 fn packs_what_it_holds(rt: HostRuntime) -> Result<(), Fail> {
     let mut lines = String::new(rt.alloc());
+    add_packing(&mut lines)?;
     let mut wanted = String::new(rt.alloc());
-    lines.push_str("frame 0 100 44470101ba")?;
-    add_entries(&mut lines, 0, 442)?;
-    lines.push_str("frame 0 100 4447010001")?;
-    add_entries(&mut lines, 442, 443)?;
-    lines.push_str("sweep 0\nframe 0 100 44470101bb")?;
-    add_entries(&mut lines, 0, 443)?;
-    wanted.push_str("taken 442\ntaken 1\nframe 0 44470201ba")?;
-    add_entries(&mut wanted, 0, 442)?;
-    wanted.push_str("frame 1 4447020001")?;
-    add_entries(&mut wanted, 442, 443)?;
-    wanted.push_str("swept 2\nrefused frame TooLong\n")?;
+    add_packed(&mut wanted)?;
     check_lines(&rt, rt.alloc(), lines.as_str(), wanted.as_str());
     Ok(())
 }
 
 /// Adds a question for the name of four digits, with its id.
 fn add_question(text: &mut String, header: &str, number: u16) -> Result<(), Fail> {
-    let digits = format!(in *text.allocator(); "{number:04}")?;
     text.push_str(header)?;
+    let digits = format!(in *text.allocator(); "{number:04}")?;
     add_label(text, digits.as_str())?;
-    text.push_str("0000010001\n")?;
+    Ok(text.push_str("0000010001\n")?)
+}
+
+/// Adds the lines in which 257 questions come, and two seconds pass.
+fn add_asking(lines: &mut String) -> Result<(), Fail> {
+    for number in 0..257u16 {
+        lines.push_str("datagram 0 100 127.0.0.1:6001 65535 ")?;
+        add_question(lines, "000701000001000000000000", number)?;
+    }
+    Ok(lines.push_str("tick 0 102\n")?)
+}
+
+/// Adds the query that each of 256 questions sends.
+fn add_queries(text: &mut String) -> Result<(), Fail> {
+    for number in 0..256u16 {
+        let id = 65535u16.wrapping_add(number);
+        write!(text, "send 127.0.0.1:5301 {id:04x}")?;
+        add_question(text, "01000001000000000000", number)?;
+        text.push_str("taken 0\n")?;
+    }
     Ok(())
+}
+
+/// Adds what these lines print.
+fn add_asked(text: &mut String) -> Result<(), Fail> {
+    add_queries(text)?;
+    text.push_str("send 127.0.0.1:6001 ")?;
+    add_question(text, "000781820001000000000000", 256)?;
+    text.push_str("refused full\nsend 127.0.0.1:5302 ")?;
+    add_question(text, "000001000001000000000000", 1)?;
+    Ok(text.push_str("more\n")?)
 }
 
 #[test]
 fn asks_at_most_256_questions(rt: HostRuntime) -> Result<(), Fail> {
     let mut lines = String::new(rt.alloc());
+    add_asking(&mut lines)?;
     let mut wanted = String::new(rt.alloc());
-    for number in 0..257u16 {
-        lines.push_str("datagram 0 100 127.0.0.1:6001 65535 ")?;
-        add_question(&mut lines, "000701000001000000000000", number)?;
-    }
-    for number in 0..256u16 {
-        let id = 65535u16.wrapping_add(number);
-        write!(wanted, "send 127.0.0.1:5301 {id:04x}")?;
-        add_question(&mut wanted, "01000001000000000000", number)?;
-        wanted.push_str("taken 0\n")?;
-    }
-    wanted.push_str("send 127.0.0.1:6001 ")?;
-    add_question(&mut wanted, "000781820001000000000000", 256)?;
-    wanted.push_str("refused full\nsend 127.0.0.1:5302 ")?;
-    lines.push_str("tick 0 102\n")?;
-    add_question(&mut wanted, "000001000001000000000000", 1)?;
-    wanted.push_str("more\n")?;
+    add_asked(&mut wanted)?;
     check_lines(&rt, rt.alloc(), lines.as_str(), wanted.as_str());
     Ok(())
 }
 
-/// Scripts with a line at fault, `/` in place of each LF; what is told of it; and what was printed
+/// Scripts with a line at fault, `/` in place of each LF; how it is reported; and what was printed
 /// before.
 const FAULTY: &str = "\
 # café/ => line 1: not ASCII
@@ -246,36 +291,49 @@ fn with_line_feeds(alloc: Global, text: &str) -> Result<String, Fail> {
     Ok(lines)
 }
 
-/// Runs lines with a fault, and compares what is told of it, and what was printed before.
+/// A script ended with a fault, which is reported so.
+fn check_report(
+    rt: &impl Abort,
+    alloc: Global,
+    ended: Result<(), ScriptFault>,
+    wanted: &str,
+) -> Result<(), Fail> {
+    match ended {
+        Ok(()) => Err("no fault".into()),
+        Err(fault) => {
+            let shown = format!(in alloc; "{fault}")?;
+            assert_eq!(rt; shown.as_str(), wanted);
+            Ok(())
+        }
+    }
+}
+
+/// Runs lines with a fault, and compares its report, and what was printed before.
 fn check_fault(
     rt: &impl Abort,
     alloc: Global,
     lines: &[u8],
-    told: &str,
+    wanted: &str,
     before: &str,
 ) -> Result<(), Fail> {
     let mut reader = lines;
     let mut printed = Vec::new(alloc);
-    let fault = match run_script(alloc, &mut reader, &mut printed) {
-        Ok(()) => return Err("no fault".into()),
-        Err(fault) => format!(in alloc; "{fault}")?,
-    };
-    assert_eq!(rt; fault.as_str(), told);
-    assert_eq!(rt; printed.as_slice(), before.as_bytes(), "{told}");
-    Ok(())
+    let ended = run_script(alloc, &mut reader, &mut printed);
+    assert_eq!(rt; printed.as_slice(), before.as_bytes(), "{wanted}");
+    check_report(rt, alloc, ended, wanted)
 }
 
 /// Checks a row of the table of faults.
 fn check_row(rt: &impl Abort, alloc: Global, row: &str) -> Result<(), Fail> {
-    let (script, told) = row.split_once(" => ").ok_or("no fault")?;
-    let (told, before) = told.split_once(" => ").unwrap_or((told, ""));
+    let (script, wanted) = row.split_once(" => ").ok_or("no fault")?;
+    let (wanted, before) = wanted.split_once(" => ").unwrap_or((wanted, ""));
     let script = with_line_feeds(alloc, script)?;
     let before = with_line_feeds(alloc, before)?;
-    check_fault(rt, alloc, script.as_bytes(), told, before.as_str())
+    check_fault(rt, alloc, script.as_bytes(), wanted, before.as_str())
 }
 
 #[test]
-fn tells_each_fault(rt: HostRuntime) -> Result<(), Fail> {
+fn reports_each_fault(rt: HostRuntime) -> Result<(), Fail> {
     let mut count = 0u32;
     for row in FAULTY.split_terminator('\n') {
         check_row(&rt, rt.alloc(), row)?;
@@ -285,7 +343,7 @@ fn tells_each_fault(rt: HostRuntime) -> Result<(), Fail> {
     check_fault(&rt, rt.alloc(), b"\n\xff\n", "line 2: not ASCII", "")
 }
 
-/// Adds a label of so many letters, in hexadecimal digits.
+/// Adds a label of this number of letters, in hexadecimal digits.
 fn add_letters(text: &mut String, length: usize) -> Result<(), Fail> {
     write!(text, "{length:02x}")?;
     for _ in 0..length {
@@ -294,25 +352,30 @@ fn add_letters(text: &mut String, length: usize) -> Result<(), Fail> {
     Ok(())
 }
 
-/// A line that flushes a name of three labels of 63 letters and one of so many.
-fn long_flush(alloc: Global, last: usize) -> Result<String, Fail> {
-    let mut line = String::from_str(alloc, "flush 0 0 ")?;
-    add_letters(&mut line, 63)?;
-    add_letters(&mut line, 63)?;
-    add_letters(&mut line, 63)?;
-    add_letters(&mut line, last)?;
-    line.push_str("00")?;
-    Ok(line)
+/// Adds a line that flushes a name of three labels of 63 letters, and one of this length.
+fn add_long_flush(line: &mut String, last: usize) -> Result<(), Fail> {
+    line.push_str("flush 0 0 ")?;
+    add_letters(line, 63)?;
+    add_letters(line, 63)?;
+    add_letters(line, 63)?;
+    add_letters(line, last)?;
+    Ok(line.push_str("00")?)
+}
+
+/// Runs a line, and says how it ended.
+fn run_line(alloc: Global, line: &str) -> Result<(), ScriptFault> {
+    let mut printed = Vec::new(alloc);
+    run_script(alloc, &mut line.as_bytes(), &mut printed)
 }
 
 #[test]
 fn bounds_a_name(rt: HostRuntime) -> Result<(), Fail> {
-    let longest = long_flush(rt.alloc(), 61)?;
-    let mut printed = Vec::new(rt.alloc());
-    let ended = run_script(rt.alloc(), &mut longest.as_bytes(), &mut printed);
-    assert_eq!(rt; ended, Ok(()));
-    let longer = long_flush(rt.alloc(), 62)?;
-    check_fault(&rt, rt.alloc(), longer.as_bytes(), "line 1: bad name", "")
+    let mut line = String::new(rt.alloc());
+    add_long_flush(&mut line, 61)?;
+    assert_eq!(rt; run_line(rt.alloc(), line.as_str()), Ok(()));
+    line.clear();
+    add_long_flush(&mut line, 62)?;
+    check_fault(&rt, rt.alloc(), line.as_bytes(), "line 1: bad name", "")
 }
 
 /// Words that are addresses.
@@ -323,22 +386,31 @@ const NO_ADDRESSES: &str = " \
     127.0.0.1 127.0.0.1: 127.0.0.1:0 127.0.0.1:01 127.0.0.1:65536 127.0.0.1:5301:1 \
     127.0.0.01:5301 127.0.0.256:5301 127.0.0:5301 127.0.0.1.1:5301 localhost:5301";
 
+/// A line with the word as an address is done.
+fn check_address(rt: &impl Abort, alloc: Global, word: &str) -> Result<(), Fail> {
+    let line = format!(in alloc; "datagram 0 0 {word} 0 -")?;
+    assert_eq!(rt; run_line(alloc, line.as_str()), Ok(()), "{word}");
+    Ok(())
+}
+
+/// A line with the word as an address is at fault.
+fn check_no_address(rt: &impl Abort, alloc: Global, word: &str) -> Result<(), Fail> {
+    let line = format!(in alloc; "datagram 0 0 {word} 0 -")?;
+    check_fault(rt, alloc, line.as_bytes(), "line 1: bad address", "")
+}
+
 #[test]
 fn reads_addresses(rt: HostRuntime) -> Result<(), Fail> {
     for word in ADDRESSES.split(' ') {
-        let line = format!(in rt.alloc(); "datagram 0 0 {word} 0 -")?;
-        let mut printed = Vec::new(rt.alloc());
-        let ended = run_script(rt.alloc(), &mut line.as_bytes(), &mut printed);
-        assert_eq!(rt; ended, Ok(()), "{word}");
+        check_address(&rt, rt.alloc(), word)?;
     }
     for word in NO_ADDRESSES.split(' ') {
-        let line = format!(in rt.alloc(); "datagram 0 0 {word} 0 -")?;
-        check_fault(&rt, rt.alloc(), line.as_bytes(), "line 1: bad address", "")?;
+        check_no_address(&rt, rt.alloc(), word)?;
     }
     Ok(())
 }
 
-/// Runs an empty line and one of so many octets.
+/// Runs an empty line and one of this number of octets.
 fn run_long(alloc: Global, length: usize) -> Result<Result<(), ScriptFault>, Fail> {
     let mut lines = Vec::from_slice(alloc, b"\n")?;
     for _ in 0..length {
@@ -373,7 +445,7 @@ fn check_failing(rt: &impl Abort, alloc: Global, rest: &str, line: u64, printed:
     assert_eq!(rt; out.as_slice(), printed.as_bytes());
 }
 
-/// A writer fails after so many calls, in this line.
+/// A writer fails after a number of calls, in this line.
 fn check_full(rt: &impl Abort, alloc: Global, lines: &str, left: u32, line: u64) {
     let what = LineFault::Write;
     let ended = run_script(alloc, &mut lines.as_bytes(), &mut Full { left });
@@ -381,7 +453,7 @@ fn check_full(rt: &impl Abort, alloc: Global, lines: &str, left: u32, line: u64)
 }
 
 #[test]
-fn tells_of_its_reader_and_writer(rt: HostRuntime) -> Result<(), Fail> {
+fn reports_faults_of_its_reader_and_writer(rt: HostRuntime) -> Result<(), Fail> {
     let example = example_of(rt.alloc(), FIRST_EXAMPLE)?;
     let (lines, wanted) = example.parts(rt.alloc())?;
     check_failing(&rt, rt.alloc(), "", 1, "");
@@ -392,7 +464,7 @@ fn tells_of_its_reader_and_writer(rt: HostRuntime) -> Result<(), Fail> {
     Ok(())
 }
 
-/// A script that ends so gives this status, and this is told.
+/// A script that ends so gives this status, and this error output.
 fn check_end(
     rt: &impl Abort,
     alloc: Global,
@@ -400,9 +472,9 @@ fn check_end(
     status: u8,
     errors: &str,
 ) -> Result<(), Fail> {
-    let told = Told::new(alloc);
-    assert!(rt; end_script(&told, ended) == ExitCode::from(status));
-    assert_eq!(rt; told.errors.try_borrow()?.as_str(), errors);
+    let captured = Captured::new(alloc);
+    assert!(rt; end_script(&captured, ended) == ExitCode::from(status));
+    assert_eq!(rt; captured.errors.try_borrow()?.as_str(), errors);
     Ok(())
 }
 
@@ -422,11 +494,11 @@ fn ends_with_a_status(rt: HostRuntime) -> Result<(), Fail> {
     )
 }
 
-/// What is told of a fault in line 7.
+/// The report of a fault in line 7.
 fn check_name(rt: &impl Abort, alloc: Global, what: LineFault, text: &str) -> Result<(), Fail> {
     let fault = ScriptFault { line: 7, what };
-    let told = format!(in alloc; "{fault}")?;
-    assert_eq!(rt; told.as_str(), text);
+    let shown = format!(in alloc; "{fault}")?;
+    assert_eq!(rt; shown.as_str(), text);
     Ok(())
 }
 

@@ -185,8 +185,8 @@ impl<'a, C: time::Clock, A: Allocator + Copy> UdpPort<'a, C, A> {
         }
     }
 
-    /// Keeps a copy of a datagram that came, and says whether it could: where there is no room or no
-    /// memory for it, nothing changes.
+    /// Keeps a copy of a datagram that came, and says whether it could: where there is no room or an
+    /// allocation fails, nothing changes.
     #[tactic(auto, using(crate::proofs::Queues::takes_nothing, crate::proofs::Queues::keeps_takes))]
     fn keep(&mut self, from: Addr, octets: &[u8]) -> bool
         ensures kept { TakesIn self.old.arrived self.new.arrived }
@@ -336,7 +336,7 @@ impl<C: time::Clock, A: Allocator + Copy> Port for UdpPort<'_, C, A> {
     }
 }
 
-/// A socket that is bound to an address, and whose receives wait so long.
+/// A socket that is bound to an address, and whose receives wait 200 milliseconds at most.
 fn open<N: Net>(net: &N, addr: Addr) -> io::Result<UdpSocket>
     ensures { IfOk result (λ socket. LOWEST_FREE ≤ℤ udp_raw_fd socket) }
 {

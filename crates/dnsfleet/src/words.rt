@@ -160,7 +160,7 @@ impl<'a> Hex<'a> {
     }
 
     /// Whether the octets are one name in full, its letters in either case, and nothing behind it.
-    /// This takes no memory.
+    /// It allocates nothing.
     fn spells_name(&self) -> bool
         ensures { IsTrue result ↔ IsWire (lower self.now) }
     {

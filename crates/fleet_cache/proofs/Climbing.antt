@@ -55,7 +55,7 @@ above_longer n a name is under longer = only under.0 a under.1
 
 module _ (lives : ObservationData → Bool) (kind : Kind) (items : List ObservationData)
     (n : List (List ℕ)) where
-  -- where nothing stands above
+  -- where nothing is above
   pub at_top : (a : Option ObservationData)
       → ((o : ObservationData) → Has items o → o.kind ≡ kind → IsUnder n o.name → o.name ≡ n)
       → IsBest (IsOn lives n kind 0) items a → IsBest (IsAbove lives kind n) items a
@@ -79,7 +79,7 @@ module _ (lives : ObservationData → Bool) (kind : Kind) (items : List Observat
       → IsBest (IsAbove lives kind n) items a
   at_root a root best = at_top a (λ o h k under. root_alone n o.name root under) best
 
-  -- what stands at a name or above it is found by the name above
+  -- what is at a name or above it is found by the name above
   pub one_up : (above : List ℕ) (p : IsParent n above) (a b r : Option ObservationData)
       → r ≡ better_of a b → IsBest (IsOn lives n kind 0) items a
       → IsBest (IsAbove lives kind p.rest) items b → IsBest (IsAbove lives kind n) items r

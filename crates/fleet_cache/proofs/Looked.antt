@@ -128,7 +128,7 @@ packable_wire name w bytes n is = record {
   named = subst IsName (wire_exact w.name n (sym w.whole ∙ is)) w.named;
 }
 
--- the words of a name tell it
+-- the words of a name determine it
 module _ (words : List ℕ) (n : List (List ℕ)) (items : List ObservationData)
     (e : words ≡ octet_words (wire n)) (kind : Kind) where
   one_name : (o : ObservationData) → o.name ≡ n → words_of o ≡ words
@@ -151,7 +151,7 @@ module _ (words : List ℕ) (n : List (List ℕ)) (items : List ObservationData)
     in_rows = front.own_front.descending;
   }
 
--- what is of the kind and the type is told so
+-- the test passes only what is of the kind and the type
 of_from : (kind : Kind) (rtype : ℕ) (o : ObservationData) → is_of kind rtype o ≡ true
     → (o.kind ≡ kind) × (o.rtype ≡ rtype)
 of_from kind rtype o e =
@@ -230,7 +230,7 @@ module _ (kind : Kind) (rtype : ℕ) (items here : List ObservationData) (n : Li
             of.in_rows first.1 y s.0 s.1,
       )
 
--- where no name of so many octets is noted, none stands
+-- where no name of this many octets is noted, there is none
 pub none_noted : (lives : ObservationData → Bool) (n : List (List ℕ)) (kind : Kind) (size : ℕ)
     (items : List ObservationData) → HasNone kind size items → length (wire n) ≡ size
     → IsBest (IsOn lives n kind 0) items None
@@ -261,7 +261,7 @@ pub first_has : (xs : List ObservationData) (x : ObservationData) → Some x ≡
 first_has [] x e = absurd (cc)
 first_has (y ∷ xs) x e = let same : y ≡ x = cc in inl same
 
--- a cut at the name of one of a key tells of all of the key
+-- a cut at the name of one observation of a key is a cut of all of the key
 pub key_told : (items : List ObservationData) (words : List ℕ) (front : List ObservationData)
     → IsOfKey items words front → AreObservations items → (x : ObservationData) → Has front x
     → (t : ℕ) (cut : CutData) → IsCutAt items t x.name cut → (o : ObservationData) → Has items o

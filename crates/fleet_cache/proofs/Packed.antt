@@ -109,7 +109,7 @@ names_settled (l ∷ n) (k ∷ m) a b =
     subst (λ v. Settled v (wire (k ∷ m))) (sym (wire_cons l n))
     (subst (Settled (length l ∷ (l ++ wire n))) (sym (wire_cons k m)) s)
 
--- what stands behind two numbers decides only where they are one
+-- what follows two numbers decides only where they are one
 behind_tied : (x y : ℕ) (o p : Ordering) → (x ≡ y → o ≡ p)
     → ordering_then (nat_cmp x y) o ≡ ordering_then (nat_cmp x y) p
 behind_tied x y o p tied = by_cases (nat_cmp x y) refl

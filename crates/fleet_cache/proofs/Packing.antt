@@ -29,7 +29,7 @@ weighed_more (w ∷ ws) (x ∷ xs) zero a b = refl
 weighed_more (w ∷ ws) (x ∷ xs) (suc i) a b = weighed_more ws xs i (omega (arith, a))
     (omega (arith, b))
 
--- only so many octets are weighed as there are weights
+-- only as many octets are weighed as there are weights
 weighed_front : (ws xs : List ℕ) → weigh ws (take (length ws) xs) ≡ weigh ws xs
 weighed_front [] xs = refl
 weighed_front (w ∷ ws) [] = refl

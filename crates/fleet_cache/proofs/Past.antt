@@ -1,4 +1,4 @@
--- What is live at a name, as the latest flush above it tells.
+-- What is live at a name, by the latest flush above it.
 use Rattle.std.proofs.Common.{ℕ, ◌≡◌, ◌≤◌, Bool, true, false, not, nat_le, List, inl, inr, Option, Some, None, refl, sym, ap, ◌∙◌, subst, arith}
 use mathlib.Core.Bool.{false≢true}
 use Rattle.std.specs.declared.cmp.Ordering.{Ordering}
@@ -101,7 +101,7 @@ module _ (t : ℕ) (items : List ObservationData) (n : List (List ℕ))
     ]
   ]
 
--- the latest flush above a name tells what is live there
+-- the latest flush above a name decides what is live there
 pub cut_of_flush : (t : ℕ) (items : List ObservationData) (n : List (List ℕ))
     (best : Option ObservationData) → AreObservations items
     → IsBest (IsAbove (lasts t) Flush n) items best

@@ -52,7 +52,7 @@ module _ {K : Type 0} (octets : K → List ℕ) (words : List ℕ) (cut : CutDat
     pub thinned : (lives : ObservationData → Bool) → Tells lives e.1 → IsThinned lives e.1 d.1
     pub slot : IsSlot (octets e.0) e.1 → IsSlot (octets d.0) d.1
 
-  -- slots of which some have lost observations, those of which nothing was left out
+  -- slots, some of which have lost observations, without those that lost all
   abbrev pub IsTrim : List Slot → List Slot → Type 0
   IsTrim [] new = new ≡ []
   IsTrim (e ∷ es) new = (n : List Slot) × IsTrim es n
@@ -116,7 +116,7 @@ module _ {K : Type 0} (octets : K → List ℕ) (words : List ℕ) (cut : CutDat
     )
   ]
 
-  -- a front of which nothing is left was taken out
+  -- a front without items was taken out
   pub taken_out : (test : K → Bool) (es : List Slot) (f : List ObservationData)
       → lookup test es ≡ Some f → ((o : ObservationData) → Has f o → words_of o ≡ words)
       → filter Shows f ≡ []

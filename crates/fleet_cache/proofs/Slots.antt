@@ -73,7 +73,7 @@ some_of s [] x h front = elim (climb row_laws s x).1 [
 ]
 some_of s (y ∷ items) x h front = refl
 
--- an item stands in a slot
+-- an item is in a slot
 pub in_slot : {K : Type 0} (es : List (K × List ObservationData)) (x : ObservationData)
     → Has (items_of es) x → (e : K × List ObservationData) × Has es e × Has e.1 x
 in_slot [] x h = absurd h
@@ -189,7 +189,7 @@ module _ {K : Type 0} (octets : K → List ℕ) where
       key_of_new : (y : ObservationData) → Has g y → (words_of y) ≡ (words_of x)
       key_of_new y c = elim (new.of_set y c) [ inl e ↦ ap words_of (sym e) | inr k ↦ in_f y k ]
 
-      -- w of s dominates y of g: the undominated one above w stands in f
+      -- w of s dominates y of g: the undominated one above w is in f
       above : (y : ObservationData) → Has g y → (w : ObservationData) → Has s w
           → dominates w y ≡ true → dominates w y ≡ false
       above y c w old over =
@@ -209,7 +209,7 @@ module _ {K : Type 0} (octets : K → List ℕ) where
             ]
           ]
 
-  -- what stands before a key and after it
+  -- what comes before a key and after it
   pub record Around (es : List Slot) (q : List ℕ) (f : List ObservationData) : Type 0 where
     pub pre : List Slot
     pub post : List Slot
@@ -405,7 +405,7 @@ module _ {K : Type 0} (octets : K → List ℕ) where
   in_items es q f a y h = subst (λ v. Has v y) (sym a.lies)
       (has_right (items_of a.pre) (f ++ items_of a.post) y (has_left f (items_of a.post) y h))
 
-  -- what makes x needless stands in the front of its key
+  -- what makes x needless is in the front of its key
   pub covered_in_front : (es : List Slot) (x : ObservationData) (f : List ObservationData)
       (a : Around es (words_of x) f) → IsCovered f x ↔ IsCovered (items_of es) x
   covered_in_front es x f a = (

@@ -32,7 +32,7 @@ under_to (m ∷ n) a [] e = or_left (is_name (m ∷ n) a) (is_under n a) (name_t
 under_to (m ∷ n) a (l ∷ front) e = let t : n ≡ front ++ a = cc
     in or_right (is_name (m ∷ n) a) (is_under n a) (under_to n a front t)
 
--- what tells whether a name is below another one is the test
+-- a test for being at or below a name is `is_under`
 pub under_test : (b : Bool) (n a : List (List ℕ)) → IsTrue b ↔ IsUnder n a → b ≡ is_under n a
 under_test true n a t = let u = t.0 refl in sym (under_to n a u.0 u.1)
 under_test false n a t = elim (cases_Bool (is_under n a)) [

@@ -1,4 +1,4 @@
-//! What a question is answered.
+//! The answer to a question.
 
 ghost use Rattle.std.specs.Prelude.{◌≡◌};
 ghost use Rattle.fleet_name.specs.Types.{Labels};
@@ -20,12 +20,12 @@ use fleet_observe::{Kind, Moment, Observation};
 use fleet_wire::rtype::CNAME;
 use std::alloc::{Allocator, Global};
 
-/// The links of an answer, in order: aliases, and at most `MOST_LINKS`. Each place in use is
-/// `Some`.
+/// The links of an answer, in order: at most `MOST_LINKS` aliases (CNAME), each with its TTL. Each
+/// place in use is `Some`.
 pub type Chain<'a, A> = ArrayVec<Option<Shown<'a, A>>, MOST_LINKS>;
 
-/// What a question is answered: records or the SOA of a denial, behind the aliases that lead there.
-/// Its parts are lent by the cache.
+/// The answer to a question: records, or the SOA of a denial, after the aliases that lead there.
+/// Its parts are borrowed from the cache.
 #[derive(Drop)]
 pub enum Answer<'a, A: Allocator = Global> {
     /// There are records of the type, or the alias that was asked for.
@@ -53,7 +53,8 @@ pub enum Answer<'a, A: Allocator = Global> {
     Miss,
 }
 
-/// The TTL that is shown of an observation at the moment.
+/// The TTL of an observation at the moment, in seconds: what is left of its life, and at most the
+/// life.
 fn shown_ttl<A: Allocator>(observation: &Observation<A>, moment: Moment) -> u32
     ensures { result ≡ ttl_at moment observation.now }
 {
@@ -63,7 +64,7 @@ fn shown_ttl<A: Allocator>(observation: &Observation<A>, moment: Moment) -> u32
         .min(u64::from(observation.life())) as u32
 }
 
-/// An observation with its TTL.
+/// An observation with its TTL at the moment.
 fn show<'a, A: Allocator>(observation: &'a Observation<A>, moment: Moment) -> Shown<'a, A>
     ensures { result ≡ part_at moment observation.now }
 {
@@ -80,7 +81,7 @@ fn is_link<A: Allocator>(observation: &Observation<A>, rtype: u16) -> bool
     observation.kind() == Kind::Positive && observation.rtype() == CNAME && rtype != CNAME
 }
 
-/// The octets of the name that an alias leads to.
+/// The octets of the name that an alias leads to, in full.
 fn target<A: Allocator>(observation: &Observation<A>) -> &[u8]
     requires of_kind { observation.now.kind ≡ Positive }
     requires of_type { observation.now.rtype ≡ CNAME }
@@ -105,7 +106,7 @@ fn finish<'a, A: Allocator>(chain: Chain<'a, A>, last: Shown<'a, A>) -> Answer<'
     }
 }
 
-/// Follows the aliases from a name, by its octets.
+/// Follows the aliases from a name, given by its octets in full, and returns the answer.
 pub(crate) fn follow<'a, A: Allocator>(
     held: &'a Held<A>,
     name: &[u8],

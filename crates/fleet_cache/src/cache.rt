@@ -1,4 +1,4 @@
-//! What a site holds.
+//! The cache of a site.
 
 ghost use Rattle.std.specs.Prelude.{◌≡◌, ◌^◌, ◌<◌, ◌≤◌, max, true, false, [], ◌∷◌, ◌++◌, ◌↔◌, length, take, IsTrue, IfOk, IfErr, OnOk, OnErr};
 ghost use Rattle.fleet_name.specs.Types.{Labels};
@@ -21,11 +21,11 @@ use std::alloc::{AllocError, Allocator, Global};
 use std::marker::Model;
 use thiserror::Error;
 
-/// There was no memory for an observation; those before it were taken, and the floor stayed.
+/// An allocation failed for an observation. Those before it were taken, and the floor is as it was.
 #[derive(Clone, Copy, Debug, PartialEq, Eq, Error)]
 #[error("out of memory after {taken} observations")]
 pub struct Stopped {
-    /// How many were taken: just the first ones, in their order.
+    /// The number of observations that were taken: exactly the first ones, in their order.
     pub taken: usize,
 }
 
@@ -33,10 +33,10 @@ pub struct Stopped {
 /// kind, then type, then the preferred first, and the fronts in a map by the octets of the names,
 /// eight octets to a word.
 ///
-/// What is held may have ended by the floor, or be withdrawn by a flush that is held: it is shown to
-/// nobody, and a sweep, which goes on at the cursor, drops some of it at each purge. `most` is how
-/// many observations are held at most, so that they can be counted: at the greatest number, which no
-/// machine reaches, nothing more is taken.
+/// What is in memory may have ended by the floor, or be withdrawn by a flush that is held. No call
+/// shows it, and a sweep, which goes on at the cursor, drops some of it at each purge. `most` is
+/// how many observations are held at most, so that they can be counted: at the greatest number,
+/// which no machine reaches, nothing more is taken.
 #[derive(Drop)]
 pub struct Cache<A: Allocator = Global> {
     floor: Moment,
@@ -59,7 +59,7 @@ impl<A: Allocator> Model for Cache<A> {
 }
 
 impl<A: Allocator> Cache<A> {
-    /// No items, at floor 0: the cache of no observations.
+    /// The cache of no observations: no items, at floor 0.
     pub fn new(alloc: A) -> Cache<A>
     where
         A: Copy,
@@ -75,11 +75,11 @@ impl<A: Allocator> Cache<A> {
         }
     }
 
-    /// Takes an observation in; `false` where it had ended at the floor, or is void, or was there
-    /// already, or is dominated, and nothing changed. Else what it dominates goes, and what it
-    /// withdraws, if it is a flush, is not held any more: it is hidden at once, and leaves the memory
-    /// at further purges. Memory is wanted only for one that is to be held; without it nothing
-    /// changes.
+    /// Takes an observation in. `false` where it had ended at the floor, is withdrawn by a flush,
+    /// was there already or is dominated: then nothing changes. Else what it dominates goes, and
+    /// what it withdraws, if it is a flush, is not held any more: it is hidden at once, and leaves
+    /// the memory at further purges. This allocates only for an observation that is to be held;
+    /// `Err` where the allocation fails, and nothing changes.
     pub fn take(&mut self, observation: Observation<A>) -> Result<bool, AllocError>
     where
         A: Copy,
@@ -103,8 +103,8 @@ impl<A: Allocator> Cache<A> {
         Ok(kept)
     }
 
-    /// Takes observations in, one after the other, as `take` does. Memory is wanted only for those
-    /// that are to be held.
+    /// Takes observations in, one after the other, as `take` does. Only those that are to be held
+    /// are allocated for. `Err` says how many were taken before an allocation failed.
     pub fn take_list(&mut self, observations: Vec<Observation<A>, A>) -> Result<(), Stopped>
     where
         A: Copy,
@@ -129,8 +129,9 @@ impl<A: Allocator> Cache<A> {
     }
 
     /// Takes copies of the other's items in, in their order, and then purges to its floor: it is
-    /// then the cache of both sets, at the later floor. Memory is wanted only for items that are to
-    /// be held.
+    /// then the cache of both sets, at the later floor. Only items that are to be held are
+    /// allocated for. `Err` says how many were taken before an allocation failed; the floor is then
+    /// as it was.
     pub fn merge(&mut self, other: &Cache<A>) -> Result<(), Stopped>
     where
         A: Copy,
@@ -174,8 +175,8 @@ impl<A: Allocator> Cache<A> {
         reclaim(&mut self.held, &mut self.cursor, moment);
     }
 
-    /// Drops all items and sets the floor back to 0: it is then as a new cache. This takes no
-    /// memory.
+    /// Drops all items and sets the floor back to 0: it is then as a new cache. This allocates
+    /// nothing.
     pub fn clear(&mut self)
         ensures held { self.new ≡ record { floor = 0; items = [] } }
         ensures cached { IsCached [] self.new.floor self.new.items }
@@ -203,14 +204,15 @@ impl<A: Allocator> Cache<A> {
         self.floor == other.floor && same_items(self.items(), other.items())
     }
 
-    /// How many items there are: it goes over them, and over what is not live and is still in memory.
+    /// The number of items. It counts them one by one, and passes over what is not live and still
+    /// in memory.
     pub fn len(&self) -> usize
         ensures { result ≡ length self.now.items }
     {
         count(self.items())
     }
 
-    /// Whether there are no items: it goes over what is not live before the first one.
+    /// Whether there are no items. It passes over what is not live before the first one.
     pub fn is_empty(&self) -> bool
         ensures { IsTrue result ↔ (self.now.items ≡ []) }
     {
@@ -229,11 +231,11 @@ impl<A: Allocator> Cache<A> {
         Items::new(&self.held, self.floor)
     }
 
-    /// What the set answers to a question at a moment, or at the floor where the moment is before
-    /// it. The most preferred observation that is live then and relevant decides; an alias is
-    /// followed where another type is asked for, at most 8 of them. Records of two observations are
-    /// never merged (RFC 2181 5.4). The question's class is not looked at. The parts are lent, so
-    /// that nothing can be taken or purged while they are in use, and this takes no memory.
+    /// The answer to a question at a moment, or at the floor where the moment is before it. The
+    /// most preferred observation that is live then and relevant decides; an alias is followed
+    /// where another type is asked for, at most 8 of them. Records of two observations are never
+    /// merged (RFC 2181 5.4). The question's class is not looked at. The answer borrows from the
+    /// cache, so nothing is taken or purged while it is in use, and nothing is allocated.
     pub fn answer<B: Allocator>(&self, question: &Question<B>, moment: Moment) -> Answer<'_, A>
         ensures filled { AllSome (chain_of result) }
         ensures kinds { HasKinds (answer_data result) }
@@ -244,7 +246,7 @@ impl<A: Allocator> Cache<A> {
         self.answer_at(question.name.octets(), question.rtype, moment)
     }
 
-    /// `answer` of a question that is lent.
+    /// `answer` for a question that borrows its name.
     pub fn answer_lent(&self, question: &LentQuestion<'_>, moment: Moment) -> Answer<'_, A>
         ensures filled { AllSome (chain_of result) }
         ensures kinds { HasKinds (answer_data result) }
@@ -255,7 +257,7 @@ impl<A: Allocator> Cache<A> {
         self.answer_at(question.name(), question.rtype(), moment)
     }
 
-    /// The answer to a question for a type of a name, by the name's octets.
+    /// The answer to a question for a type of a name, given by its octets in full.
     fn answer_at(&self, name: &[u8], rtype: u16, moment: Moment) -> Answer<'_, A>
         requires { IsWire name.now }
         ensures filled { AllSome (chain_of result) }
@@ -268,7 +270,7 @@ impl<A: Allocator> Cache<A> {
         follow(&self.held, name, rtype, at)
     }
 
-    /// Takes a copy of an observation in.
+    /// `take` of a copy, which is made only where the observation is to be held.
     fn take_copy(&mut self, observation: &Observation<A>) -> Result<bool, AllocError>
     where
         A: Copy,
@@ -284,7 +286,8 @@ impl<A: Allocator> Cache<A> {
         self.take(observation.try_clone()?)
     }
 
-    /// What `take` says at the greatest count, where nothing more is held.
+    /// `take` at the greatest count, where nothing more is held: `Err` for an observation that
+    /// would be held.
     fn take_uncounted(&self, observation: &Observation<A>) -> Result<bool, AllocError>
         ensures needless { IfOk result (λ kept.
             (kept ≡ false) × IsNeedless self.now.floor self.now.items observation.now) }
@@ -305,7 +308,7 @@ impl<A: Allocator> Cache<A> {
         !self.is_past(observation) && !self.held.covers(observation)
     }
 
-    /// Whether an observation had ended at the floor, or is void.
+    /// Whether an observation had ended at the floor, or is withdrawn by a flush.
     fn is_past(&self, observation: &Observation<A>) -> bool
         ensures past { IsTrue result ↔ IsPast self.now.floor self.now.items observation.now }
         ensures lawful { IsObservation observation.now }
@@ -339,7 +342,7 @@ fn same_items<A: Allocator>(mut ours: Items<'_, A>, mut theirs: Items<'_, A>) ->
     theirs.next().is_none()
 }
 
-/// How many items are left.
+/// The number of items that are left.
 fn count<A: Allocator>(mut items: Items<'_, A>) -> usize
     requires { length items < 2 ^ 64 }
     ensures { result ≡ length items.entry }

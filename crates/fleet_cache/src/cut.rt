@@ -24,7 +24,7 @@ impl Model for Cut {
 }
 
 impl Cut {
-    /// What has ended by a moment.
+    /// The cut that hides what has ended by a moment, and nothing else.
     pub fn at(moment: Moment) -> Cut
         ensures { result ≡ record { moment = moment; flushed = None } }
     {
@@ -42,7 +42,8 @@ impl Cut {
     }
 }
 
-/// Whether an observation is no flush, and not stamped after this.
+/// Whether an observation is no flush and its stamp is at most `flushed`; `false` where there is
+/// none.
 fn is_withdrawn<A: Allocator>(flushed: Option<Moment>, observation: &Observation<A>) -> bool
     ensures { result ≡ is_flushed flushed observation.now }
 {

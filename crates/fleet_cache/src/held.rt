@@ -27,7 +27,8 @@ use std::ops::Bound;
 
 /// The observations that a cache holds in memory: those of a name in one front, by kind, then type,
 /// then the preferred first, and the fronts in a map by the octets of the names. None dominates
-/// another. `denied` says at which names a name error may stand, `flushed` at which a flush.
+/// another. `denied` says at which lengths of names there may be a name error, `flushed` at which a
+/// flush.
 #[derive(Drop)]
 pub(crate) struct Held<A: Allocator> {
     fronts: Fronts<A>,
@@ -54,7 +55,7 @@ impl<A: Allocator> Model for Held<A> {
 }
 
 impl<A: Allocator> Held<A> {
-    /// Nothing. This takes no memory.
+    /// Without observations. This allocates nothing.
     pub(crate) fn new(alloc: A) -> Held<A>
     where
         A: Copy,
@@ -67,7 +68,8 @@ impl<A: Allocator> Held<A> {
         }
     }
 
-    /// Takes an observation in beside what is held.
+    /// Takes an observation into the front of its name. `false` where it is there or dominated.
+    /// `Err` where an allocation fails; nothing changes.
     pub(crate) fn take(&mut self, alloc: A, observation: Observation<A>) -> Result<bool, AllocError>
     where
         A: Copy,
@@ -88,7 +90,7 @@ impl<A: Allocator> Held<A> {
         drop_hidden(&mut self.fronts, key, cut);
     }
 
-    /// Drops all.
+    /// Drops all observations.
     pub(crate) fn clear(&mut self)
         ensures { self.new ≡ [] }
     {
@@ -154,7 +156,7 @@ impl<A: Allocator> Held<A> {
         self.fronts.values()
     }
 
-    /// The words of the next key behind these.
+    /// The next key after this one.
     pub(crate) fn key_behind(&self, key: &Key<A>) -> Option<&Key<A>> {
         let mut behind = self.fronts.range((Bound::Excluded(key), Bound::Unbounded));
         let Some((next, _)) = behind.next() else {
@@ -163,7 +165,7 @@ impl<A: Allocator> Held<A> {
         Some(next)
     }
 
-    /// How many fronts there are.
+    /// The number of fronts.
     pub(crate) fn len(&self) -> usize
         ensures own { IsHeld self.now }
     {

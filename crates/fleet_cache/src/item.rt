@@ -1,4 +1,4 @@
-//! Observations as values with a preference, of which some make others needless.
+//! Observations as ranked values of a front.
 
 ghost use Rattle.std.specs.Prelude.{◌≡◌, ◌||◌};
 ghost use Rattle.std.specs.Ordering.{is_eq};
@@ -29,7 +29,7 @@ impl<A: Allocator> Model for Item<A> {
 }
 
 impl<A: Allocator> Item<A> {
-    /// This observation.
+    /// The item of an observation.
     pub fn new(observation: Observation<A>) -> Item<A>
         ensures { result ≡ observation }
     {

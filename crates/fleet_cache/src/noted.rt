@@ -1,4 +1,4 @@
-//! Where observations may stand that speak of the names below theirs.
+//! The lengths of names at which there may be a name error, or a flush.
 
 ghost use Rattle.std.specs.Prelude.{◌≡◌, ◌≤◌, ◌<◌, false, [], ◌∷◌, get_or, length, nat_lt};
 ghost use Rattle.fleet_name.specs.declared.bounds.TheConstants.{LONGEST_NAME};
@@ -11,13 +11,12 @@ use fleet_observe::{Kind, Observation};
 use std::alloc::Allocator;
 use std::marker::Model;
 
-/// How many lengths a name may have, in octets: 0 to `LONGEST_NAME`.
+/// The number of lengths of names, in octets: 0 to `LONGEST_NAME`.
 const LENGTHS: usize = LONGEST_NAME + 1;
 
-/// How many octets the names have of which observations of a kind were taken in: where none was
-/// noted of a length, no name of that length need be looked up for one, and where none was noted of
-/// fewer octets than a name has, none of the names above it. A length stays noted when its
-/// observations have gone.
+/// The lengths, in octets, of the names with an observation of a kind that was taken in. A name
+/// whose length is not noted need not be looked up for one; nor do the names above it, where no
+/// shorter length is noted. A length stays noted when its observations are gone.
 #[derive(Drop)]
 pub(crate) struct Noted {
     lengths: [bool; LENGTHS],
@@ -33,7 +32,7 @@ impl Model for Noted {
 }
 
 impl Noted {
-    /// None was noted.
+    /// No length noted.
     pub(crate) fn new() -> Noted
         ensures { (kind : Kind) → AreNoted kind result [] }
     {
@@ -43,7 +42,7 @@ impl Noted {
         }
     }
 
-    /// Notes an observation, if it is of the kind.
+    /// Notes the length of an observation's name, if it is of the kind.
     pub(crate) fn note<A: Allocator>(&mut self, kind: Kind, observation: &Observation<A>)
         ensures noted { (items : Observations) → AreNoted kind self.old items
             → AreNoted kind self.new (observation.now ∷ items) }
@@ -56,7 +55,7 @@ impl Noted {
         }
     }
 
-    /// Whether an observation was noted of a name of as many octets.
+    /// Whether an observation of a name with as many octets as this one was noted.
     pub(crate) fn may_stand(&self, name: &[u8]) -> bool
         requires { length name.now ≤ LONGEST_NAME }
         ensures { result ≡ get_or self.now.lengths (length name.now) false }
@@ -64,7 +63,7 @@ impl Noted {
         self.lengths[name.len()]
     }
 
-    /// Whether an observation was noted of a name of fewer octets.
+    /// Whether an observation of a name with fewer octets than this one was noted.
     pub(crate) fn may_stand_above(&self, name: &[u8]) -> bool
         ensures { result ≡ nat_lt self.now.least (length name.now) }
     {

@@ -12,10 +12,10 @@ use crate::words::MOST_WORDS;
 use fleet_observe::{Moment, Observation};
 use std::alloc::{AllocError, Allocator};
 
-/// A sweep looks at one front of so many, ..
+/// A sweep looks at one front of this many, ..
 const SHARE: usize = 256;
 
-/// .. and at least at so many.
+/// .. and at least at this many fronts.
 const LEAST: usize = 4096;
 
 /// Where a sweep stopped: the key of the front that it looked at last, or no words at the start.
@@ -25,7 +25,7 @@ pub(crate) struct Cursor<A: Allocator> {
 }
 
 impl<A: Allocator> Cursor<A> {
-    /// At the start, with no room for a key. This takes no memory.
+    /// At the start, without room for a key. This allocates nothing.
     pub(crate) fn new(alloc: A) -> Cursor<A> {
         Cursor {
             key: Vec::new(alloc),
@@ -33,7 +33,7 @@ impl<A: Allocator> Cursor<A> {
     }
 
     /// Makes room for any key, going back to the start, before the map takes an observation in that
-    /// it does not hold. Memory is wanted once at most.
+    /// it does not hold. It allocates once at most; `Err` where that fails.
     pub(crate) fn make_room(
         &mut self,
         held: &Held<A>,
@@ -54,8 +54,8 @@ impl<A: Allocator> Cursor<A> {
         self.key.clear();
     }
 
-    /// Goes on to the next key, or back to the start where there is none. It takes no memory: where
-    /// there is no room for the key, it goes back to the start too.
+    /// Goes on to the next key, or back to the start where there is none. It allocates nothing:
+    /// without room for the key it goes back to the start too. Returns whether it went on.
     fn advance(&mut self, held: &Held<A>) -> bool {
         let Some(key) = held.key_behind(&self.key) else {
             self.key.clear();
@@ -66,8 +66,9 @@ impl<A: Allocator> Cursor<A> {
     }
 }
 
-/// Drops what is not live at the moment, in a part of the fronts: those behind the cursor, which goes
-/// on with them, and back to the start behind the last one. Fronts of which nothing is left go too.
+/// Drops what is not live at the moment, in a part of the fronts: those behind the cursor, which
+/// goes on with them, and back to the start behind the last one. Fronts without items are dropped
+/// too.
 pub(crate) fn reclaim<A: Allocator>(held: &mut Held<A>, cursor: &mut Cursor<A>, moment: Moment)
     ensures reclaimed { IsReclaimed moment held.old held.new }
     ensures own { IsHeld held.old }

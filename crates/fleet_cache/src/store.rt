@@ -24,7 +24,7 @@ pub(crate) type Key<A> = Vec<u64, A>;
 /// The fronts of a cache, by the names of their items.
 pub(crate) type Fronts<A> = BTreeMap<Key<A>, Front<Item<A>, A>, A>;
 
-/// The words of an observation's name, on the stack.
+/// The words of the key of an observation's name, on the stack.
 fn words_of_observation<A: Allocator>(observation: &Observation<A>) -> ArrayVec<u64, MOST_WORDS>
     ensures words { result.items ≡ words_of observation.now }
     ensures packable { IsPackable observation.now.name }
@@ -51,7 +51,8 @@ fn covers_in<A: Allocator>(items: &[Item<A>], observation: &Observation<A>) -> b
     items.iter().any(|held| held.covers(observation))
 }
 
-/// Takes an observation into the front of its name.
+/// Takes an observation into the front of its name. `false` where it is there or dominated. `Err`
+/// where an allocation fails; nothing changes.
 pub(crate) fn store<A: Allocator + Copy>(
     fronts: &mut Fronts<A>,
     alloc: A,
@@ -89,7 +90,7 @@ pub(crate) fn drop_hidden<A: Allocator>(fronts: &mut Fronts<A>, key: &Key<A>, cu
     }
 }
 
-/// The front of one observation.
+/// The front of one observation, for a name that has none yet. `Err` where an allocation fails.
 fn front_of<A: Allocator>(
     alloc: A,
     observation: Observation<A>,

@@ -13,8 +13,8 @@ pub(crate) const WORD_OCTETS: usize = 8;
 /// The most words of a name.
 pub(crate) const MOST_WORDS: usize = 32;
 
-/// The powers of 256 from the seventh one down: an octet is a digit, and 0 stands where there are
-/// no more octets.
+/// The powers of 256 from the seventh one down: an octet is a digit, and 0 is the digit where there
+/// are no more octets.
 const WEIGHTS: [u64; WORD_OCTETS] = [
     72057594037927936,
     281474976710656,
@@ -26,7 +26,7 @@ const WEIGHTS: [u64; WORD_OCTETS] = [
     1,
 ];
 
-/// Octets as words, `WORD_OCTETS` to a word, zero behind the end. Those of names compare as the
+/// Octets as words, `WORD_OCTETS` to a word, zero after the end. Those of names compare as the
 /// names do, since no name is a proper prefix of another.
 pub(crate) fn pack(octets: &[u8]) -> ArrayVec<u64, MOST_WORDS>
     requires { length octets.now ≤ WORD_OCTETS * MOST_WORDS }

@@ -17,7 +17,7 @@ pub record RankedLaws {T C : Type 0} (order : T → T → Ordering) (dominates :
   pub greater : (x y : T) → dominates x y ≡ true → order x y ≡ Greater
   pub hides_below : (c : C) (x y : T) → hidden c x ≡ true → dominates x y ≡ true → hidden c y ≡ true
 
--- each value stands after all greater ones
+-- each value comes after all greater ones
 abbrev pub IsDescending : {X : Type 0} → (X → X → Ordering) → List X → Type 0
 IsDescending order [] = Unit {0}
 IsDescending {X} order (x ∷ xs) = ((y : X) → Has xs y → order x y ≡ Greater) × IsDescending order xs

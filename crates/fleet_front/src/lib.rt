@@ -4,8 +4,8 @@
 //! other one dominates. Neither the order in which they came counts, nor how often. A cut hides
 //! some values of the set: the front of those that it shows is what it shows of the front.
 //!
-//! What the values are, how they compare, which of them dominate and what hides them is told by
-//! [`Ranked`]; what is said here holds for each type that keeps its laws.
+//! [`Ranked`] says how the values compare, which of them dominate and what hides them. All that is
+//! said here holds for each type that keeps its laws.
 #![tactic(auto)]
 
 ghost use Rattle.std.specs.Prelude.{◌≡◌, Bool, true, false, ◌||◌, not, List, [], IfOk, OnOk, OnErr, IfSome, IfNone, IsTrue, ◌↔◌, length, MatchOption, slice_get, Some, ◌∷◌, ◌≤◌, ◌+◌, vec_len, vec_capacity};
@@ -18,7 +18,7 @@ use std::alloc::{AllocError, Allocator, Global};
 use std::cmp::Ordering;
 use std::marker::Model;
 
-/// Values with a preference, of which some make others needless.
+/// Values with a preference, some of which make others needless.
 ///
 /// Its laws: the order is total, and equal only on equal values; what dominates is greater than
 /// what it dominates, and dominates what that dominates; and what hides a value hides all that it
@@ -63,7 +63,7 @@ impl<T: Ranked, A: Allocator> Model for Front<T, A> {
 }
 
 impl<T: Ranked, A: Allocator> Front<T, A> {
-    /// No items: the front of no values. This takes no memory.
+    /// The front of no values. This allocates nothing.
     pub fn new(alloc: A) -> Self
         ensures { result ≡ [] }
     {
@@ -81,8 +81,8 @@ impl<T: Ranked, A: Allocator> Front<T, A> {
     }
 
     /// Takes a value in; `false` where it is there already or one of the items dominates it, and
-    /// nothing changed. Else it goes to its place, and what it dominates goes. Memory is wanted
-    /// only for a value that is to be held; without it nothing changes.
+    /// nothing changed. Else it goes to its place, and what it dominates goes. This allocates only
+    /// for a value that is to be held; `Err` where the allocation fails, and nothing changes.
     pub fn take(&mut self, value: T) -> Result<bool, AllocError>
         ensures taken { (s : List T) → IsFront T.order T.dominates s self.old
             → OnOk result (IsFront T.order T.dominates (value ∷ s) self.new) }
@@ -129,11 +129,11 @@ fn covers<T: Ranked>(items: &[T], value: &T) -> bool
         .any(|held| held.order(value).is_eq() || held.dominates(value))
 }
 
-/// How many items take just their own place.
+/// The number of items up to which a front has exactly the room that it needs.
 const FEW: usize = 4;
 
-/// Makes room for one more item; each of the first `FEW` takes just its own place, since most fronts
-/// have no more.
+/// Makes room for one more item. For each of the first `FEW` this is exactly one, since most fronts
+/// have no more. `Err` where an allocation fails; the items are then as they were.
 fn make_room<T: Ranked, A: Allocator>(items: &mut Vec<T, A>) -> Result<(), AllocError>
     ensures items { items.new.items ≡ items.old.items }
     ensures len { vec_len items.new ≡ vec_len items.old }

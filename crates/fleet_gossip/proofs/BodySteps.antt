@@ -122,7 +122,7 @@ module _ (rtype count : ℕ) (octets left : List ℕ) (xs : List (List ℕ))
   next_refused d rest stands unlike = rdata_fails xs left is first few
       (behind (length d) (d ++ rest) stands tt (refused_octets d rest refl refl unlike refl))
 
--- so many RDATAs that were read make the body of a positive observation
+-- the RDATAs that were read make the body of a positive observation
 pub positive_found : (rtype count long : ℕ) (octets middle rest : List ℕ)
     → octets ≡ u16_octets count ++ middle → IsCountOf rtype count
     → AreFirstOf rtype count middle long rest → IsSizeOf (IsPositiveBody rtype) octets long

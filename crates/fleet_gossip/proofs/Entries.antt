@@ -1,4 +1,4 @@
--- Entries tell their observation, whatever stands behind them, and have no fault.
+-- Entries determine their observation, whatever follows them, and have no fault.
 use Rattle.std.proofs.Common.{◌≡◌, ℕ, List, ◌++◌, refl, sym, ap, ◌∙◌, subst, arith, append_assoc}
 use Rattle.fleet_name.specs.Name.{wire, IsName}
 use Rattle.fleet_wire.specs.Number.{u16_octets, u32_octets}
@@ -84,7 +84,7 @@ fact_of o is = record {
     fits : (kind : Kind) → o.kind ≡ kind → FitsKind o kind
     fits kind e = subst (λ (k : Kind). FitsKind o k) e (is.rank, is.life, is.rtype, is.body)
 
--- an entry, with what stands behind it bracketed to the right
+-- an entry, with what follows it bracketed to the right
 abbrev pub behind_life : ObservationData → List ℕ → List ℕ
 behind_life o rest = wire o.name ++ (u16_octets o.rtype ++ (o.body ++ rest))
 

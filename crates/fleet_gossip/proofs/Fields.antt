@@ -1,4 +1,4 @@
--- A number that stands, or octets that do, and their faults exclude each other, and they have one
+-- A number at the front, or octets there, and their faults exclude each other, and they have one
 -- fault at most.
 use Rattle.std.proofs.Common.{◌≡◌, ℕ, ◌<◌, List, ◌++◌, length, sym, ap, ◌∙◌, subst, arith, length-append}
 use Rattle.fleet_name.proofs.Lemmas.{split_same}
@@ -54,7 +54,7 @@ module _ (spelled : ℕ → List ℕ) (size : ℕ) (Lawful : ℕ → Type 0) (re
         let same = exact m' m r' r (sym is' ∙ is)
         in one m r f g l h (behind_same m' m r' r g same.0 same.1 h')
 
--- what is told of a number alone is told of it and what stands behind it
+-- the fault of a number alone is that of it and what follows it
 pub field_told : (spelled : ℕ → List ℕ) (size : ℕ) (Lawful : ℕ → Type 0) (refusal : FrameFault)
     (Behind : ℕ → List ℕ → FrameFault → Type 0) (octets : List ℕ) (f : FrameFault)
     → NoField spelled size Lawful refusal octets f

@@ -104,7 +104,7 @@ module _ (version : ℕ) where
   one_entries_fault count octets f g (more_octets a r e l n some is)
       (more_octets b s e' l' n' some' is') = is ∙ sym is'
 
--- a frame tells its version
+-- a frame has one version
 pub one_version : (octets : List ℕ) (a b : List ObservationData) (one : SpellsFrame octets a)
     (two : SpellsFrame octets b) → (one.version ≡ two.version)
     × (u16_octets (length a) ++ entries a ≡ u16_octets (length b) ++ entries b)

@@ -60,7 +60,7 @@ module _ (version : ℕ) (octets named part typed : List ℕ) (head : Head)
 
     module _ (body left : List ℕ)
         (b : IsPart (AreBodyOctets head.kind at.lawful.name rtype) rest body left) where
-      -- the observation that stands there
+      -- the observation that is there
       pub fact_read : ObservationData
       fact_read = record {
         kind = head.kind;

@@ -94,7 +94,7 @@ one_rdatas a b e =
     (λ before x y r s l l' is. sized_exact x y r s is) a b [] [] tt tt
     (ap (λ (x : List ℕ). x ++ []) h.1))).0
 
--- what an entry tells makes an observation
+-- the values of an entry make an observation
 module _ (entry : FrameEntry) (o : ObservationData) (tells : IsEntryOf entry o) where
   pub records_lawful : entry.head.kind ≡ Positive → (rdatas : List (List ℕ))
       → entry.body.now ≡ positive_body rdatas → AreRdatas entry.rtype rdatas

@@ -1,4 +1,4 @@
--- No fault of octets is want of memory.
+-- No fault of octets is out of memory.
 use Rattle.std.proofs.Common.{◌≡◌, ℕ, List, sym, ◌∙◌, inl, inr}
 use Rattle.fleet_observe.specs.declared.observation.kind.Kind.{Kind}
 use Rattle.fleet_observe.specs.declared.observation.kind.Kind.TheVariants.{NameError, NoData, Positive, Flush}
@@ -7,7 +7,7 @@ use Rattle.fleet_gossip.specs.declared.fault.FrameFault.{FrameFault}
 use Rattle.fleet_gossip.specs.declared.fault.FrameFault.TheVariants.{TooLong, Truncated, BadName, BadBody, Trailing, OutOfMemory}
 use Rattle.fleet_gossip.proofs.EntryLines.{NamedFails}
 
--- it is another fault than want of memory
+-- it is another fault than out of memory
 abbrev pub IsOther : FrameFault → Type 0
 IsOther f = f ≡ OutOfMemory → ⊥
 

@@ -1,4 +1,4 @@
--- Numbers in octets tell the number, and have so many octets.
+-- Octets of a number determine it, and are as many as its size.
 use Rattle.std.proofs.Common.{◌≡◌, ℕ, ◌/◌, ◌%◌, List, ◌++◌, length, refl, arith}
 use Rattle.fleet_wire.specs.Number.{u32_octets}
 use Rattle.fleet_wire.proofs.Lemmas.{u32_exact}

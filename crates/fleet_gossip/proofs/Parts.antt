@@ -6,7 +6,7 @@ use Rattle.fleet_name.proofs.Lemmas.{split_same}
 
 module _ (Lawful : List ℕ → Type 0) (octets : List ℕ) (size : ℕ)
     (found : IsSizeOf Lawful octets size) where
-  -- so many octets taken are the part
+  -- the octets that were taken are the part
   pub part_taken : (taken rest : List ℕ) → IsSplitAfter octets size taken rest
       → IsPart Lawful octets taken rest
   part_taken taken rest are =

@@ -1,5 +1,5 @@
--- Things in a row, each spelled by octets that tell it: two rows at the front of the same octets
--- agree as far as both go.
+-- Things in a row, each spelled by octets that determine it: two rows at the front of the same
+-- octets agree as far as both go.
 use Rattle.std.proofs.Common.{◌≡◌, ℕ, ◌<◌, List, [], ◌∷◌, ◌++◌, length, refl, sym, ap, ◌∙◌, subst, arith, length-append, append_assoc}
 use Rattle.std.specs.List.{flat_map}
 use Rattle.fleet_gossip.specs.declared.fault.FrameFault.{FrameFault}
@@ -64,7 +64,7 @@ module _ (X : Type 0) (spelled : X → List ℕ) where
       next_never before ys y more r s f l e is h =
           never before y s r f (front before y more (subst (λ (z : List X). Lawful z) e l)) is h
 
-      -- where so many stand in a row, none fails behind fewer of them
+      -- where `count` of them are in a row, none fails after fewer of them
       fails_late : (before ys : List X) (r s : List ℕ) (f : FrameFault) → Lawful ys
           → length before < length ys → Fails before r f → Aligned X spelled before ys r s → ⊥
       fails_late before ys r s f l few h (same e e') = omega (arith, few, ap length e)

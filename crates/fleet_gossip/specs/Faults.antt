@@ -22,8 +22,8 @@ use Rattle.fleet_gossip.specs.declared.fault.FrameFault.{FrameFault}
 use Rattle.fleet_gossip.specs.declared.fault.FrameFault.TheVariants.{BadMagic, BadVersion, TooLong, Truncated, BadKind, BadRank, BadMoment, BadLife, BadName, BadBody, Trailing}
 use Rattle.fleet_gossip.specs.declared.bounds.TheConstants.{LONGEST_FRAME}
 
--- The first fault of a number and of what stands behind it: some of its octets are missing, it is
--- not lawful, or it is and what stands behind it fails.
+-- The first fault of a number and of what follows it: some of its octets are missing, it is not
+-- lawful, or it is and what follows it fails.
 pub data FieldFails (spelled : ℕ → OctetList) (size : ℕ) (Lawful : ℕ → Type 0) (refusal : FrameFault)
     (Behind : ℕ → OctetList → FrameFault → Type 0) (octets : OctetList) (f : FrameFault) : Type 0 where
   cut : length octets < size → f ≡ Truncated
@@ -39,7 +39,7 @@ pub data FieldFails (spelled : ℕ → OctetList) (size : ℕ) (Lawful : ℕ →
 abbrev pub AnyNumber : ℕ → Type 0
 AnyNumber n = Unit {0}
 
--- the first fault of so many octets: some are missing, or they are not lawful there
+-- the first fault of `size` octets: some are missing, or they are not lawful there
 pub data OctetsFail (Lawful : OctetList → Type 0) (refusal : FrameFault) (size : ℕ)
     (octets : OctetList) (f : FrameFault) : Type 0 where
   cut_octets : length octets < size → f ≡ Truncated → OctetsFail Lawful refusal size octets f
@@ -48,14 +48,14 @@ pub data OctetsFail (Lawful : OctetList → Type 0) (refusal : FrameFault) (size
       → f ≡ refusal
       → OctetsFail Lawful refusal size octets f
 
--- a label of so many octets may stand behind these labels: it has 1 to LONGEST_LABEL octets, and
--- the name with its zero octet at most LONGEST_NAME
+-- a label of `size` octets may follow these labels: it has 1 to LONGEST_LABEL octets, and the name
+-- with its zero octet at most LONGEST_NAME
 pub record IsRoom (before : Labels) (size : ℕ) : Type 0 where
   pub some : 0 < size
   pub short : size ≤ LONGEST_LABEL
   pub fits : length (wire before) + size + 1 ≤ LONGEST_NAME
 
--- a length octet that may stand behind these labels: the zero octet, or that of a label with room
+-- a length octet that may follow these labels: the zero octet, or that of a label with room
 abbrev pub IsLengthOctet : Labels → ℕ → Type 0
 IsLengthOctet before size = 0 < size → IsRoom before size
 
@@ -63,24 +63,24 @@ IsLengthOctet before size = 0 < size → IsRoom before size
 abbrev pub IsLower : Label → Type 0
 IsLower label = lower label ≡ label
 
--- The first fault of the label that stands behind others, or of the zero octet: of its length
--- octet, where it is too long, or the name is; or of its octets, where one is a capital letter.
+-- The first fault of the label that follows others, or of the zero octet: of its length octet,
+-- where it is too long, or the name is; or of its octets, where one is a capital letter.
 abbrev pub LabelFails : FrameFault → Labels → OctetList → FrameFault → Type 0
 LabelFails refusal before =
     FieldFails octet 1 (IsLengthOctet before) refusal (OctetsFail IsLower refusal)
 
--- the first fault of a name: behind the labels of one, the next fails
+-- the first fault of a name: after the labels of one, the next fails
 pub data FrameNameFails (refusal : FrameFault) (octets : OctetList) (f : FrameFault) : Type 0 where
   label_fails : (before : Labels) (rest : OctetList)
       → octets ≡ flat_map label_octets before ++ rest
       → IsName before → LabelFails refusal before rest f
       → FrameNameFails refusal octets f
 
--- the first fault of RDATA behind its length
+-- the first fault of RDATA after its length
 abbrev pub SizedFails : (OctetList → Type 0) → OctetList → FrameFault → Type 0
 SizedFails Lawful = FieldFails u16_octets 2 AnyNumber Truncated (OctetsFail Lawful BadBody)
 
--- the first fault of so many RDATAs: behind fewer of them, the next fails
+-- the first fault of `count` RDATAs: after fewer of them, the next fails
 pub data RdatasFail (rtype : RType) (count : ℕ) (octets : OctetList) (f : FrameFault) : Type 0 where
   rdata_fails : (before : List OctetList) (rest : OctetList)
       → octets ≡ flat_map octets_with_length before ++ rest
@@ -88,7 +88,7 @@ pub data RdatasFail (rtype : RType) (count : ℕ) (octets : OctetList) (f : Fram
       → SizedFails (λ rdata. AreFirstRdatas rtype (before ++ rdata ∷ [])) rest f
       → RdatasFail rtype count octets f
 
--- the first fault of a positive body: of its count, or of so many RDATAs
+-- the first fault of a positive body: of its count, or of that many RDATAs
 abbrev pub PositiveFails : RType → OctetList → FrameFault → Type 0
 PositiveFails rtype = FieldFails u16_octets 2 (IsCountOf rtype) BadBody (RdatasFail rtype)
 
@@ -110,8 +110,8 @@ BodyFails NoData name rtype = NegativeFails name
 BodyFails NameError name rtype = NegativeFails name
 BodyFails Flush name rtype = λ octets f. ⊥
 
--- the first fault of a name and of what stands behind it: the name fails, or it is one and what
--- stands behind it fails
+-- the first fault of a name and of what follows it: the name fails, or it is one and what follows
+-- it fails
 pub data NameFieldFails (refusal : FrameFault)
     (Behind : Labels → OctetList → FrameFault → Type 0) (octets : OctetList) (f : FrameFault)
     : Type 0 where
@@ -136,8 +136,7 @@ EntryFails version =
     FieldFails u16_octets 2 (IsTypeOf kind) BadKind (λ rtype.
     BodyFails kind name rtype)))))))
 
--- the first fault of so many entries: behind fewer of them the next fails, or octets stand behind
--- them all
+-- the first fault of `count` entries: after fewer of them the next fails, or octets follow them all
 pub data EntriesFail (version count : ℕ) (octets : OctetList) (f : FrameFault) : Type 0 where
   entry_fails : (list : Observations) (rest : OctetList) → octets ≡ entries list ++ rest
       → AreIn version list

@@ -1,4 +1,4 @@
-//! The body of an entry, read without memory.
+//! Reading the body of an entry. Nothing here allocates.
 
 ghost use Rattle.std.specs.Prelude.{◌≡◌, ◌≤◌, ◌++◌, ◌∷◌, [], ◌↔◌, length, IsTrue, MatchOption, MatchResult};
 ghost use Rattle.fleet_name.specs.Types.{Labels};
@@ -17,7 +17,7 @@ use fleet_observe::{Kind, is_count_of};
 use fleet_wire::plain_rdata;
 use fleet_wire::rtype::SOA;
 
-/// RDATA behind its length.
+/// RDATA after its length of two octets; `Truncated` where the octets end before.
 pub(crate) fn read_sized<'a>(reader: &mut Reader<'a>) -> Result<&'a [u8], FrameFault>
     ensures { MatchResult result (λ r. reader.old ≡ octets_with_length r.now ++ reader.new)
         (SizedFails AnyRdata reader.old) }
@@ -26,7 +26,7 @@ pub(crate) fn read_sized<'a>(reader: &mut Reader<'a>) -> Result<&'a [u8], FrameF
     reader.take(usize::from(size))
 }
 
-/// Whether the RDATA stands above the last one, if there is one.
+/// Whether the RDATA is greater than the last one, if there is one.
 fn is_above(last: Option<&[u8]>, rdata: &[u8]) -> bool
     ensures { (before : Labels)
         → MatchOption last.entry (before ≡ []) (λ r. HasLast before r.now)
@@ -38,8 +38,7 @@ fn is_above(last: Option<&[u8]>, rdata: &[u8]) -> bool
     }
 }
 
-/// Whether the RDATA may stand behind others, of which that is the last and which make a body of
-/// `size` octets.
+/// Whether the RDATA may follow others, whose last one is `last` and whose body has `size` octets.
 fn is_next(rtype: u16, last: Option<&[u8]>, size: usize, rdata: &[u8]) -> bool
     requires { size ≤ LONGEST_BODY }
     ensures { (before : Labels)
@@ -56,7 +55,7 @@ fn is_next(rtype: u16, last: Option<&[u8]>, size: usize, rdata: &[u8]) -> bool
     plain_rdata(rtype, rdata)
 }
 
-/// How many octets a body of so many RDATAs has, which are read next.
+/// Reads `count` RDATAs of a type, and returns how many octets their body has.
 fn read_rdatas(reader: &mut Reader<'_>, rtype: u16, count: u16) -> Result<usize, FrameFault>
     ensures { MatchResult result (λ size. AreFirstOf rtype count reader.old size reader.new)
         (RdatasFail rtype count reader.old) }
@@ -74,7 +73,7 @@ fn read_rdatas(reader: &mut Reader<'_>, rtype: u16, count: u16) -> Result<usize,
     Ok(size)
 }
 
-/// How many octets the positive body at the front has.
+/// The size of the positive body at the front, in octets.
 fn positive_size(octets: &[u8], rtype: u16) -> Result<usize, FrameFault>
     ensures { MatchResult result (λ size. IsSizeOf (IsPositiveBody rtype) octets.now size)
         (PositiveFails rtype octets.now) }
@@ -87,7 +86,8 @@ fn positive_size(octets: &[u8], rtype: u16) -> Result<usize, FrameFault>
     read_rdatas(&mut reader, rtype, count)
 }
 
-/// The owner of the SOA of a denial of the name.
+/// Reads the owner of the SOA of a denial of the name; `BadBody` where it is neither the name nor
+/// an ancestor of it.
 fn read_owner<'a>(reader: &mut Reader<'a>, name: &[u8]) -> Result<&'a [u8], FrameFault>
     requires { IsWire name.now }
     ensures { (n : Labels) → IsName n → name.now ≡ wire n
@@ -101,7 +101,7 @@ fn read_owner<'a>(reader: &mut Reader<'a>, name: &[u8]) -> Result<&'a [u8], Fram
     Ok(owner)
 }
 
-/// How many octets the body at the front has, which is that of a denial of the name.
+/// The size of the body at the front, of a denial of the name, in octets.
 fn negative_size(octets: &[u8], name: &[u8]) -> Result<usize, FrameFault>
     requires { IsWire name.now }
     ensures { (n : Labels) → IsName n → name.now ≡ wire n
@@ -117,7 +117,7 @@ fn negative_size(octets: &[u8], name: &[u8]) -> Result<usize, FrameFault>
     Ok(owner.len() + 2 + rdata.len())
 }
 
-/// How many octets the body at the front has, of an entry of that kind, name and type.
+/// The size of the body at the front, of an entry of this kind, name and type, in octets.
 fn body_size(octets: &[u8], kind: Kind, name: &[u8], rtype: u16) -> Result<usize, FrameFault>
     requires { IsWire name.now }
     ensures { (n : Labels) → IsName n → name.now ≡ wire n
@@ -132,7 +132,7 @@ fn body_size(octets: &[u8], kind: Kind, name: &[u8], rtype: u16) -> Result<usize
     }
 }
 
-/// The body that is read next, of an entry of that kind, name and type.
+/// Reads the body of an entry of this kind, name and type.
 pub(crate) fn read_body<'a>(
     reader: &mut Reader<'a>,
     kind: Kind,

@@ -1,4 +1,4 @@
-//! An entry: one observation.
+//! Entries: an observation each.
 
 ghost use Rattle.std.specs.Prelude.{◌≡◌, ◌++◌, IfOk, MatchResult};
 ghost use Rattle.fleet_name.specs.Types.{Labels};
@@ -21,7 +21,7 @@ use fleet_name::{Name, Octets};
 use fleet_observe::{Kind, Observation, Soa};
 use std::alloc::{AllocError, Allocator};
 
-/// An entry that was read, and is lawful. Its name and its body are octets of the frame.
+/// A lawful entry that was read. Its name and its body are borrowed from the frame.
 #[derive(Clone, Copy)]
 pub(crate) struct FrameEntry<'a> {
     pub head: Head,
@@ -30,7 +30,7 @@ pub(crate) struct FrameEntry<'a> {
     pub body: &'a [u8],
 }
 
-/// The entry of the version that is read next. This takes no memory.
+/// Reads an entry of the version. This allocates nothing. `Err` is its first fault.
 pub(crate) fn read_entry<'a>(
     reader: &mut Reader<'a>,
     version: u8,
@@ -52,7 +52,7 @@ pub(crate) fn read_entry<'a>(
     })
 }
 
-/// The name of octets in full.
+/// The name that octets are in full. `Err` where its allocation fails.
 fn copy_name<A: Allocator>(alloc: A, octets: &[u8]) -> Result<Name<A>, AllocError>
     requires { IsWire octets.now }
     ensures { IfOk result (λ name.
@@ -64,7 +64,7 @@ fn copy_name<A: Allocator>(alloc: A, octets: &[u8]) -> Result<Name<A>, AllocErro
     Ok(name)
 }
 
-/// The RDATAs of a positive body.
+/// Copies of the RDATAs of a positive body. `Err` where an allocation fails.
 fn copy_rdatas<A: Allocator + Copy>(alloc: A, body: &[u8]) -> Result<Vec<Octets<A>, A>, AllocError>
     requires { IsRdatasBody body.now }
     ensures { IfOk result (λ rdatas. body.now ≡ positive_body rdatas.items) }
@@ -83,7 +83,8 @@ fn copy_rdatas<A: Allocator + Copy>(alloc: A, body: &[u8]) -> Result<Vec<Octets<
     Ok(rdatas)
 }
 
-/// The SOA of the body of a denial.
+/// A copy of the SOA of a denial's body, which has no TTL: it is 0. `Err` where an allocation
+/// fails.
 fn copy_soa<A: Allocator + Copy>(alloc: A, body: &[u8]) -> Result<Soa<A>, AllocError>
     requires { IsSoaBody body.now }
     ensures { IfOk result (λ soa.
@@ -155,7 +156,7 @@ impl FrameEntry<'_> {
         Ok(Observation::flush(name, self.head.stamp))
     }
 
-    /// The observation that it tells.
+    /// The observation of the entry. `Err` where an allocation fails.
     pub fn to_observation<A: Allocator + Copy>(
         &self,
         alloc: A,

@@ -6,8 +6,8 @@ ghost use Rattle.fleet_gossip.specs.declared.fault.FrameFault.TheVariants.{OutOf
 use std::alloc::{AllocError, AllocFailed};
 use thiserror::Error;
 
-/// Why a frame is refused: of several faults the first one that is met, its octets being read in
-/// order.
+/// Why a frame is refused. Where it has several faults, it is the first one as its octets are read
+/// in order.
 #[derive(Clone, Copy, Debug, PartialEq, Eq, Error)]
 pub enum FrameFault {
     /// It doesn't begin with the octets 44 47.
@@ -16,10 +16,10 @@ pub enum FrameFault {
     /// Its version is not 1 or 2.
     #[error("bad version")]
     BadVersion,
-    /// It has more than `LONGEST_FRAME` octets. This is told before all else.
+    /// It has more than `LONGEST_FRAME` octets. This comes before all other faults.
     #[error("too long")]
     TooLong,
-    /// It ends before what it says.
+    /// It ends within a field, or before its last entry.
     #[error("truncated")]
     Truncated,
     /// A kind other than 1, 2 or 3, and in version 2 other than 4, or a type that the kind doesn't
@@ -44,14 +44,14 @@ pub enum FrameFault {
     BadName,
     /// Positive: no RDATA, more than one of an alias (CNAME), a body of more than `LONGEST_BODY`
     /// octets, RDATA that is not of its type's shape with names in full and in lower case, or RDATA
-    /// that doesn't stand above the one before it. Negative: an owner that is no name, or neither
+    /// that is not greater than the one before it. Negative: an owner that is no name, or neither
     /// the observation's name nor an ancestor of it, or RDATA that is not of the shape of an SOA.
     #[error("bad body")]
     BadBody,
-    /// Octets behind the last entry.
+    /// There are octets after the last entry.
     #[error("octets behind the last entry")]
     Trailing,
-    /// There was no memory for it.
+    /// An allocation failed.
     #[error("out of memory")]
     OutOfMemory,
 }

@@ -1,4 +1,4 @@
-//! Frames: read and written.
+//! Reading and writing frames.
 
 ghost use Rattle.std.specs.Prelude.{◌≡◌, ◌<◌, ◌↔◌, [], length, IsTrue, IfOk, IfErr, OnErr, MatchOption, MatchResult, Err};
 ghost use Rattle.fleet_name.specs.Fault.{OrMemory};
@@ -19,7 +19,7 @@ use crate::writer::{entry_size, push_entry, push_opening};
 use fleet_observe::Observation;
 use std::alloc::{AllocError, Allocator};
 
-/// The octets 44 47, which a frame begins with.
+/// The octets 44 47 (hex), with which a frame begins.
 pub(crate) const MAGIC: u16 = 0x4447;
 
 /// The version of the frames that are written, and the newest one that is read.
@@ -28,13 +28,13 @@ pub const VERSION: u8 = 2;
 /// The oldest version that is read.
 pub const OLDEST_VERSION: u8 = 1;
 
-/// The version from which on frames tell flushes.
+/// The first version with flushes.
 pub(crate) const FLUSH_VERSION: u8 = 2;
 
-/// How many octets stand before the entries of a frame.
+/// The number of octets before the entries of a frame: magic, version and count.
 pub(crate) const OPENING: usize = 5;
 
-/// How many octets the frame of observations has, where it may have so many.
+/// The size of the frame of observations, in octets; `None` where it passes `LONGEST_FRAME`.
 fn frame_size<A: Allocator>(observations: &[Observation<A>]) -> Option<usize>
     ensures { MatchOption result (LONGEST_FRAME < length (frame_octets VERSION observations.now))
         (FitsFrame observations.now) }
@@ -49,11 +49,11 @@ fn frame_size<A: Allocator>(observations: &[Observation<A>]) -> Option<usize>
     Some(size)
 }
 
-/// The frame of observations, in their order, of version `VERSION`: one allocation of just its
-/// octets.
+/// The frame of observations, in their order, of version `VERSION`, in one allocation of exactly
+/// its octets.
 ///
-/// `TooLong` comes exactly where it would have more than `LONGEST_FRAME` octets, before any memory
-/// is asked for. Of the other faults there is only `OutOfMemory`.
+/// `TooLong` comes exactly where it would have more than `LONGEST_FRAME` octets, before anything is
+/// allocated. The only other fault is `OutOfMemory`.
 pub fn encode<A: Allocator>(
     alloc: A,
     observations: &[Observation<A>],
@@ -81,15 +81,15 @@ fn is_version(version: u8) -> bool
     (OLDEST_VERSION..=VERSION).contains(&version)
 }
 
-/// What stands before the entries of a frame.
+/// What comes before the entries of a frame.
 #[derive(Clone, Copy)]
 pub(crate) struct Opening {
     pub version: u8,
-    /// How many entries it counts.
+    /// The count of entries.
     pub count: u16,
 }
 
-/// The version of the frame, and how many entries it counts.
+/// Reads magic, version and count of a frame.
 fn read_opening(reader: &mut Reader<'_>) -> Result<Opening, FrameFault>
     ensures { MatchResult result
         (λ opening. IsOpening reader.old opening.version opening.count reader.new)
@@ -107,7 +107,7 @@ fn read_opening(reader: &mut Reader<'_>) -> Result<Opening, FrameFault>
     Ok(Opening { version, count })
 }
 
-/// The entries of a frame: their version, how many they are, and their octets.
+/// The entries of a frame: their version, their number and their octets.
 #[derive(Clone, Copy)]
 pub(crate) struct Entries<'a> {
     pub version: u8,
@@ -115,7 +115,8 @@ pub(crate) struct Entries<'a> {
     pub octets: &'a [u8],
 }
 
-/// Whether the octets are just so many lawful entries. This takes no memory.
+/// Checks that the octets are exactly that many lawful entries; `Err` is the first fault. This
+/// allocates nothing.
 fn check_entries(entries: &Entries<'_>) -> Result<(), FrameFault>
     ensures { MatchResult result
         (λ _. AreEntryOctets entries.now.octets.now entries.now.version entries.now.count)
@@ -134,7 +135,7 @@ fn check_entries(entries: &Entries<'_>) -> Result<(), FrameFault>
     Ok(())
 }
 
-/// The entries of a frame, each of them lawful. This takes no memory.
+/// The entries of a frame, each of them lawful; `Err` is the first fault. This allocates nothing.
 fn read_frame(octets: &[u8]) -> Result<Entries<'_>, FrameFault>
     ensures { MatchResult result (λ entries.
         IsFrameOfEntries octets.now entries.version entries.count entries.octets.now)
@@ -154,7 +155,7 @@ fn read_frame(octets: &[u8]) -> Result<Entries<'_>, FrameFault>
     Ok(entries)
 }
 
-/// The observations of lawful entries.
+/// The observations of lawful entries. `Err` where an allocation fails.
 fn to_observations<A: Allocator + Copy>(
     alloc: A,
     entries: &Entries<'_>,
@@ -175,22 +176,22 @@ fn to_observations<A: Allocator + Copy>(
     Ok(observations)
 }
 
-/// The observations of a frame, in its order: where its version is `VERSION`, what `encode` makes
-/// this frame of.
+/// The observations of a frame, in its order. Of a frame of version `VERSION` these are the ones
+/// that `encode` makes it of.
 ///
-/// All octets are checked before any memory is asked for: of several faults the first one in
-/// reading order is told, and `OutOfMemory` only where there is none and there are observations to
-/// be made. A refused frame yields nothing.
+/// All octets are checked before anything is allocated. `Err` is the first fault in reading order;
+/// `OutOfMemory` comes only where there is no other and the frame has entries. No part of a refused
+/// frame is returned.
 pub fn decode<A: Allocator + Copy>(
     alloc: A,
     octets: &[u8],
 ) -> Result<Vec<Observation<A>, A>, FrameFault>
     ensures found { IfOk result (λ v. SpellsFrame octets.now v.items) }
     ensures fault { IfErr result (λ f. OrMemory OutOfMemory f (FrameFails octets.now f)) }
-    // Where a list is spelled, only want of memory keeps it from being read.
+    // Of octets that spell a list, the only fault is out of memory.
     ensures only { (list : Observations) → SpellsFrame octets.now list
         → IfErr result (λ f. f ≡ OutOfMemory) }
-    // Want of memory is told only where a list is spelled that has something in it.
+    // Out of memory comes only of octets that spell a list that is not empty.
     ensures memory { IfErr result (λ f. f ≡ OutOfMemory → HasEntries octets.now) }
 {
     let entries = read_frame(octets)?;

@@ -14,13 +14,13 @@ use crate::frame::FLUSH_VERSION;
 use crate::reader::Reader;
 use fleet_observe::{Kind, Moment, is_life_of, is_rank_of, is_type_of};
 
-/// The first numbers of an entry.
+/// The first numbers of an entry, in their order.
 #[derive(Clone, Copy, Drop)]
 pub(crate) struct Head {
     pub kind: Kind,
     pub rank: u8,
     pub stamp: Moment,
-    /// Seconds.
+    /// The life, in seconds.
     pub life: u32,
 }
 
@@ -36,6 +36,7 @@ fn is_kind_in(version: u8, kind: Kind) -> bool
     }
 }
 
+/// The kind with a number; `None` where there is none.
 fn kind_of(number: u8) -> Option<Kind>
     ensures { MatchOption result ((kind : AnyKind) → IsKind number kind → ⊥) (IsKind number) }
 {
@@ -48,6 +49,7 @@ fn kind_of(number: u8) -> Option<Kind>
     }
 }
 
+/// Reads a kind that the version has, else `BadKind`.
 fn read_kind(reader: &mut Reader<'_>, version: u8) -> Result<Kind, FrameFault>
     ensures { MatchResult result (λ kind. IsKindAt version reader.old kind reader.new)
         (NoField octet 1 (IsKindNumber version) BadKind reader.old) }
@@ -62,6 +64,7 @@ fn read_kind(reader: &mut Reader<'_>, version: u8) -> Result<Kind, FrameFault>
     Ok(kind)
 }
 
+/// Reads a rank that the kind can have, else `BadRank`.
 fn read_rank(reader: &mut Reader<'_>, kind: Kind) -> Result<u8, FrameFault>
     ensures { MatchResult result (λ r. IsField octet (IsRankOf kind) reader.old r reader.new)
         (NoField octet 1 (IsRankOf kind) BadRank reader.old) }
@@ -73,6 +76,7 @@ fn read_rank(reader: &mut Reader<'_>, kind: Kind) -> Result<u8, FrameFault>
     Ok(rank)
 }
 
+/// Reads a stamp of at most `LATEST` seconds, else `BadMoment`.
 fn read_stamp(reader: &mut Reader<'_>) -> Result<Moment, FrameFault>
     ensures { MatchResult result (λ r. IsField u64_octets IsMoment reader.old r reader.new)
         (NoField u64_octets 8 IsMoment BadMoment reader.old) }
@@ -84,6 +88,7 @@ fn read_stamp(reader: &mut Reader<'_>) -> Result<Moment, FrameFault>
     }
 }
 
+/// Reads a life, in seconds, that the kind can have, else `BadLife`.
 fn read_life(reader: &mut Reader<'_>, kind: Kind) -> Result<u32, FrameFault>
     ensures { MatchResult result (λ r. IsField u32_octets (IsLifeOf kind) reader.old r reader.new)
         (NoField u32_octets 4 (IsLifeOf kind) BadLife reader.old) }
@@ -95,7 +100,7 @@ fn read_life(reader: &mut Reader<'_>, kind: Kind) -> Result<u32, FrameFault>
     Ok(life)
 }
 
-/// Kind, rank, stamp and life of the entry of the version that is read next.
+/// Reads kind, rank, stamp and life of an entry of the version.
 pub(crate) fn read_head(reader: &mut Reader<'_>, version: u8) -> Result<Head, FrameFault>
     ensures { MatchResult result (λ r. IsHead version reader.old r reader.new)
         (EntryFails version reader.old) }
@@ -112,7 +117,7 @@ pub(crate) fn read_head(reader: &mut Reader<'_>, version: u8) -> Result<Head, Fr
     })
 }
 
-/// The type of an entry of the kind.
+/// Reads a type that the kind can have, else `BadKind`.
 pub(crate) fn read_type(reader: &mut Reader<'_>, kind: Kind) -> Result<u16, FrameFault>
     ensures { MatchResult result (λ r. IsField u16_octets (IsTypeOf kind) reader.old r reader.new)
         (NoField u16_octets 2 (IsTypeOf kind) BadKind reader.old) }

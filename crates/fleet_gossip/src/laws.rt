@@ -1,4 +1,4 @@
-//! Laws of frames.
+//! Laws of frames. Each function does nothing: its contract is the law.
 
 ghost use Rattle.std.specs.Prelude.{◌≡◌, ◌≤◌, List, [], ◌∷◌, length};
 ghost use Rattle.fleet_name.specs.Types.{OctetList};

@@ -1,4 +1,4 @@
-//! A name in an entry.
+//! Names in an entry.
 
 ghost use Rattle.std.specs.Prelude.{◌≡◌, ◌≤◌, ◌↔◌, length, IsTrue, MatchResult};
 ghost use Rattle.fleet_name.specs.Types.{Labels};
@@ -12,8 +12,8 @@ use crate::reader::Reader;
 use fleet_name::bounds::{LONGEST_LABEL, LONGEST_NAME};
 use fleet_name::is_lower;
 
-/// The label behind others that have `used` octets with a final zero: none of octets is the end of
-/// the name.
+/// Reads the next label of a name whose labels so far have `used` octets, a final zero included.
+/// The empty label is the end of the name.
 fn read_label<'a>(
     reader: &mut Reader<'a>,
     used: usize,
@@ -38,7 +38,7 @@ fn read_label<'a>(
     Ok(label)
 }
 
-/// How many octets the name that is read next has.
+/// The size of the name at the front, in octets.
 fn name_size(octets: &[u8], refusal: FrameFault) -> Result<usize, FrameFault>
     ensures { MatchResult result (λ size. IsSizeOf IsWire octets.now size)
         (FrameNameFails refusal octets.now) }
@@ -54,8 +54,8 @@ fn name_size(octets: &[u8], refusal: FrameFault) -> Result<usize, FrameFault>
     }
 }
 
-/// The octets of the name that is read next; a label or a name that is too long, or has a capital
-/// letter, gives the refusal.
+/// Reads a name, and returns its octets. Where a label or the name is too long, or has a capital
+/// letter, the fault is `refusal`.
 pub(crate) fn read_name<'a>(
     reader: &mut Reader<'a>,
     refusal: FrameFault,

@@ -17,20 +17,20 @@ use fleet_name::Octets;
 use fleet_observe::Observation;
 use std::alloc::{AllocError, Allocator};
 
-/// Frames in the making.
+/// Frames that are being made.
 #[derive(Drop)]
 pub(crate) struct Packer<A: Allocator> {
     alloc: A,
     /// The finished frames.
     frames: Vec<Octets<A>, A>,
-    /// The entries of the frame that the next one may go into.
+    /// The entries of the frame that is not finished.
     entries: Vec<u8, A>,
-    /// How many these are.
+    /// The number of these entries.
     count: u16,
 }
 
 impl<A: Allocator + Copy> Packer<A> {
-    /// Without frames.
+    /// A packer without frames.
     pub fn new(alloc: A) -> Packer<A>
         ensures { Packs result [] }
     {
@@ -42,7 +42,7 @@ impl<A: Allocator + Copy> Packer<A> {
         }
     }
 
-    /// Finishes the frame in the making.
+    /// Finishes the frame that is not finished. `Err` where an allocation fails.
     fn close(&mut self) -> Result<(), AllocError>
         requires { length self.old.entries.items ≤ LONGEST_FRAME }
         ensures frames { OnOk result (self.new.frames.items
@@ -61,7 +61,7 @@ impl<A: Allocator + Copy> Packer<A> {
         Ok(())
     }
 
-    /// Adds an observation behind the others.
+    /// Adds an observation after the others. `Err` where an allocation fails.
     pub fn add(&mut self, observation: &Observation<A>) -> Result<(), AllocError>
         requires { IsPacking self.old }
         ensures { OnOk result ((taken : Observations) → Packs self.old taken
@@ -75,7 +75,7 @@ impl<A: Allocator + Copy> Packer<A> {
         Ok(())
     }
 
-    /// The frames of all that was added.
+    /// The frames of all that was added. `Err` where an allocation fails.
     pub fn finish(mut self) -> Result<Vec<Octets<A>, A>, AllocError>
         requires { IsPacking self }
         ensures memory { OnErr result
@@ -93,7 +93,7 @@ impl<A: Allocator + Copy> Packer<A> {
 
 /// The frames of observations, in their order: each observation goes into the frame of the one
 /// before it where that then has at most `LONGEST_FRAME` octets, else it begins a new frame. An
-/// empty list has none, and takes no memory.
+/// empty list has no frames, and allocates nothing. `Err` where an allocation fails.
 pub fn pack<A: Allocator + Copy>(
     alloc: A,
     observations: &[Observation<A>],
@@ -108,8 +108,8 @@ pub fn pack<A: Allocator + Copy>(
     packer.finish()
 }
 
-/// The frames of all items of a cache, in their order: what `pack` gives of them. No items take no
-/// memory.
+/// The frames of all items of a cache, in their order: those that `pack` returns of them. Without
+/// items this allocates nothing. `Err` where an allocation fails.
 pub fn sweep<A: Allocator + Copy>(
     alloc: A,
     cache: &Cache<A>,

@@ -8,7 +8,7 @@ ghost use Rattle.fleet_gossip.specs.steps.Reading.{AreMissing, IsSplitAfter};
 use crate::fault::FrameFault;
 use std::marker::Model;
 
-/// Octets that are left to read, seen by contracts as their list.
+/// The octets that are left to read. Contracts see them as their list.
 #[derive(Drop)]
 pub(crate) struct Reader<'a> {
     rest: &'a [u8],
@@ -30,7 +30,7 @@ impl<'a> Reader<'a> {
         Reader { rest: octets }
     }
 
-    /// All that are left.
+    /// The octets that are left.
     pub fn rest(&self) -> &'a [u8]
         ensures { result.now ≡ self.now }
     {
@@ -44,7 +44,7 @@ impl<'a> Reader<'a> {
         self.rest.is_empty()
     }
 
-    /// So many octets.
+    /// Reads `count` octets; `Truncated` where fewer are left.
     pub fn take(&mut self, count: usize) -> Result<&'a [u8], FrameFault>
         ensures { MatchResult result (λ r. IsSplitAfter self.old count r.now self.new)
             (AreMissing count self.old) }
@@ -57,7 +57,7 @@ impl<'a> Reader<'a> {
         Ok(taken)
     }
 
-    /// A number of one octet.
+    /// Reads a number of one octet, else `Truncated`.
     pub fn read_u8(&mut self) -> Result<u8, FrameFault>
         ensures { MatchResult result (λ n. self.old ≡ octet n ++ self.new) (AreMissing 1 self.old) }
     {
@@ -65,7 +65,7 @@ impl<'a> Reader<'a> {
         Ok(number[0])
     }
 
-    /// A number of two octets, the high one first.
+    /// Reads a number of two octets, the high one first, else `Truncated`.
     pub fn read_u16(&mut self) -> Result<u16, FrameFault>
         ensures { MatchResult result (λ n. self.old ≡ u16_octets n ++ self.new)
             (AreMissing 2 self.old) }
@@ -74,7 +74,7 @@ impl<'a> Reader<'a> {
         Ok(u16::from_be_bytes([number[0], number[1]]))
     }
 
-    /// A number of four octets.
+    /// Reads a number of four octets, the high one first, else `Truncated`.
     pub fn read_u32(&mut self) -> Result<u32, FrameFault>
         ensures { MatchResult result (λ n. self.old ≡ u32_octets n ++ self.new)
             (AreMissing 4 self.old) }
@@ -83,7 +83,7 @@ impl<'a> Reader<'a> {
         Ok(u32::from_be_bytes([number[0], number[1], number[2], number[3]]))
     }
 
-    /// A number of eight octets.
+    /// Reads a number of eight octets, the high one first, else `Truncated`.
     pub fn read_u64(&mut self) -> Result<u64, FrameFault>
         ensures { MatchResult result (λ n. self.old ≡ u64_octets n ++ self.new)
             (AreMissing 8 self.old) }

@@ -11,25 +11,28 @@ use crate::frame::{MAGIC, VERSION};
 use fleet_observe::Observation;
 use std::alloc::{AllocError, Allocator};
 
+/// Appends a number of two octets, the high one first.
 fn push_u16<A: Allocator>(out: &mut Vec<u8, A>, number: u16) -> Result<(), AllocError>
     ensures { OnOk result (out.new.items ≡ out.old.items ++ u16_octets number) }
 {
     out.extend_from_slice(&number.to_be_bytes())
 }
 
+/// Appends a number of four octets, the high one first.
 fn push_u32<A: Allocator>(out: &mut Vec<u8, A>, number: u32) -> Result<(), AllocError>
     ensures { OnOk result (out.new.items ≡ out.old.items ++ u32_octets number) }
 {
     out.extend_from_slice(&number.to_be_bytes())
 }
 
+/// Appends a number of eight octets, the high one first.
 fn push_u64<A: Allocator>(out: &mut Vec<u8, A>, number: u64) -> Result<(), AllocError>
     ensures { OnOk result (out.new.items ≡ out.old.items ++ u64_octets number) }
 {
     out.extend_from_slice(&number.to_be_bytes())
 }
 
-/// Magic, version and how many entries there are.
+/// Appends magic, version and the count of entries.
 pub(crate) fn push_opening<A: Allocator>(out: &mut Vec<u8, A>, count: u16) -> Result<(), AllocError>
     ensures { OnOk result (out.new.items
         ≡ out.old.items ++ (u16_octets MAGIC ++ (octet VERSION ++ u16_octets count))) }
@@ -39,7 +42,7 @@ pub(crate) fn push_opening<A: Allocator>(out: &mut Vec<u8, A>, count: u16) -> Re
     push_u16(out, count)
 }
 
-/// Kind, rank, stamp and life of an observation.
+/// Appends kind, rank, stamp and life of an observation.
 fn push_head<A: Allocator>(
     out: &mut Vec<u8, A>,
     observation: &Observation<A>,
@@ -56,7 +59,7 @@ fn push_head<A: Allocator>(
     push_u32(out, observation.life())
 }
 
-/// Adds the entry of an observation.
+/// Appends the entry of an observation. `Err` where an allocation fails.
 pub(crate) fn push_entry<A: Allocator>(
     out: &mut Vec<u8, A>,
     observation: &Observation<A>,
@@ -69,7 +72,7 @@ pub(crate) fn push_entry<A: Allocator>(
     observation.append_body(out)
 }
 
-/// How many octets the entry of an observation has.
+/// The size of an observation's entry, in octets.
 pub(crate) fn entry_size<A: Allocator>(observation: &Observation<A>) -> usize
     ensures value { result ≡ length (entry_octets observation.now) }
     ensures bounded { result ≤ LONGEST_ENTRY }

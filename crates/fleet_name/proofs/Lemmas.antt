@@ -64,16 +64,16 @@ Has-in_filter p (y ∷ ys) x (inr rest) e = elim (cases_Bool (p y)) [
   | inr k ↦ rw k (Has-in_filter p ys x rest e)
 ]
 
--- at one place stands one value
+-- an index has one value
 pub at_same : {X : Type 0} (xs : List X) (i : ℕ) (x y : X) → At xs i x → At xs i y → x ≡ y
 at_same xs i x y p q = same_Some x y (sym p ∙ q)
 
--- what is read at an index stands there
+-- what is read at an index is the value there
 pub at_read : {X : Type 0} (xs : List X) (i : ℕ) (x : X) → i < length xs → x ≡ get_or xs i x
     → At xs i x
 at_read xs i x within is = slice_get_read xs (length xs) i x refl within is
 
--- what stands in a list after a write is what was written, or stood there before
+-- a member of a list after a write is what was written, or was a member before
 pub at_set : {X : Type 0} (xs : List X) (i j : ℕ) (y x : X) → At (slice_set xs i y) j x
     → ((j ≡ i) × (x ≡ y)) ⊎ ((j ≢ i) × At xs j x)
 at_set [] i j y x h = absurd (let e : None ≡ Some x = h in cc)
@@ -85,14 +85,14 @@ at_set (z ∷ xs) (suc i) (suc j) y x h = elim (at_set xs i j y x h) [
   | inr p ↦ inr ((λ e. p.0 (omega arith)), p.1)
 ]
 
--- where a value stands, its image stands among the images
+-- the image of a value at an index is at that index of the images
 pub at_map : {X Y : Type 0} (f : X → Y) (xs : List X) (i : ℕ) (x : X) → At xs i x
     → At (map f xs) i (f x)
 at_map f [] i x h = absurd (let e : None ≡ Some x = h in cc)
 at_map f (z ∷ xs) zero x h = ap (λ v. Some (f v)) (same_Some z x h)
 at_map f (z ∷ xs) (suc i) x h = at_map f xs i x h
 
--- what stands among the images is the image of what stands there
+-- a value at an index of the images is the image of the value at that index
 pub at_mapped : {X Y : Type 0} (f : X → Y) (xs : List X) (i : ℕ) (y : Y) → At (map f xs) i y
     → (x : X) × At xs i x × (f x ≡ y)
 at_mapped f [] i y h = absurd (let e : None ≡ Some y = h in cc)
@@ -220,7 +220,7 @@ pub label_among : (before : List (List ℕ)) (label : List ℕ) (rest : List (Li
 label_among [] label rest all = all.0
 label_among (l ∷ before) label rest all = label_among before label rest all.1
 
--- one more label stands before the zero octet
+-- one more label comes before the zero octet
 pub wire-push : (name : List (List ℕ)) (label : List ℕ)
     → wire (name ++ label ∷ []) ≡ flat_map label_octets name ++ (label_octets label ++ 0 ∷ [])
 wire-push name label = simp (flat_map-append, append_assoc, append-nil)

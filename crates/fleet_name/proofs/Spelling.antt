@@ -101,9 +101,9 @@ lower_more xs i now within is =
     let wrote : set now i (to_ascii_lowercase x) ≡ front ++ to_ascii_lowercase x ∷ rest =
     ap (λ (ys : List ℕ). set ys i (to_ascii_lowercase x)) now_is
     ∙ set_at front x rest (to_ascii_lowercase x) i n in
-    let told : lower (take (i + 1) xs) ≡ front ++ to_ascii_lowercase x ∷ [] =
+    let lowered : lower (take (i + 1) xs) ≡ front ++ to_ascii_lowercase x ∷ [] =
     ap lower (take_more xs i 0 within) ∙ map-append to_ascii_lowercase (take i xs) (x ∷ []) in
-    rw read (wrote ∙ rw (told, append_assoc, add-one i) refl)
+    rw read (wrote ∙ rw (lowered, append_assoc, add-one i) refl)
 
 -- a whole slice of a vector written back
 pub written_back : (n : ℕ) (old new : List ℕ) → n ≡ length old → length new ≡ length old

@@ -7,17 +7,17 @@ use Rattle.fleet_name.specs.declared.bounds.TheConstants.{LONGEST_LABEL, LONGEST
 use Rattle.fleet_name.specs.declared.fault.NameFault.{NameFault}
 use Rattle.fleet_name.specs.declared.fault.NameFault.TheVariants.{EmptyLabel, LongLabel, LongName, OutOfMemory}
 
--- the first fault of a label that is to stand after the others
+-- the first fault of a label that is to be added after the others
 abbrev pub push_fault : Labels → Label → Option NameFault
 push_fault name label =
     if nat_eq (length label) 0 then Some EmptyLabel else
     if nat_lt LONGEST_LABEL (length label) then Some LongLabel else
     if nat_lt LONGEST_NAME (length (wire name) + length label + 1) then Some LongName else None
 
--- a fault is the first one, or want of memory where there is none
+-- the fault is the first one, or out of memory where there is none
 abbrev pub IsFirst : NameFault → Option NameFault → Type 0
 IsFirst fault first = (first ≡ Some fault) ⊎ ((fault ≡ OutOfMemory) × (first ≡ None))
 
--- a fault is want of memory, or what comes first
+-- the fault is out of memory, or the first one
 abbrev pub OrMemory : {F : Type 0} → F → F → Type 0 → Type 0
 OrMemory memory f First = (f ≡ memory) ⊎ First

@@ -1,32 +1,32 @@
--- What a list has in it, and where.
+-- Members of a list, and their indices.
 -- Serves lists in every crate above.
 use Rattle.std.specs.Prelude.{◌≡◌, ◌⊎◌, ℕ, List, [], ◌∷◌, Option, Some, None, slice_get}
 
--- x is one of the values
+-- x is a member of the list
 abbrev pub Has : {X : Type 0} → List X → X → Type 0
 Has [] x = ⊥
 Has (y ∷ ys) x = (y ≡ x) ⊎ Has ys x
 
--- x stands at the place i
+-- x is at the index i
 abbrev pub At : {X : Type 0} → List X → ℕ → X → Type 0
 At xs i x = slice_get xs i ≡ Some x
 
--- none is like this
+-- no member is like this
 abbrev pub NoneIs : {X : Type 0} → (X → Type 0) → List X → Type 0
 NoneIs {X} P xs = (i : ℕ) (x : X) → At xs i x → P x → ⊥
 
--- no two are alike
+-- no two members are alike
 abbrev pub NoTwo : {X : Type 0} → (X → X → Type 0) → List X → Type 0
 NoTwo {X} Alike xs = (i j : ℕ) (x y : X) → At xs i x → At xs j y → Alike x y → i ≡ j
 
--- one that is like this, or none is
+-- a member that is like this, or no member is
 abbrev pub Finds : {X : Type 0} → (X → Type 0) → List X → Option X → Type 0
 Finds P xs None = NoneIs P xs
 Finds P xs (Some x) = (i : ℕ) × At xs i x × P x
 
 -- What follows, private contracts alone cite.
 
--- the place of one that is like this, or none is
+-- the index of a member that is like this, or no member is
 abbrev pub IsPlace : {X : Type 0} → (X → Type 0) → List X → Option ℕ → Type 0
 IsPlace P xs None = NoneIs P xs
 IsPlace {X} P xs (Some i) = (x : X) × At xs i x × P x

@@ -8,8 +8,8 @@ use Rattle.fleet_name.specs.Types.{Label, Labels, OctetList}
 abbrev pub digits : ℕ → OctetList
 digits c = 92 ∷ (48 + c / 100) ∷ (48 + c / 10 % 10) ∷ (48 + c % 10) ∷ []
 
--- an octet of a label: a dot and a backslash have a backslash before them, what is no visible
--- letter has three digits
+-- an octet of a label: a dot and a backslash have a backslash before them, an octet outside 33 to
+-- 126 has three digits
 abbrev pub octet_text : ℕ → OctetList
 octet_text c =
     if nat_eq c 46 || nat_eq c 92 then 92 ∷ c ∷ [] else

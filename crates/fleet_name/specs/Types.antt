@@ -1,8 +1,8 @@
--- What plain lists of octets stand for.
+-- Types of lists of octets.
 -- Serves every crate: the types of what definitions speak of.
 use Rattle.std.specs.Prelude.{ℕ, List}
 
--- octets, each of 0 to 255, as they stand in a message, a frame or a line
+-- octets, each of 0 to 255, as they appear in a message, a frame or a line
 abbrev pub OctetList : Type 0
 OctetList = List ℕ
 

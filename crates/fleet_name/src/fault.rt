@@ -6,7 +6,8 @@ ghost use Rattle.fleet_name.specs.declared.fault.NameFault.TheVariants.{OutOfMem
 use std::alloc::AllocError;
 use thiserror::Error;
 
-/// Why a label can't be added to a name: of several reasons the first one in this order.
+/// Why a label can't be added to a name. Where several reasons hold, it is the first one in this
+/// order.
 #[derive(Clone, Copy, Debug, PartialEq, Eq, Error)]
 pub enum NameFault {
     /// The label has no octets.
@@ -15,10 +16,10 @@ pub enum NameFault {
     /// The label has more than 63 octets (RFC 1035 2.3.4).
     #[error("long label")]
     LongLabel,
-    /// The name in full, its zero octet included, would pass 255 octets (RFC 1035 2.3.4).
+    /// The name in full, its zero octet included, would have more than 255 octets (RFC 1035 2.3.4).
     #[error("long name")]
     LongName,
-    /// There was no memory for it.
+    /// An allocation failed.
     #[error("out of memory")]
     OutOfMemory,
 }

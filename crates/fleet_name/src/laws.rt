@@ -4,7 +4,8 @@ ghost use Rattle.std.specs.Prelude.{◌≡◌};
 ghost use Rattle.fleet_name.specs.Types.{Labels};
 ghost use Rattle.fleet_name.specs.Name.{wire};
 
-/// Octets are those of one list of labels at most, whether it is a name or not (RFC 1035 3.1).
+/// Two lists of labels with the same octets in full are the same list, whether it is a name or not
+/// (RFC 1035 3.1).
 pub fn one_name()
     ensures { (a b : Labels) → wire a ≡ wire b → a ≡ b }
 {}

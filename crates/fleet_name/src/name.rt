@@ -1,4 +1,4 @@
-//! A name, as its octets in full (RFC 1035 3.1).
+//! Names: their octets in full (RFC 1035 3.1), their order and their text.
 
 ghost use Rattle.std.specs.Prelude.{◌≡◌, ◌≢◌, ℕ, ◌+◌, ◌-◌, ◌<◌, ◌≤◌, List, [], ◌∷◌, ◌++◌, ◌↔◌, length, take, drop, IfOk, IfErr, OnOk, OnErr, IsTrue, MatchOption, MatchResult, None, vec_len, vec_capacity};
 ghost use Rattle.std.specs.String.{string_bytes};
@@ -18,7 +18,10 @@ use std::cmp::Ordering;
 use std::marker::Model;
 
 /// A name: its labels in lower case, each of 1 to 63 octets, at most 255 octets in full (RFC 1035
-/// 2.3.4, 3.1). Contracts see it as the list of its labels. It takes one allocation.
+/// 2.3.4, 3.1). Contracts see it as the list of its labels. It holds its octets in one allocation.
+///
+/// Names are equal, and ordered, as their octets in full are: length octets are compared too, so
+/// this is not the canonical order of RFC 4034 6.1.
 #[derive(Drop)]
 pub struct Name<A: Allocator = Global> {
     octets: Vec<u8, A>,
@@ -37,7 +40,8 @@ impl<A: Allocator> Model for Name<A> {
 }
 
 impl<A: Allocator> Name<A> {
-    /// The root, the name without labels.
+    /// The root, the name without labels (RFC 1035 3.1): one octet, 0. `Err` where its allocation
+    /// fails.
     pub fn root(alloc: A) -> Result<Name<A>, AllocError>
         ensures { IfOk result (λ n. n ≡ []) }
     {
@@ -46,8 +50,8 @@ impl<A: Allocator> Name<A> {
         Ok(Name { octets, labels: 0 })
     }
 
-    /// The name that these octets spell in full, whatever their case, where it has so many labels.
-    /// It keeps the vector and allocates nothing.
+    /// The name that these octets spell in full, put into lower case; `labels` is how many labels
+    /// it has. It keeps the vector and allocates nothing.
     pub fn from_spelled(octets: Vec<u8, A>, labels: usize) -> Name<A>
         requires spelled { IsSpelling octets.items }
         requires counted { labels ≡ length (labels_of octets.items) }
@@ -61,7 +65,8 @@ impl<A: Allocator> Name<A> {
         }
     }
 
-    /// A name with these octets in full and in lower case: one allocation of just their number.
+    /// The name that these octets are in full and in lower case, in one allocation of exactly their
+    /// number. `Err` where it fails.
     pub fn copy_of(alloc: A, octets: &[u8]) -> Result<Name<A>, AllocError>
         requires { IsWire octets.now }
         ensures { IfOk result (λ n. wire n ≡ octets.now) }
@@ -73,14 +78,14 @@ impl<A: Allocator> Name<A> {
         Ok(Name { octets, labels })
     }
 
-    /// How many labels the name has.
+    /// The number of labels; the root has 0.
     pub fn labels(&self) -> usize
         ensures { result ≡ length self.now }
     {
         self.labels
     }
 
-    /// The name in full: each label behind its length octet, and a zero octet (RFC 1035 3.1).
+    /// The name in full: each label after its length octet, then a zero octet (RFC 1035 3.1).
     pub fn octets(&self) -> &[u8]
         ensures octets { result.now ≡ wire self.now }
         ensures named { IsName self.now }
@@ -88,8 +93,8 @@ impl<A: Allocator> Name<A> {
         &self.octets
     }
 
-    /// Adds a label after the others, in lower case. A fault is the first one in the order of
-    /// `NameFault`, and leaves the name as it was.
+    /// Adds a label after the others, in lower case. `Err` is the first fault in the order of
+    /// `NameFault`; `OutOfMemory` comes only where there is no other. The name is then as it was.
     pub fn push(&mut self, label: &[u8]) -> Result<(), NameFault>
         ensures ok { OnOk result (self.new ≡ self.old ++ lower label.now ∷ []) }
         ensures named { OnOk result (IsName (self.old ++ lower label.now ∷ [])) }
@@ -113,7 +118,7 @@ impl<A: Allocator> Name<A> {
         Ok(())
     }
 
-    /// Whether the names have the same labels.
+    /// Whether the names have the same labels, case ignored (RFC 1035 2.3.3).
     pub fn same(&self, other: &Name<A>) -> bool
         ensures { IsTrue result ↔ (self.now ≡ other.now) }
     {
@@ -131,8 +136,7 @@ impl<A: Allocator> Name<A> {
         Some(after_labels(&self.octets, count))
     }
 
-    /// Whether this is the ancestor's name or one below it: the ancestor's labels are its last
-    /// ones.
+    /// Whether this name is the ancestor or a name below it: its last labels are the ancestor's.
     pub fn is_under(&self, ancestor: &Name<A>) -> bool
         ensures { IsTrue result ↔ IsUnder self.now ancestor.now }
     {
@@ -144,7 +148,7 @@ impl<A: Allocator> Name<A> {
 
     /// The text of the name: each label followed by a dot, the root as a dot alone. In a label a
     /// dot and a backslash have a backslash before them, and an octet outside 33 to 126 is a
-    /// backslash and three decimal digits (RFC 1035 5.1).
+    /// backslash and three decimal digits (RFC 1035 5.1). `Err` where an allocation fails.
     pub fn write_text<B: Allocator>(&self, alloc: B) -> Result<String<B>, AllocError>
         ensures { IfOk result (λ t. string_bytes t ≡ text_of self.now) }
     {
@@ -157,7 +161,7 @@ impl<A: Allocator> Name<A> {
         Ok(text)
     }
 
-    /// A copy of the name: one allocation of just its octets.
+    /// A copy of the name, in one allocation of exactly its octets. `Err` where it fails.
     pub fn try_clone(&self) -> Result<Name<A>, AllocError>
     where
         A: Copy,
@@ -233,6 +237,7 @@ impl<A: Allocator> PartialOrd for Name<A> {
     }
 }
 
+/// Puts octets into lower case, in place.
 fn lower_octets(octets: &mut [u8])
     ensures { octets.new ≡ lower octets.old }
 {
@@ -241,7 +246,7 @@ fn lower_octets(octets: &mut [u8])
     }
 }
 
-/// Adds a label in lower case before the zero that ends the octets.
+/// Adds a label in lower case in front of the zero octet that ends the name.
 fn append_label<A: Allocator>(octets: &mut Vec<u8, A>, label: &[u8]) -> Result<(), AllocError>
     requires some { 0 < length octets.old.items }
     requires short { length label.now ≤ LONGEST_LABEL }
@@ -260,7 +265,7 @@ fn append_label<A: Allocator>(octets: &mut Vec<u8, A>, label: &[u8]) -> Result<(
     Ok(())
 }
 
-/// The octets of a name without its first labels.
+/// The octets of a name in full without its first `count` labels.
 fn after_labels(octets: &[u8], count: usize) -> &[u8]
     requires spelled { octets.now ≡ wire (labels_of octets.now) }
     requires named { IsName (labels_of octets.now) }
@@ -275,7 +280,7 @@ fn after_labels(octets: &[u8], count: usize) -> &[u8]
     rest
 }
 
-/// Adds so many labels that stand at the front of a name in full.
+/// Adds the text of a name in full, which has `count` labels, each followed by a dot.
 fn push_labels<A: Allocator>(
     text: &mut String<A>,
     octets: &[u8],
@@ -308,7 +313,8 @@ pub fn is_lower(octets: &[u8]) -> bool
     true
 }
 
-/// How many labels the name has that these octets are in full and in lower case, if they are one.
+/// The number of labels of the name that these octets are in full and in lower case. `None` where
+/// they are no name.
 fn labels_in(octets: &[u8]) -> Option<usize>
     ensures { MatchOption result (IsWire octets.now → ⊥)
         (λ count. (n : Labels) × IsName n × (octets.now ≡ wire n) × (count ≡ length n)) }
@@ -341,8 +347,8 @@ fn labels_in(octets: &[u8]) -> Option<usize>
     None
 }
 
-/// What `Name::suffix` gives of the name that these octets are in full and in lower case: its
-/// octets without the first `count` labels. `None` where they are no name, or one of fewer labels.
+/// `Name::suffix` of octets: where they are a name in full and in lower case, its octets without
+/// the first `count` labels. `None` where they are no name, or one with fewer labels.
 pub fn suffix_in(octets: &[u8], count: usize) -> Option<&[u8]>
     ensures { MatchOption result ((rest : OctetList) → IsSuffix octets.now count rest → ⊥)
         (λ s. IsSuffix octets.now count s.now) }

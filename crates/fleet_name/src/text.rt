@@ -1,4 +1,4 @@
-//! The text of a name.
+//! The text of a name, as master files have it (RFC 1035 5.1).
 
 ghost use Rattle.std.specs.Prelude.{◌≡◌, ◌++◌, ◌∷◌, [], OnOk};
 ghost use Rattle.std.specs.String.{string_bytes};
@@ -6,7 +6,7 @@ ghost use Rattle.fleet_name.specs.Text.{digits, octet_text, label_text};
 
 use std::alloc::{AllocError, Allocator};
 
-/// Adds an octet as a backslash and three digits.
+/// Adds an octet as a backslash and three decimal digits (RFC 1035 5.1).
 fn push_digits<A: Allocator>(text: &mut String<A>, octet: u8) -> Result<(), AllocError>
     ensures { OnOk result (string_bytes text.new ≡ string_bytes text.old ++ digits octet) }
 {
@@ -16,7 +16,8 @@ fn push_digits<A: Allocator>(text: &mut String<A>, octet: u8) -> Result<(), Allo
     text.push(char::from(b'0' + octet % 10))
 }
 
-/// Adds an octet of a label.
+/// Adds an octet of a label: a dot and a backslash after a backslash, one outside 33 to 126 as
+/// digits.
 fn push_octet<A: Allocator>(text: &mut String<A>, octet: u8) -> Result<(), AllocError>
     ensures { OnOk result (string_bytes text.new ≡ string_bytes text.old ++ octet_text octet) }
 {
@@ -30,7 +31,7 @@ fn push_octet<A: Allocator>(text: &mut String<A>, octet: u8) -> Result<(), Alloc
     push_digits(text, octet)
 }
 
-/// Adds a label and the dot behind it.
+/// Adds the text of a label, and a dot.
 pub(crate) fn push_label<A: Allocator>(text: &mut String<A>, label: &[u8]) -> Result<(), AllocError>
     ensures { OnOk result (string_bytes text.new ≡ string_bytes text.old ++ label_text label.now) }
 {

@@ -117,7 +117,7 @@ first_spelled octets t [] x s link e = s
 first_spelled octets t (d ∷ ds) x s link e = plain_alias d
     (rw link.alias at (link.set.plain d (rw e (inl refl))))
 
--- past one more link stands a name again
+-- past one more link there is a name again
 pub link_spelled : (octets : List ℕ) (x : RrSetData) → SpellsName octets → IsLawfulLink x
     → SpellsName (first_or octets x.rdatas)
 link_spelled octets x s link = first_spelled octets CNAME x.rdatas x s link refl

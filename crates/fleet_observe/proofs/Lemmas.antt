@@ -25,7 +25,7 @@ then_assoc Less b c = refl
 then_assoc Equal b c = refl
 then_assoc Greater b c = refl
 
--- a kind is told by its number
+-- a number has one kind
 pub kind_exact : (k j : Kind) → kind_number k ≡ kind_number j → k ≡ j
 kind_exact NameError NameError e = refl
 kind_exact NameError NoData e = absurd (omega (arith, e))
@@ -44,7 +44,7 @@ kind_exact Flush NoData e = absurd (omega (arith, e))
 kind_exact Flush Positive e = absurd (omega (arith, e))
 kind_exact Flush Flush e = refl
 
--- a key tells name, kind and type
+-- a key determines name, kind and type
 pub key_exact : (n m : List (List ℕ)) (k j : Kind) (r q : ℕ) → key_at n k r ≡ key_at m j q
     → (n ≡ m) × (k ≡ j) × (r ≡ q)
 key_exact n m k j r q e =

@@ -119,7 +119,7 @@ one_end r n (WithoutName x) (WithoutName y) p q = ap (λ (z : Option SoaData). W
 one_end r n (WithoutData x) (WithoutName y) p q = absurd (codes_apart r.header.rcode p.1 q.1)
 one_end r n (WithoutName x) (WithoutData y) p q = absurd (codes_apart r.header.rcode q.1 p.1)
 
--- the three ways of telling
+-- the three ways in which a reply ends
 data Telling (r : MessageData) (chain : List RrSetData) (e : EndData) : Type 0 where
   walks : TellsWalk r chain e → Telling r chain e
   refuses : (r.header.tc ≡ false) → (¬ (r.header.rcode ≡ 0)) → (¬ (r.header.rcode ≡ 3))

@@ -15,7 +15,7 @@ use Rattle.fleet_observe.specs.Body.{octets_with_length, negative_body}
 use Rattle.fleet_observe.specs.Observation.{ObservationData, expires, kind_number}
 use Rattle.fleet_observe.specs.Preference.{octets_cmp, name_cmp, preference}
 
--- parts of one length, and what stands behind them
+-- parts of one length, and what follows them
 pub cmp_split : (xs ys s t : List ℕ) → length xs ≡ length ys
     → octets_cmp (xs ++ s) (ys ++ t) ≡ ordering_then (octets_cmp xs ys) (octets_cmp s t)
 cmp_split [] [] s t n = refl
@@ -54,7 +54,7 @@ same_length n m Less e r s f = refl
 same_length n m Equal e r s f = f (ranked n m Equal e)
 same_length n m Greater e r s f = refl
 
--- octets behind their number, and what stands behind them
+-- octets after their length, and what follows them
 pub sized_split : (xs ys s t : List ℕ) → octets_cmp (octets_with_length xs ++ s)
     (octets_with_length ys ++ t) ≡ ordering_then (nat_cmp (length xs) (length ys))
     (ordering_then (octets_cmp xs ys) (octets_cmp s t))
@@ -71,7 +71,7 @@ sized_cmp xs ys =
     cmp_split (u16_octets (length xs)) (u16_octets (length ys)) xs ys refl
     ∙ ap (λ o. ordering_then o (octets_cmp xs ys)) (u16_cmp (length xs) (length ys))
 
--- what stands behind sized octets decides only where these are equal
+-- what follows octets after their length decides only where these are equal
 pub sized_first : (xs ys s t : List ℕ) → octets_cmp (octets_with_length xs ++ s)
     (octets_with_length ys ++ t) ≡ ordering_then (octets_cmp (octets_with_length xs)
     (octets_with_length ys)) (octets_cmp s t)

@@ -87,7 +87,7 @@ pub path_more : (s : List RecordData) (t : ℕ) (n m : List (List ℕ)) (before 
 path_more s t n m [] p on = (on, tt)
 path_more s t n m (k ∷ before) p on = (p.0, path_more s t k m before p.1 on)
 
--- a path from n to where the walk stands now
+-- a path from n to where the walk is now
 pub record IsReached (s : List RecordData) (t : ℕ) (n : List (List ℕ)) (count : ℕ)
     (at : List (List ℕ)) : Type 0 where
   pub before : List (List (List ℕ))
@@ -128,7 +128,7 @@ pub reached_long : (s : List RecordData) (t : ℕ) (n : List (List ℕ)) (count 
     (at : List (List ℕ)) → IsReached s t n count at → MOST_LINKS < count → ¬ HasWalk s t n
 reached_long s t n count at r long = long_stops s t n r.before r.path (omega (arith, r.counted))
 
--- a path from n to where the walk stands now, with the links' RRsets
+-- a path from n to where the walk is now, with the links' RRsets
 pub record IsLinked (s : List RecordData) (t : ℕ) (n : List (List ℕ)) (chain : List RrSetData)
     (at : List (List ℕ)) : Type 0 where
   pub later : List (List (List ℕ))

@@ -1,4 +1,4 @@
--- The octets of bodies, and which of them are lawful. All numbers have two octets, the high one
+-- The octets of bodies, and what makes them lawful. All numbers have two octets, the high one
 -- first.
 -- Serves `Observation::positive`, `Observation::negative`, `rdatas`, `soa`.
 use Rattle.std.specs.Prelude.{◌≡◌, ◌≢◌, ◌≤◌, List, [], ◌++◌, length}
@@ -12,15 +12,15 @@ use Rattle.fleet_wire.specs.declared.rtype.TheConstants.{CNAME, SOA}
 use Rattle.fleet_observe.specs.Members.{Has, IsAscending}
 use Rattle.fleet_observe.specs.declared.bounds.TheConstants.{LONGEST_BODY}
 
--- octets behind their number
+-- octets after their length
 abbrev pub octets_with_length : OctetList → OctetList
 octets_with_length octets = u16_octets (length octets) ++ octets
 
--- RDATAs: how many, and each behind its length
+-- RDATAs: how many, and each after its length
 abbrev pub positive_body : List OctetList → OctetList
 positive_body rdatas = u16_octets (length rdatas) ++ flat_map octets_with_length rdatas
 
--- the SOA of a denial: its owner in full, and its RDATA behind its length
+-- the SOA of a denial: its owner in full, and its RDATA after its length
 abbrev pub negative_body : Labels → OctetList → OctetList
 negative_body owner rdata = wire owner ++ octets_with_length rdata
 
@@ -34,8 +34,7 @@ pub record AreRdatas (rtype : RType) (rdatas : List OctetList) : Type 0 where
   pub alone : rtype ≡ CNAME → length rdatas ≡ 1
   pub short : length (positive_body rdatas) ≤ LONGEST_BODY
 
--- the SOA record that stands for a denial of the name: its owner is the name or an ancestor
--- (RFC 2308 5)
+-- an SOA record that can deny the name: its owner is the name or an ancestor (RFC 2308 5)
 pub record IsDenial (name owner : Labels) (rdata : OctetList) : Type 0 where
   pub named : IsName owner
   pub under : IsUnder name owner

@@ -1,4 +1,4 @@
--- What the values of an observation have to meet, and which of them fails first.
+-- What the values of an observation have to meet, and which check fails first.
 -- Serves `Observation::positive`, `Observation::negative`, and what reads frames.
 use Rattle.std.specs.Prelude.{◌≡◌, ℕ, ◌<◌, List, Option, Some, None, unwrap_or}
 use Rattle.fleet_name.specs.Types.{Labels, OctetList}

@@ -22,7 +22,7 @@ pub data EndData : Type 0 where
   WithCode : ℕ → EndData
   CutOff : EndData
 
--- what a reply tells
+-- what a reply means
 pub record DigestData : Type 0 where
   pub name : Labels
   pub rtype : RType

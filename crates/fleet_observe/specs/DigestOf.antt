@@ -41,7 +41,7 @@ IsWalkable r = HasWalk r.answer r.question.rtype r.question.name
 abbrev pub IsSound : MessageData → Type 0
 IsSound r = IsServed r × (AsksWalk r → IsWalkable r)
 
--- why there is no digest, the first reason: want of memory only where nothing is wrong with the
+-- why there is no digest, the first reason: out of memory only where nothing is wrong with the
 -- reply
 pub data IsFault (r : MessageData) (f : DigestFault) : Type 0 where
   not_reply : ¬ IsServed r → f ≡ NotReply → IsFault r f
@@ -145,7 +145,7 @@ pub record AreNsSets (q : Labels) (s : List RecordData) (sets : List RrSetData) 
     pub owners : AreOwners q [] s (owners_of sets)
     pub each : (x : RrSetData) → Has sets x → IsRrSet s x.name NS x
 
--- whether the authority section of a reply is told at all
+-- the NS RRsets of the authority section count
 pub record HasAuthority (r : MessageData) : Type 0 where
   pub whole : r.header.tc ≡ false
   pub aa : r.header.aa ≡ true
@@ -165,7 +165,7 @@ pub record IsDigest (r : MessageData) (d : DigestData) : Type 0 where
   pub tells : Tells r d.chain d.end
   pub authority : IsAuthority r d.ns
 
--- nothing is wrong with a reply that means something, so none of its faults is told
+-- nothing is wrong with a reply that has a digest, so it has no fault but out of memory
 abbrev pub DigestOrFault : Type 0
 DigestOrFault =
     (r : MessageData) (d : DigestData) (f : DigestFault) → IsDigest r d → IsFault r f

@@ -1,4 +1,4 @@
--- What lists have in them, and lists of octets in ascending order.
+-- Distinct members of lists, and lists of octets in ascending order.
 -- Serves every module below.
 use Rattle.std.specs.Prelude.{◌≡◌, List, [], ◌∷◌}
 use Rattle.std.specs.declared.cmp.Ordering.TheVariants.{Less}
@@ -12,7 +12,7 @@ abbrev pub AllDistinct : {X : Type 0} → List X → Type 0
 AllDistinct [] = Unit {0}
 AllDistinct (x ∷ xs) = (Has xs x → ⊥) × AllDistinct xs
 
--- each stands before all greater ones and none stands twice: as octets, a proper prefix first
+-- each comes before all greater ones and none comes twice: as octets, a proper prefix first
 abbrev pub IsAscending : List OctetList → Type 0
 IsAscending [] = Unit {0}
 IsAscending (x ∷ xs) = ((y : OctetList) → Has xs y → slice_cmp nat_cmp x y ≡ Less) × IsAscending xs

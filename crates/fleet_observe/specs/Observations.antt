@@ -113,7 +113,7 @@ OneObserved =
     (r : MessageData) (stamp : Seconds) (a b : Observations) → IsObserved r stamp a
     → IsObserved r stamp b → a ≡ b
 
--- and in that list each observation stands once
+-- and in that list each observation comes once
 abbrev pub EachOnce : Type 0
 EachOnce =
     (r : MessageData) (stamp : Seconds) (os : Observations) → IsObserved r stamp os

@@ -1,4 +1,4 @@
--- What a waiting client is told of a reply.
+-- The reply to a waiting client, as an outline.
 -- Serves `relay`.
 use Rattle.std.specs.Prelude.{◌≡◌, ℕ, ◌<◌, length, take, Bool, true, false, List, [], ◌∷◌, ◌++◌, map, Option, Some, None}
 use Rattle.std.specs.List.{flat_map}
@@ -68,8 +68,8 @@ relay_outline d q id rd = record {
 abbrev pub with_answer_lines : OutlineData → List RecordData → OutlineData
 with_answer_lines o rs = record o { answer = o.answer ++ rs }
 
--- at the end of the answer section stand the first so many of these records, not all of them, and
--- all else is as it was
+-- the answer section has a number of the first of these records, not all, at its end, and all else
+-- is as it was
 abbrev pub HasFirstOf : OutlineData → List RecordData → OutlineData → Type 0
 HasFirstOf old rs new = (n : ℕ) × (n < length rs) × (new ≡ with_answer_lines old (take n rs))
 

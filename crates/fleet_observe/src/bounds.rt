@@ -1,16 +1,17 @@
-//! The bounds of what is observed.
+//! The bounds of observations.
 
-/// The longest life, and the greatest TTL as it is read, in seconds: a day. A flush has it.
+/// The longest life of an observation, and the greatest TTL as it is read, in seconds: a day. A
+/// flush has this life.
 pub const LONGEST_LIFE: u32 = 86400;
 
 /// The longest life of a denial, in seconds: three hours (RFC 2308 5).
 pub const LONGEST_DENIAL: u32 = 10800;
 
-/// How many octets the body of a positive observation has at most.
+/// The most octets of the body of a positive observation.
 pub const LONGEST_BODY: usize = 8192;
 
-/// The latest moment, in seconds.
+/// The latest moment, in seconds: 2^40.
 pub const LATEST: u64 = 1 << 40;
 
-/// How many links a walk, or an answer, has at most.
+/// The most links, CNAME records, of a walk and of an answer.
 pub const MOST_LINKS: usize = 8;

@@ -1,4 +1,4 @@
-//! Laws of what replies tell. These functions do nothing when run.
+//! Laws of what replies mean. Each function does nothing: its contract is the law.
 
 ghost use Rattle.fleet_observe.specs.Observation.{OneKey};
 ghost use Rattle.fleet_observe.specs.Walk.{OneWalk};
@@ -10,7 +10,7 @@ pub fn one_key()
     ensures { OneKey }
 {}
 
-/// There is one walk at most.
+/// From a name there is one walk at most.
 pub fn one_walk()
     ensures { OneWalk }
 {}
@@ -21,14 +21,13 @@ pub fn one_digest()
     ensures observed { OneObserved }
 {}
 
-/// Nothing is wrong with a reply that means something: a reply has a meaning or a fault, and not
-/// both.
+/// A reply with a digest has no fault but `OutOfMemory`.
 pub fn digest_or_fault()
     ensures sound { MeaningIsSound }
     ensures fault { DigestOrFault }
 {}
 
-/// The observations of a reply at a moment come each once: no two of them are equal.
+/// No two observations of a reply at a moment are equal.
 pub fn each_once()
     ensures { EachOnce }
 {}

@@ -1,14 +1,16 @@
-//! What replies tell: the walk along aliases, how it ends, and observations of names, their order,
+//! What replies mean: the walk along aliases, how it ends, and observations of names, their order,
 //! and the octets of their bodies.
 #![tactic(auto)]
 
 pub mod bounds;
+mod items;
 mod laws;
 mod observation;
 pub mod rank;
 mod reply;
 
 pub use bounds::{LONGEST_BODY, LONGEST_DENIAL, LONGEST_LIFE};
+pub use items::Items;
 pub use laws::{digest_or_fault, each_once, one_digest, one_key, one_walk};
 pub use observation::Observation;
 pub use observation::fault::ObservationFault;
@@ -20,7 +22,6 @@ pub use observation::values::{is_count_of, is_data_type, is_life_of, is_rank_of,
 pub use reply::digest;
 pub use reply::ending::{DigestFault, End};
 pub use reply::observations::observations;
-pub use reply::rdatas::Rdatas;
 pub use reply::relay::relay;
 pub use reply::rows::{Rows, add_rows, add_soa};
 pub use reply::rrset::RrSet;

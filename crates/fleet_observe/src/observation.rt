@@ -57,9 +57,9 @@ impl<A: Allocator> Model for Observation<A> {
 impl<A: Allocator> Observation<A> {
     /// The RDATAs that a name has of a type.
     ///
-    /// The rank is 1, 2 or 3, the life 1 to `LONGEST_LIFE` seconds, and the RDATAs stand in
-    /// strictly ascending order, as octets, a proper prefix first. The errors come in the order of
-    /// `ObservationFault`, and what was handed in is then dropped. This takes no memory.
+    /// The rank is 1, 2 or 3, the life 1 to `LONGEST_LIFE` seconds, and the RDATAs are in strictly
+    /// ascending order, as octets, a proper prefix first. The errors come in the order of
+    /// `ObservationFault`; the arguments are then dropped. This allocates nothing.
     pub fn positive(
         name: Name<A>,
         rtype: u16,
@@ -111,8 +111,8 @@ impl<A: Allocator> Observation<A> {
     /// an SOA.
     ///
     /// The rank is 1 or 3 and the life 1 to `LONGEST_DENIAL` seconds (RFC 2308 5). The SOA's TTL is
-    /// not kept. The errors come in the order of `ObservationFault`, and what was handed in is then
-    /// dropped. This takes no memory.
+    /// not kept. The errors come in the order of `ObservationFault`; the arguments are then
+    /// dropped. This allocates nothing.
     pub fn negative(
         name: Name<A>,
         rtype: Option<u16>,
@@ -163,7 +163,7 @@ impl<A: Allocator> Observation<A> {
 
     /// That what was observed of a name, and of those below it, up to a moment is withdrawn. It has
     /// the greatest rank and the longest life, so that it outlives all that it withdraws, and an
-    /// empty body. This takes no memory.
+    /// empty body. This allocates nothing.
     pub fn flush(name: Name<A>, stamp: Moment) -> Observation<A>
         ensures { result ≡ flush_at name stamp }
     {
@@ -189,7 +189,7 @@ impl<A: Allocator> Observation<A> {
         &self.name
     }
 
-    /// What it tells of the name.
+    /// What it says of the name.
     pub fn kind(&self) -> Kind
         ensures value { result ≡ self.now.kind }
         ensures lawful { IsObservation self.now }
@@ -197,7 +197,7 @@ impl<A: Allocator> Observation<A> {
         self.kind
     }
 
-    /// The type of the data that are there or not there, 0 for a name error and a flush.
+    /// The type of the data that exist or do not; 0 for a name error and a flush.
     pub fn rtype(&self) -> u16
         ensures value { result ≡ self.now.rtype }
         ensures lawful { IsObservation self.now }
@@ -205,7 +205,7 @@ impl<A: Allocator> Observation<A> {
         self.rtype
     }
 
-    /// How far it is to be trusted: 1, 2 or 3 (after RFC 2181 5.4.1).
+    /// How far it is trusted: 1, 2 or 3, the greatest first (after RFC 2181 5.4.1).
     pub fn rank(&self) -> u8
         ensures value { result ≡ self.now.rank }
         ensures lawful { IsObservation self.now }
@@ -221,7 +221,7 @@ impl<A: Allocator> Observation<A> {
         self.stamp
     }
 
-    /// For how long it holds, in seconds.
+    /// For how long it holds from its stamp on, in seconds: 1 to `LONGEST_LIFE`.
     pub fn life(&self) -> u32
         ensures value { result ≡ self.now.life }
         ensures lawful { IsObservation self.now }
@@ -229,7 +229,8 @@ impl<A: Allocator> Observation<A> {
         self.life
     }
 
-    /// The second at which it ends: its stamp and its life. It may pass the latest moment.
+    /// The moment at which it ends, in seconds: its stamp plus its life. It may be later than
+    /// `LATEST`.
     pub fn expires(&self) -> u64
         ensures value { result ≡ end_of self.now }
         ensures lawful { IsObservation self.now }
@@ -237,7 +238,7 @@ impl<A: Allocator> Observation<A> {
         self.stamp.value() + self.life as u64
     }
 
-    /// The RDATAs of a positive observation, ascending; none of another.
+    /// The RDATAs of a positive observation, ascending; empty for the other kinds.
     pub fn rdatas(&self) -> &[Octets<A>]
         ensures body { self.now.kind ≡ Positive → self.now.body ≡ positive_body result.now }
         ensures rdatas { self.now.kind ≡ Positive → AreRdatas self.now.rtype result.now }
@@ -251,7 +252,8 @@ impl<A: Allocator> Observation<A> {
         }
     }
 
-    /// The owner and the RDATA of the SOA that a negative observation rests on; `None` of another.
+    /// The owner and the RDATA of the SOA that a negative observation rests on; `None` for the
+    /// other kinds.
     pub fn soa(&self) -> Option<(&Name<A>, &[u8])>
         ensures cases { MatchOption result (¬ IsNegativeKind self.now.kind)
             (λ p. IsNegativeKind self.now.kind) }
@@ -274,17 +276,18 @@ impl<A: Allocator> Observation<A> {
         self.body.len()
     }
 
-    /// Adds the octets of its body to others: those that `write_body` writes. Where there is no
-    /// memory for them, some may have been added.
+    /// Appends the octets of its body, those of `write_body`. `Err` where an allocation fails; some
+    /// of them may then have been appended.
     pub fn append_body<B: Allocator>(&self, octets: &mut Vec<u8, B>) -> Result<(), AllocError>
         ensures { OnOk result (octets.new.items ≡ octets.old.items ++ self.now.body) }
     {
         self.body.push_to(octets)
     }
 
-    /// The octets of its body, of a positive observation the RDATAs: their count, then each behind
-    /// its length; of a negative one the SOA: its owner in full, then its RDATA behind its length;
-    /// of a flush none. Counts and lengths have two octets, the high one first.
+    /// The octets of its body. A positive observation has its RDATAs: their count, then each after
+    /// its length. A negative one has the SOA: its owner in full, then its RDATA after its length.
+    /// A flush has none. Counts and lengths have two octets, the high one first. `Err` where an
+    /// allocation fails.
     pub fn write_body<B: Allocator>(&self, alloc: B) -> Result<Vec<u8, B>, AllocError>
         ensures { IfOk result (λ v. v.items ≡ self.now.body) }
     {
@@ -293,7 +296,7 @@ impl<A: Allocator> Observation<A> {
         Ok(octets)
     }
 
-    /// A copy of it.
+    /// A copy of the observation. `Err` where an allocation fails.
     pub fn try_clone(&self) -> Result<Observation<A>, AllocError>
     where
         A: Copy,
@@ -313,7 +316,7 @@ impl<A: Allocator> Observation<A> {
     }
 }
 
-/// The kind of a denial of a type, or of all of them.
+/// The kind of a denial: `NoData` of a type, `NameError` without one.
 fn kind_of_denial(rtype: Option<u16>) -> Kind
     ensures { result ≡ denied_kind rtype }
 {

@@ -1,4 +1,4 @@
-//! What a reply tells: its digest, the observations that it makes, and how it is relayed.
+//! What a reply means: its digest, the observations that it makes, and how it is relayed.
 
 ghost use Rattle.std.specs.Prelude.{◌≡◌, ◌↔◌, ℕ, ◌⊎◌, IsTrue, MatchResult};
 ghost use Rattle.fleet_wire.specs.declared.rcode.TheConstants.{NAME_ERROR, NO_ERROR};
@@ -9,7 +9,6 @@ pub(crate) mod denial;
 pub(crate) mod ending;
 pub(crate) mod names;
 pub(crate) mod observations;
-pub(crate) mod rdatas;
 pub(crate) mod relay;
 pub(crate) mod rows;
 pub(crate) mod rrset;
@@ -43,7 +42,7 @@ fn is_served<A: Allocator>(message: &Message<A>) -> bool
     is_data_type(question.rtype)
 }
 
-/// Whether the code leaves the answer to the walk.
+/// Whether the RCODE is 0 or 3, so that the walk decides what the reply means.
 fn is_answered(rcode: u8) -> bool
     ensures { IsTrue result ↔ ((rcode ≡ NO_ERROR) ⊎ (rcode ≡ NAME_ERROR)) }
 {
@@ -53,7 +52,7 @@ fn is_answered(rcode: u8) -> bool
     rcode == NAME_ERROR
 }
 
-/// What a reply tells (RFC 1034 3.6.2, RFC 2308 2): the walk from the question's name along aliases
+/// What a reply means (RFC 1034 3.6.2, RFC 2308 2): the walk from the question's name along aliases
 /// in the answer section, how it ends, the SOA of a denial, and the NS RRsets that the reply is an
 /// authority for.
 ///
@@ -61,8 +60,8 @@ fn is_answered(rcode: u8) -> bool
 ///
 /// In this order: `NotReply` where it is no reply or one to a question that is not served;
 /// `BadChain` where a walk is asked for (TC clear, RCODE 0 or 3) and there is none: aliases that
-/// fork or loop, or a ninth link; `OutOfMemory`, of a reply with neither of these faults. Each
-/// digest copies the question's name.
+/// fork or loop, or a ninth link; `OutOfMemory` where an allocation fails and the reply has neither
+/// of these faults. Each digest copies the question's name.
 pub fn digest<A: Allocator + Copy>(alloc: A, message: &Message<A>) -> Result<Digest<A>, DigestFault>
     ensures { MatchResult result (IsDigest message.now) (IsFault message.now) }
 {

@@ -25,7 +25,7 @@ counts_due moment e d = ap (λ b. cond b 1 0) (le-leb e.deadline moment d)
 counts_later : (moment : ℕ) (e : EntryData) → moment < e.deadline → counts moment e ≡ 0
 counts_later moment e d = ap (λ b. cond b 1 0) (lt-leb e.deadline moment d)
 
--- what stands at a place counts
+-- what is at an index counts
 counted_at : (moment : ℕ) (es : List EntryData) (i : ℕ) (e : EntryData) → At es i e
     → e.deadline ≤ moment → 0 < due_in moment es
 counted_at moment es i e t d =

@@ -120,24 +120,24 @@ same_keeps o i e f h t p =
 pub joins_keeps : (o : PendingData) (i : ℕ) (e f : EntryData) (w : WaiterData)
     (r : Result Asked PendingFault) → IsPendingData o → At o.entries i e → AsksFor w.question e
     → Joins e w r f → IsPendingData (record o { entries = slice_set o.entries i f })
-joins_keeps o i e f w r h t a (waits_already waits told same) = same_keeps o i e f h t same
-joins_keeps o i e f w r h t a (waits_too new few told more) =
+joins_keeps o i e f w r h t a (waits_already waits result_is same) = same_keeps o i e f h t same
+joins_keeps o i e f w r h t a (waits_too new few result_is more) =
     let k : IsEntryData f = subst IsEntryData (sym more)
     (join_is_open e w (h.open_ones i e t) a new few) in
     set_keeps o i e f h t (ap (λ x. x.id) more) (ap (λ x. x.name) more) (ap (λ x. x.rtype) more) k
     (subst (λ x. x.upstream < o.upstreams) (sym more) (h.asking i e t))
-joins_keeps o i e f w r h t a (no_place new many told same) = same_keeps o i e f h t same
-joins_keeps o i e f w r h t a (no_memory_for_place new few told same) =
+joins_keeps o i e f w r h t a (no_place new many result_is same) = same_keeps o i e f h t same
+joins_keeps o i e f w r h t a (no_memory_for_place new few result_is same) =
     same_keeps o i e f h t same
 
 pub opens_keeps : (o : PendingData) (w : WaiterData) (moment word : ℕ)
     (r : Result Asked PendingFault) (fs : List EntryData) → IsPendingData o
     → NoneIs (AsksFor w.question) o.entries → Opens o.entries w moment word r fs
     → IsPendingData (record o { entries = fs })
-opens_keeps o w moment word r fs h n (is_sent id few free told more) =
+opens_keeps o w moment word r fs h n (is_sent id few free result_is more) =
     subst (λ xs. IsPendingData (record o { entries = xs })) (sym more)
     (push_keeps o (new_entry w moment id) h free.free n few (new_is_open w moment id) h.some)
-opens_keeps o w moment word r fs h n (no_room many told same) =
+opens_keeps o w moment word r fs h n (no_room many result_is same) =
     subst (λ xs. IsPendingData (record o { entries = xs })) (sym same) h
-opens_keeps o w moment word r fs h n (no_memory_for_room few told same) =
+opens_keeps o w moment word r fs h n (no_memory_for_room few result_is same) =
     subst (λ xs. IsPendingData (record o { entries = xs })) (sym same) h

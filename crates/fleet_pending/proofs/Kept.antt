@@ -79,23 +79,23 @@ join_step test es i moment word e f w r t j = go j
 
     kept : (x : Result Asked PendingFault) → accepted test w moment word x ≡ 0 → r ≡ x → f ≡ e
         → in_all test es + accepted test w moment word r ≡ in_all test (slice_set es i f)
-    kept x none told same =
-        let a = ap (accepted test w moment word) told in
+    kept x none result_is same =
+        let a = ap (accepted test w moment word) result_is in
         let d : count_by test f.waiters ≡ count_by test e.waiters =
         ap (λ v. count_by test v.waiters) same in
         omega (arith, s, a, d, none)
 
     go : Joins e w r f
         → in_all test es + accepted test w moment word r ≡ in_all test (slice_set es i f)
-    go (waits_already waits told same) = kept (Ok Again) refl told same
-    go (waits_too new few told more) =
-        let k = ap (accepted test w moment word) told in
+    go (waits_already waits result_is same) = kept (Ok Again) refl result_is same
+    go (waits_too new few result_is more) =
+        let k = ap (accepted test w moment word) result_is in
         let d : count_by test f.waiters ≡ count_by test (e.waiters ++ w ∷ []) =
         ap (λ v. count_by test v.waiters) more in
         let a = count-append test e.waiters (w ∷ []) in
         omega (arith, s, k, d, a)
-    go (no_place new many told same) = kept (Err WaitersFull) refl told same
-    go (no_memory_for_place new few told same) = kept (Err OutOfMemory) refl told same
+    go (no_place new many result_is same) = kept (Err WaitersFull) refl result_is same
+    go (no_memory_for_place new few result_is same) = kept (Err OutOfMemory) refl result_is same
 
 open_step : (test : WaiterData → Bool) (es fs : List EntryData) (moment word : ℕ) (w : WaiterData)
     (r : Result Asked PendingFault) → Opens es w moment word r fs
@@ -104,21 +104,21 @@ open_step test es fs moment word w r j = go j
   where
     kept : (x : Result Asked PendingFault) → accepted test w moment word x ≡ 0 → r ≡ x → fs ≡ es
         → in_all test es + accepted test w moment word r ≡ in_all test fs
-    kept x none told same =
-        let a = ap (accepted test w moment word) told in
+    kept x none result_is same =
+        let a = ap (accepted test w moment word) result_is in
         let d : in_all test fs ≡ in_all test es = ap (in_all test) same in
         omega (arith, a, d, none)
 
     go : Opens es w moment word r fs
         → in_all test es + accepted test w moment word r ≡ in_all test fs
-    go (is_sent id few free told more) =
-        let k = ap (accepted test w moment word) told in
+    go (is_sent id few free result_is more) =
+        let k = ap (accepted test w moment word) result_is in
         let s = count_push test es (new_entry w moment id) in
         let d : in_all test fs ≡ in_all test (es ++ new_entry w moment id ∷ []) =
         ap (in_all test) more in
         omega (arith, k, s, d)
-    go (no_room many told same) = kept (Err Full) refl told same
-    go (no_memory_for_room few told same) = kept (Err OutOfMemory) refl told same
+    go (no_room many result_is same) = kept (Err Full) refl result_is same
+    go (no_memory_for_room few result_is same) = kept (Err OutOfMemory) refl result_is same
 
 abbrev all_open : (WaiterData → Bool) → PendingData → ℕ
 all_open test o = count_by test (open_waiters o)

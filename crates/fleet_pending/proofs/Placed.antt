@@ -1,4 +1,4 @@
--- What stands where in a list.
+-- Members of a list by their index.
 use Rattle.std.proofs.Common.{◌≡◌, ℕ, zero, suc, ◌+◌, ◌<◌, ◌≤◌, ◌⊎◌, inl, inr, List, [], ◌∷◌, ◌++◌, Some, None, length, slice_set, get_or, refl, sym, ◌∙◌, ap, subst, arith, ◌≢◌}
 use Rattle.std.specs.List.{remove}
 use Rattle.std.proofs.lemmas.Option.{slice_get_within, same_Some}
@@ -10,7 +10,7 @@ use Rattle.fleet_name.specs.Places.{At, NoneIs, NoTwo, IsPlace}
 abbrev pub NoneBefore : {X : Type 0} → (X → Type 0) → List X → ℕ → Type 0
 NoneBefore {X} P xs n = (i : ℕ) (x : X) → i < n → At xs i x → P x → ⊥
 
--- what stands in a list with one more
+-- the members of a list with one more
 pub at_push : {X : Type 0} (xs : List X) (j : ℕ) (y x : X) → At (xs ++ y ∷ []) j x
     → At xs j x ⊎ ((j ≡ length xs) × (x ≡ y))
 at_push [] zero y x h = inr (refl, sym (same_Some y x h))
@@ -19,7 +19,7 @@ at_push (z ∷ xs) zero y x h = inl h
 at_push (z ∷ xs) (suc j) y x h =
     elim (at_push xs j y x h) [ inl p ↦ inl p | inr p ↦ inr (ap (λ n. suc n) p.0, p.1) ]
 
--- what is left after one is taken out stood before it or after it
+-- what is left after one is taken out was before it or after it
 pub at_remove : {X : Type 0} (xs : List X) (i j : ℕ) (x : X) → At (remove xs i) j x
     → (k : ℕ) × At xs k x × (j < i → k ≡ j) × (i ≤ j → k ≡ j + 1)
 at_remove [] zero j x h = absurd (let e : None ≡ Some x = h in cc)
@@ -35,7 +35,7 @@ at_remove (z ∷ xs) (suc i) (suc j) x h =
           r.0 ≡ j + 1 = r.3 (omega arith) in omega arith,
     )
 
--- one that stands elsewhere is left
+-- one at another index is left
 pub at_left : {X : Type 0} (xs : List X) (i j : ℕ) (x : X) → At xs j x → j ≢ i
     → (k : ℕ) × At (remove xs i) k x
 at_left [] i j x h n = absurd (let e : None ≡ Some x = h in cc)
@@ -85,7 +85,7 @@ no_two_remove Alike xs i h j k a b p q s =
         let u = e x in let v = f y in absurd (omega (arith, q, u, v))
     back m n q d e f g (inr x) (inr y) = let u = e x in let v = g y in omega (arith, q, u, v)
 
--- none at all, where none of so many
+-- none at all, where none of the first `n`, and there are no more
 pub none_is : {X : Type 0} (P : X → Type 0) (xs : List X) (n : ℕ)
     → length xs ≤ n → NoneBefore P xs n → NoneIs P xs
 none_is P xs n l h i x a p =

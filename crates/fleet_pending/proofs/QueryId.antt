@@ -6,7 +6,7 @@ use Rattle.fleet_pending.specs.Waiter.{WaiterData}
 use Rattle.fleet_pending.specs.FreeId.{IsFirstFree}
 use Rattle.fleet_pending.specs.PendingData.{EntryData}
 use Rattle.fleet_pending.specs.Asking.{Joins, waits_already, waits_too, no_place, no_memory_for_place, Opens, is_sent, no_room, no_memory_for_room, joins, opens}
-use Rattle.fleet_pending.specs.QueryId.{AskedUnderIdTold}
+use Rattle.fleet_pending.specs.QueryId.{AsksUnderQueryId}
 use Rattle.fleet_pending.specs.declared.answer.Asked.{Asked}
 use Rattle.fleet_pending.specs.declared.answer.Asked.TheVariants.{Send}
 use Rattle.fleet_pending.specs.declared.answer.PendingFault.{PendingFault}
@@ -34,34 +34,34 @@ same_id word a b es x y =
 opens_under : (es fs : List EntryData) (w : WaiterData) (moment word id : ℕ)
     (r : Result Asked PendingFault) → length es < MOST_ENTRIES → IsFirstFree word es id
     → Opens es w moment word r fs → (r ≡ Ok (Send 0 id)) ⊎ (r ≡ Err OutOfMemory)
-opens_under es fs w moment word id r l first (is_sent k few free told more) =
-    inl (told ∙ ap (λ x. Ok (Send 0 x)) (same_id word k id es free first))
-opens_under es fs w moment word id r l first (no_room many told same) =
+opens_under es fs w moment word id r l first (is_sent k few free result_is more) =
+    inl (result_is ∙ ap (λ x. Ok (Send 0 x)) (same_id word k id es free first))
+opens_under es fs w moment word id r l first (no_room many result_is same) =
     absurd (omega (arith, l, many))
-opens_under es fs w moment word id r l first (no_memory_for_room few told same) = inr told
+opens_under es fs w moment word id r l first (no_memory_for_room few result_is same) = inr result_is
 
 joins_unsent : (e f : EntryData) (w : WaiterData) (r : Result Asked PendingFault) → Joins e w r f
     → (u id : ℕ) → r ≢ Ok (Send u id)
-joins_unsent e f w r (waits_already waits told same) u id p = cc
-joins_unsent e f w r (waits_too new few told more) u id p = cc
-joins_unsent e f w r (no_place new many told same) u id p = cc
-joins_unsent e f w r (no_memory_for_place new few told same) u id p = cc
+joins_unsent e f w r (waits_already waits result_is same) u id p = cc
+joins_unsent e f w r (waits_too new few result_is more) u id p = cc
+joins_unsent e f w r (no_place new many result_is same) u id p = cc
+joins_unsent e f w r (no_memory_for_place new few result_is same) u id p = cc
 
 full_unsent : (es fs : List EntryData) (w : WaiterData) (moment word : ℕ)
     (r : Result Asked PendingFault) → MOST_ENTRIES ≤ length es → Opens es w moment word r fs
     → (u id : ℕ) → r ≢ Ok (Send u id)
-full_unsent es fs w moment word r l (is_sent k few free told more) u id p =
+full_unsent es fs w moment word r l (is_sent k few free result_is more) u id p =
     omega (arith, l, few)
-full_unsent es fs w moment word r l (no_room many told same) u id p = cc
-full_unsent es fs w moment word r l (no_memory_for_room few told same) u id p = cc
+full_unsent es fs w moment word r l (no_room many result_is same) u id p = cc
+full_unsent es fs w moment word r l (no_memory_for_room few result_is same) u id p = cc
 
-pub asked_under_id_told : AskedUnderIdTold
-asked_under_id_told o n w moment word (Some id) r t (joins i e f at a j q) =
+pub asks_under_query_id : AsksUnderQueryId
+asks_under_query_id o n w moment word (Some id) r t (joins i e f at a j q) =
     absurd (t.0 i e at a)
-asked_under_id_told o n w moment word (Some id) r t (opens fs a j q) =
+asks_under_query_id o n w moment word (Some id) r t (opens fs a j q) =
     opens_under o.entries fs w moment word id r t.1 t.2 j
-asked_under_id_told o n w moment word None r t (joins i e f at a j q) = joins_unsent e f w r j
-asked_under_id_told o n w moment word None r (inl t) (opens fs a j q) =
+asks_under_query_id o n w moment word None r t (joins i e f at a j q) = joins_unsent e f w r j
+asks_under_query_id o n w moment word None r (inl t) (opens fs a j q) =
     absurd (a t.0 t.1.0 t.1.1 t.1.2)
-asked_under_id_told o n w moment word None r (inr t) (opens fs a j q) =
+asks_under_query_id o n w moment word None r (inr t) (opens fs a j q) =
     full_unsent o.entries fs w moment word r t j

@@ -14,45 +14,45 @@ use Rattle.fleet_name.proofs.Lemmas.{at_same}
 -- of an entry that has the question: not full
 join_full : (e f : EntryData) (w : WaiterData) (r : Result Asked PendingFault) → Joins e w r f
     → r ≡ Err Full → ⊥
-join_full e f w r (waits_already waits told same) p = cc
-join_full e f w r (waits_too new few told more) p = cc
-join_full e f w r (no_place new many told same) p = cc
-join_full e f w r (no_memory_for_place new few told same) p = cc
+join_full e f w r (waits_already waits result_is same) p = cc
+join_full e f w r (waits_too new few result_is more) p = cc
+join_full e f w r (no_place new many result_is same) p = cc
+join_full e f w r (no_memory_for_place new few result_is same) p = cc
 
 join_waiters : (e f : EntryData) (w : WaiterData) (r : Result Asked PendingFault) → Joins e w r f
     → r ≡ Err WaitersFull → (Waits w e.waiters → ⊥) × (MOST_WAITERS ≤ length e.waiters)
-join_waiters e f w r (waits_already waits told same) p = cc
-join_waiters e f w r (waits_too new few told more) p = cc
-join_waiters e f w r (no_place new many told same) p = (new, many)
-join_waiters e f w r (no_memory_for_place new few told same) p = cc
+join_waiters e f w r (waits_already waits result_is same) p = cc
+join_waiters e f w r (waits_too new few result_is more) p = cc
+join_waiters e f w r (no_place new many result_is same) p = (new, many)
+join_waiters e f w r (no_memory_for_place new few result_is same) p = cc
 
 join_refused : (e f : EntryData) (w : WaiterData) (r : Result Asked PendingFault) → Joins e w r f
     → (Waits w e.waiters → ⊥) → MOST_WAITERS ≤ length e.waiters → r ≡ Err WaitersFull
-join_refused e f w r (waits_already waits told same) n l = absurd (n waits)
-join_refused e f w r (waits_too new few told more) n l = absurd (omega (arith, few, l))
-join_refused e f w r (no_place new many told same) n l = told
-join_refused e f w r (no_memory_for_place new few told same) n l = absurd (omega (arith, few, l))
+join_refused e f w r (waits_already waits result_is same) n l = absurd (n waits)
+join_refused e f w r (waits_too new few result_is more) n l = absurd (omega (arith, few, l))
+join_refused e f w r (no_place new many result_is same) n l = result_is
+join_refused e f w r (no_memory_for_place new few result_is same) n l = absurd (omega (arith, few, l))
 
 open_full : (es fs : List EntryData) (w : WaiterData) (moment word : ℕ)
     (r : Result Asked PendingFault) → Opens es w moment word r fs → r ≡ Err Full
     → MOST_ENTRIES ≤ length es
-open_full es fs w moment word r (is_sent id few free told more) p = cc
-open_full es fs w moment word r (no_room many told same) p = many
-open_full es fs w moment word r (no_memory_for_room few told same) p = cc
+open_full es fs w moment word r (is_sent id few free result_is more) p = cc
+open_full es fs w moment word r (no_room many result_is same) p = many
+open_full es fs w moment word r (no_memory_for_room few result_is same) p = cc
 
 open_waiters : (es fs : List EntryData) (w : WaiterData) (moment word : ℕ)
     (r : Result Asked PendingFault) → Opens es w moment word r fs → r ≡ Err WaitersFull → ⊥
-open_waiters es fs w moment word r (is_sent id few free told more) p = cc
-open_waiters es fs w moment word r (no_room many told same) p = cc
-open_waiters es fs w moment word r (no_memory_for_room few told same) p = cc
+open_waiters es fs w moment word r (is_sent id few free result_is more) p = cc
+open_waiters es fs w moment word r (no_room many result_is same) p = cc
+open_waiters es fs w moment word r (no_memory_for_room few result_is same) p = cc
 
 open_refused : (es fs : List EntryData) (w : WaiterData) (moment word : ℕ)
     (r : Result Asked PendingFault) → Opens es w moment word r fs → MOST_ENTRIES ≤ length es
     → r ≡ Err Full
-open_refused es fs w moment word r (is_sent id few free told more) l =
+open_refused es fs w moment word r (is_sent id few free result_is more) l =
     absurd (omega (arith, few, l))
-open_refused es fs w moment word r (no_room many told same) l = told
-open_refused es fs w moment word r (no_memory_for_room few told same) l =
+open_refused es fs w moment word r (no_room many result_is same) l = result_is
+open_refused es fs w moment word r (no_memory_for_room few result_is same) l =
     absurd (omega (arith, few, l))
 
 pub refuses_exactly : RefusesExactly

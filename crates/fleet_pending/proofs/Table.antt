@@ -14,11 +14,11 @@ use Rattle.fleet_name.proofs.Lemmas.{at_same}
 use Rattle.fleet_name.proofs.Lemmas.{at_read}
 use Rattle.fleet_pending.proofs.Keeping.{set_keeps, remove_keeps, joins_keeps, opens_keeps, next_is_open}
 
--- a table for so many upstreams
+-- a table for this many upstreams
 abbrev pub table : ℕ → List EntryData → PendingData
 table upstreams es = record { upstreams = upstreams; entries = es }
 
--- an entry that stands at a place, and is like this
+-- an entry at an index, which is like this
 pub record IsAt (P : EntryData → Type 0) (es : List EntryData) (i : ℕ) (e : EntryData) : Type 0
   where
     pub there : At es i e

@@ -9,16 +9,16 @@ use Rattle.fleet_pending.specs.declared.answer.PendingFault.{PendingFault}
 use Rattle.fleet_pending.specs.declared.answer.Unasked.{Unasked}
 
 not_joined : (e f : EntryData) (w : WaiterData) (x : PendingFault) → Joins e w (Err x) f → f ≡ e
-not_joined e f w x (waits_already waits told same) = same
-not_joined e f w x (waits_too new few told more) = cc
-not_joined e f w x (no_place new many told same) = same
-not_joined e f w x (no_memory_for_place new few told same) = same
+not_joined e f w x (waits_already waits result_is same) = same
+not_joined e f w x (waits_too new few result_is more) = cc
+not_joined e f w x (no_place new many result_is same) = same
+not_joined e f w x (no_memory_for_place new few result_is same) = same
 
 not_opened : (es fs : List EntryData) (w : WaiterData) (moment word : ℕ) (x : PendingFault)
     → Opens es w moment word (Err x) fs → fs ≡ es
-not_opened es fs w moment word x (is_sent id few free told more) = cc
-not_opened es fs w moment word x (no_room many told same) = same
-not_opened es fs w moment word x (no_memory_for_room few told same) = same
+not_opened es fs w moment word x (is_sent id few free result_is more) = cc
+not_opened es fs w moment word x (no_room many result_is same) = same
+not_opened es fs w moment word x (no_memory_for_room few result_is same) = same
 
 not_asked : (o n : PendingData) (w : WaiterData) (moment word : ℕ) (x : PendingFault)
     → Asks o w moment word (Err x) n → n ≡ o

@@ -21,12 +21,12 @@ same_from e f w p i v t = inl (i, subst (λ x. At x.waiters i v) p t)
 
 join_from : (e f : EntryData) (w : WaiterData) (r : Result Asked PendingFault) → Joins e w r f
     → From e f w
-join_from e f w r (waits_already waits told same) = same_from e f w same
-join_from e f w r (waits_too new few told more) =
+join_from e f w r (waits_already waits result_is same) = same_from e f w same
+join_from e f w r (waits_too new few result_is more) =
     λ i v t. elim (at_push e.waiters i w v (subst (λ x. At x.waiters i v) more t))
     [ inl a ↦ inl (i, a) | inr a ↦ inr a.1 ]
-join_from e f w r (no_place new many told same) = same_from e f w same
-join_from e f w r (no_memory_for_place new few told same) = same_from e f w same
+join_from e f w r (no_place new many result_is same) = same_from e f w same
+join_from e f w r (no_memory_for_place new few result_is same) = same_from e f w same
 
 waits_at : (o : PendingData) (i : ℕ) (e : EntryData) (v : WaiterData) → At o.entries i e
     → (j : ℕ) × At e.waiters j v → IsWaiting o v
@@ -65,11 +65,11 @@ push_waits o w v moment id h =
 open_waits : (o : PendingData) (w v : WaiterData) (moment word : ℕ) (r : Result Asked PendingFault)
     (fs : List EntryData) → Opens o.entries w moment word r fs
     → IsWaiting (record o { entries = fs }) v → IsWaiting o v ⊎ (v ≡ w)
-open_waits o w v moment word r fs (is_sent id few free told more) h =
+open_waits o w v moment word r fs (is_sent id few free result_is more) h =
     push_waits o w v moment id (subst (λ xs. IsWaiting (record o { entries = xs }) v) more h)
-open_waits o w v moment word r fs (no_room many told same) h =
+open_waits o w v moment word r fs (no_room many result_is same) h =
     inl (subst (λ xs. IsWaiting (record o { entries = xs }) v) same h)
-open_waits o w v moment word r fs (no_memory_for_room few told same) h =
+open_waits o w v moment word r fs (no_memory_for_room few result_is same) h =
     inl (subst (λ xs. IsWaiting (record o { entries = xs }) v) same h)
 
 ask_waits : (o n : PendingData) (w v : WaiterData) (moment word : ℕ) (r : Result Asked PendingFault)

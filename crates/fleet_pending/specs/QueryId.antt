@@ -16,23 +16,23 @@ use Rattle.fleet_pending.specs.declared.answer.PendingFault.TheVariants.{OutOfMe
 
 -- the question is new and there is room for it: the first id that no entry has; or an entry has the
 -- question, or MOST_ENTRIES are open
-abbrev pub TellsId : PendingData → QuestionData → ℕ → Option ℕ → Type 0
-TellsId o q word (Some id) =
+abbrev pub IsQueryId : PendingData → QuestionData → ℕ → Option ℕ → Type 0
+IsQueryId o q word (Some id) =
     NoneIs (AsksFor q) o.entries × (length o.entries < MOST_ENTRIES)
     × IsFirstFree word o.entries id
-TellsId o q word None =
+IsQueryId o q word None =
     ((i : ℕ) × ((e : EntryData) × At o.entries i e × AsksFor q e))
     ⊎ (MOST_ENTRIES ≤ length o.entries)
 
--- with an id, asking sends the query under it to the first upstream, or finds no memory; with none
--- it sends no query
+-- with an id, asking sends the query with it to the first upstream, or runs out of memory; with
+-- none it sends no query
 abbrev pub IsAskedUnder : Option ℕ → Result Asked PendingFault → Type 0
 IsAskedUnder (Some id) r = (r ≡ Ok (Send 0 id)) ⊎ (r ≡ Err OutOfMemory)
 IsAskedUnder None r = (upstream id : ℕ) → r ≢ Ok (Send upstream id)
 
--- so it is with the id that is told
-abbrev pub AskedUnderIdTold : Type 0
-AskedUnderIdTold =
-    (o n : PendingData) (w : WaiterData) (moment : Seconds) (word : ℕ) (told : Option ℕ)
-    (r : Result Asked PendingFault) → TellsId o w.question word told → Asks o w moment word r n
-    → IsAskedUnder told r
+-- so it is with the id that `query_id` returns
+abbrev pub AsksUnderQueryId : Type 0
+AsksUnderQueryId =
+    (o n : PendingData) (w : WaiterData) (moment : Seconds) (word : ℕ) (id : Option ℕ)
+    (r : Result Asked PendingFault) → IsQueryId o w.question word id → Asks o w moment word r n
+    → IsAskedUnder id r

@@ -27,7 +27,7 @@ pub record RefusesWhere (o : PendingData) (w : WaiterData) (r : Result Asked Pen
   pub full : (r ≡ Err Full) ↔ NoRoom o w
   pub waiters_full : (r ≡ Err WaitersFull) ↔ NoPlace o w
 
--- each refusal but that for want of memory comes exactly where it should
+-- each refusal but out of memory comes exactly where it should
 abbrev pub RefusesExactly : Type 0
 RefusesExactly =
     (o n : PendingData) (w : WaiterData) (moment : Seconds) (word : ℕ) (r : Result Asked PendingFault)

@@ -1,20 +1,20 @@
-//! What the table answers.
+//! The results of the table's calls.
 
 use crate::entry::Entry;
 use crate::waiter::Waiter;
 use std::alloc::{Allocator, Global};
 use thiserror::Error;
 
-/// What asking did.
+/// What `Pending::ask` did.
 #[derive(Clone, Copy, Debug, PartialEq, Eq)]
 pub enum Asked {
     /// The same asker waits for the same question already; the new waiter is dropped.
     Again,
     /// The waiter waits with others for the same question.
     Joined,
-    /// The question is new: a query with this id is to be sent to the upstream at this place.
+    /// The question is new: a query with this id is to be sent to the upstream at this index.
     Send {
-        /// The place of the upstream, from 0.
+        /// The index of the upstream, from 0.
         upstream: u8,
         /// The id of the query.
         id: u16,
@@ -30,12 +30,12 @@ pub enum PendingFault {
     /// 32 others wait for the question.
     #[error("waiters full")]
     WaitersFull,
-    /// There is no memory for the waiter.
+    /// An allocation failed.
     #[error("out of memory")]
     OutOfMemory,
 }
 
-/// A waiter that was not taken.
+/// A waiter that was not taken, with the reason.
 #[derive(Drop)]
 pub struct Unasked<A: Allocator = Global> {
     /// Why it was not taken.
@@ -49,14 +49,14 @@ pub struct Unasked<A: Allocator = Global> {
 pub enum Due<'a, A: Allocator = Global> {
     /// The query is to be sent again, to the next upstream.
     Retry {
-        /// The place of the next upstream, from 0.
+        /// The index of the next upstream, from 0.
         upstream: u8,
         /// The id of the query, as before.
         id: u16,
         /// The entry.
         entry: &'a Entry<A>,
     },
-    /// No upstream is left: each waiter is to be told so.
+    /// No upstream is left: each waiter is to get an answer that says so.
     Failed {
         /// The id of the entry.
         id: u16,

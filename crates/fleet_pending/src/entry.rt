@@ -6,7 +6,7 @@ ghost use Rattle.fleet_pending.specs.Asking.{Joins, ask_result, new_entry};
 use crate::answer::{Asked, PendingFault, Unasked};
 use crate::bounds::{MOST_WAITERS, TRY_SECONDS};
 use crate::waiter::Waiter;
-use crate::waiters::Waiters;
+use crate::waiters::{Waiters, has_waiter};
 use fleet_name::Name;
 use fleet_observe::Moment;
 use std::alloc::{Allocator, Global};
@@ -15,15 +15,15 @@ use std::marker::Model;
 /// An open question: what it asks, whom, and who waits for the answer.
 #[derive(Drop)]
 pub struct Entry<A: Allocator = Global> {
-    /// The name that is asked for.
+    /// QNAME, in lower case.
     pub name: Name<A>,
-    /// The type that is asked for.
+    /// QTYPE.
     pub rtype: u16,
     /// The id of the query.
     pub id: u16,
-    /// The place of the upstream that is asked now, from 0.
+    /// The index of the upstream that is asked now, from 0.
     pub upstream: u8,
-    /// When its time is over, in seconds; up to 2 past the greatest moment.
+    /// The moment at which its time is over, in seconds. It may be 2 later than `LATEST`.
     pub deadline: u64,
     /// Who waits, in order of joining: at least one.
     pub waiters: Waiters<A>,
@@ -67,11 +67,12 @@ pub(crate) fn make_entry<A: Allocator + Copy>(
             deadline: moment.value() + TRY_SECONDS,
             waiters,
         }),
-        Err(waiter) => Err(waiter),
+        Err(failed) => Err(failed.value),
     }
 }
 
-/// The waiter meets an entry for its question.
+/// What `ask` does where the question has an entry: the waiter is in it already, joins it, or is
+/// given back.
 pub(crate) fn join<A: Allocator>(
     entry: &mut Entry<A>,
     waiter: Waiter<A>,
@@ -79,7 +80,7 @@ pub(crate) fn join<A: Allocator>(
     ensures joins { Joins entry.old waiter (ask_result result) entry.new }
     ensures back { IfErr result (λ u. u.waiter ≡ waiter) }
 {
-    if entry.waiters.has(&waiter) {
+    if has_waiter(&entry.waiters, &waiter) {
         return Ok(Asked::Again);
     }
     if entry.waiters.len() >= MOST_WAITERS {

@@ -1,13 +1,13 @@
-//! Laws of the table. Their functions do nothing when run.
+//! Laws of the table. Each function does nothing: its contract is the law.
 
 ghost use Rattle.fleet_pending.specs.Refusal.{RefusesExactly};
-ghost use Rattle.fleet_pending.specs.QueryId.{AskedUnderIdTold};
+ghost use Rattle.fleet_pending.specs.QueryId.{AsksUnderQueryId};
 ghost use Rattle.fleet_pending.specs.Calls.{EachAsOften};
 ghost use Rattle.fleet_pending.specs.DueCount.{CountsDue};
 ghost use Rattle.fleet_pending.specs.Settled.{SettlesItsEntry};
 ghost use Rattle.fleet_pending.specs.Waiting.{WaitersStay};
 
-/// `Full` is answered exactly where no entry has the question and 256 are open, `WaitersFull`
+/// `Full` is returned exactly where no entry has the question and 256 are open, `WaitersFull`
 /// exactly where its entry has 32 waiters and not this one.
 pub fn refusals_are_exact()
     ensures { RefusesExactly }
@@ -19,13 +19,13 @@ pub fn waiters_kept()
     ensures { EachAsOften }
 {}
 
-/// Where `query_id` tells an id, asking sends a query under it to the first upstream, or finds no
-/// memory; where it tells none, asking sends none.
-pub fn queries_have_the_id_told()
-    ensures { AskedUnderIdTold }
+/// Where `query_id` returns an id, asking sends a query with it to the first upstream, or runs out
+/// of memory; where it returns `None`, asking sends no query.
+pub fn asking_uses_query_id()
+    ensures { AsksUnderQueryId }
 {}
 
-/// Where an entry has an id, settling under it gives back that entry and takes out no other.
+/// Where an entry has an id, `settle` with it returns that entry and removes no other.
 pub fn settling_gives_its_entry()
     ensures { SettlesItsEntry }
 {}

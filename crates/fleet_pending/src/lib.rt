@@ -1,7 +1,7 @@
 //! Questions that wait for an upstream.
 //!
-//! At most 256 questions are open, and each has at most 32 waiters. No call allocates but `ask`,
-//! and that only for a new entry or a new waiter.
+//! At most 256 questions are open, and each has at most 32 waiters. Only `ask` allocates, and only
+//! for a new entry or a new waiter.
 #![tactic(auto)]
 
 mod answer;
@@ -16,8 +16,8 @@ mod waiters;
 pub use answer::{Asked, Due, PendingFault, Unasked};
 pub use entry::Entry;
 pub use laws::{
-    queries_have_the_id_told, refusals_are_exact, serving_leaves_fewer_due,
-    settling_gives_its_entry, waiters_kept, waiters_stay,
+    asking_uses_query_id, refusals_are_exact, serving_leaves_fewer_due, settling_gives_its_entry,
+    waiters_kept, waiters_stay,
 };
 pub use pending::Pending;
 pub use waiter::{Addr, Waiter};

@@ -3,7 +3,7 @@
 ghost use Rattle.std.specs.Prelude.{◌≡◌, ◌<◌, ◌≤◌, [], IfErr, IfSome, OnErr, MatchOption, option_copied, IsTrue, ◌↔◌};
 ghost use Rattle.fleet_pending.specs.Asking.{Asks, Opens, Settles, Advances, ask_result, with_next_upstream};
 ghost use Rattle.fleet_pending.specs.Due.{Dues, due_at, due_entry};
-ghost use Rattle.fleet_pending.specs.QueryId.{TellsId};
+ghost use Rattle.fleet_pending.specs.QueryId.{IsQueryId};
 ghost use Rattle.fleet_pending.specs.PendingData.{UsesId, AsksFor, Matches, IsEntryData, IsPendingData};
 ghost use Rattle.fleet_pending.specs.declared.bounds.TheConstants.{MOST_UPSTREAMS};
 ghost use Rattle.fleet_wire.specs.declared.class.TheConstants.{IN};
@@ -39,7 +39,7 @@ impl<A: Allocator> Model for Pending<A> {
 }
 
 impl<A: Allocator> Pending<A> {
-    /// A table without questions, each of which will be asked of this many upstreams (1 to 4) one
+    /// A table without questions. Each one will be asked of `upstreams` upstreams (1 to 4), one
     /// after the other.
     pub fn new(alloc: A, upstreams: u8) -> Pending<A>
         requires some { 1 ≤ upstreams }
@@ -60,9 +60,9 @@ impl<A: Allocator> Pending<A> {
     /// An entry with the same name and type, where the same address waits under the same id:
     /// `Again`; where 32 others wait: `WaitersFull`; else `Joined`. No such entry: where 256 are
     /// open, `Full`; else a new one at the first upstream, whose time is over 2 seconds later, with
-    /// the first id that no entry has, from `word` upwards modulo 65536: `Send`. Where a new entry
-    /// or waiter finds no memory: `OutOfMemory`. A fault changes nothing, and hands the waiter
-    /// back.
+    /// the first id that no entry has, from `word` upwards modulo 65536: `Send`. Where an
+    /// allocation for a new entry or waiter fails: `OutOfMemory`. A fault changes nothing, and
+    /// hands the waiter back.
     pub fn ask(&mut self, waiter: Waiter<A>, moment: Moment, word: u16) -> Result<Asked, Unasked<A>>
     where
         A: Copy,
@@ -81,7 +81,7 @@ impl<A: Allocator> Pending<A> {
     /// The id of the query that asking would send now, with the same word; `None` where an entry
     /// has the question's name and type, or 256 are open.
     pub fn query_id(&self, question: &Question<A>, word: u16) -> Option<u16>
-        ensures tells { TellsId self.now question.now word result }
+        ensures id { IsQueryId self.now question.now word result }
         ensures lawful { IsPendingData self.now }
     {
         if place_of_question(self.entries.as_slice(), question).is_some() {
@@ -94,7 +94,7 @@ impl<A: Allocator> Pending<A> {
         Some(id)
     }
 
-    /// The entry with an id.
+    /// The entry whose query has this id.
     pub fn entry(&self, id: u16) -> Option<&Entry<A>>
         ensures finds { Finds (UsesId id) self.now.entries (option_copied result) }
         ensures is_open { IfSome result (λ e. IsEntryData e.now) }
@@ -121,7 +121,7 @@ impl<A: Allocator> Pending<A> {
         }
     }
 
-    /// Gives the entry with an id back, and removes it.
+    /// Removes the entry with an id, and returns it; `None` where there is none.
     pub fn settle(&mut self, id: u16) -> Option<Entry<A>>
         ensures settles { Settles self.old id result self.new }
         ensures is_open { IfSome result (λ e. IsEntryData e) }
@@ -132,7 +132,7 @@ impl<A: Allocator> Pending<A> {
         Some(self.entries.remove(i))
     }
 
-    /// Removes all entries, as of a new table; the room is kept.
+    /// Removes all entries; the room is kept.
     pub fn clear(&mut self)
         ensures cleared { self.new ≡ record self.old { entries = [] } }
         ensures lawful { IsPendingData self.new }
@@ -165,7 +165,7 @@ impl<A: Allocator> Pending<A> {
     }
 
     /// Moves the entry with an id to the next upstream; its time is over 2 seconds after the
-    /// moment. False, where there is no such entry or no further upstream: then nothing changes.
+    /// moment. `false` where there is no such entry or no further upstream: then nothing changes.
     pub fn advance(&mut self, id: u16, moment: Moment) -> bool
         ensures advances { Advances self.old id moment result self.new }
         ensures upstreams { self.new.upstreams ≡ self.old.upstreams }
@@ -205,7 +205,7 @@ fn matches<A: Allocator>(entry: &Entry<A>, upstream: u8, question: &Question<A>)
     entry.upstream == upstream && question.class == IN && asks_for(entry, question)
 }
 
-/// The waiter's question is new.
+/// What `ask` does where the question is new: it opens an entry, unless `MOST_ENTRIES` are open.
 fn add_entry<A: Allocator + Copy>(
     entries: &mut Vec<Entry<A>, A>,
     waiter: Waiter<A>,

@@ -1,4 +1,4 @@
-//! Where the entries of a table are.
+//! Searching the entries of a table.
 
 ghost use Rattle.std.specs.Prelude.{◌<◌, ◌≤◌, ◌↔◌, IsTrue, MatchOption, length};
 ghost use Rattle.fleet_pending.specs.FreeId.{AreTakenIds, IsFirstFree};
@@ -12,7 +12,7 @@ use crate::entry::Entry;
 use fleet_wire::Question;
 use std::alloc::Allocator;
 
-/// The place of the entry with an id.
+/// The index of the entry with an id.
 pub(crate) fn place_of_id<A: Allocator>(entries: &[Entry<A>], id: u16) -> Option<usize>
     ensures { IsPlace (UsesId id) entries.now result }
 {
@@ -24,7 +24,7 @@ pub(crate) fn place_of_id<A: Allocator>(entries: &[Entry<A>], id: u16) -> Option
     None
 }
 
-/// The place of the entry for a question.
+/// The index of the entry for a question of this name and type.
 pub(crate) fn place_of_question<A: Allocator>(
     entries: &[Entry<A>],
     question: &Question<A>,
@@ -74,7 +74,8 @@ fn mark_taken<A: Allocator>(entries: &[Entry<A>], word: u16) -> [bool; MOST_ENTR
     taken
 }
 
-/// The entry that is to be served first.
+/// The entry that is to be served first: of those that are due, the one with the least deadline,
+/// and of these the one with the least id.
 pub(crate) fn first_due_entry<A: Allocator>(entries: &[Entry<A>], moment: u64) -> Option<&Entry<A>>
     ensures { MatchOption result (NoneDue entries.now moment)
         (λ e. IsFirstDue entries.now moment e.now) }

@@ -4,7 +4,7 @@ use fleet_wire::Question;
 use std::alloc::{Allocator, Global};
 use std::marker::Model;
 
-/// Where a datagram comes from or goes to.
+/// The source or the destination of a UDP datagram.
 #[derive(Clone, Copy, Debug, PartialEq, Eq, PartialOrd, Ord)]
 pub struct Addr {
     /// The address (IPv4), its first octet highest.
@@ -13,10 +13,10 @@ pub struct Addr {
     pub port: u16,
 }
 
-/// Who waits, and for the answer to which question.
+/// A client that waits for the answer to a question.
 #[derive(Drop)]
 pub struct Waiter<A: Allocator = Global> {
-    /// Where the question came from, and its answer goes to.
+    /// The client's address: the source of the question, and the destination of its answer.
     pub from: Addr,
     /// The id of the question's message.
     pub id: u16,

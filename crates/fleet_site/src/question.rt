@@ -24,7 +24,7 @@ use fleet_cache::Cache;
 use fleet_name::Octets;
 use fleet_observe::Moment;
 use fleet_pending::{
-    Addr, Asked, Pending, PendingFault, Unasked, Waiter, queries_have_the_id_told, waiters_stay,
+    Addr, Asked, Pending, PendingFault, Unasked, Waiter, asking_uses_query_id, waiters_stay,
 };
 use fleet_wire::rcode::{REFUSED, SERVER_FAILURE};
 use fleet_wire::{Header, Question, write_query};
@@ -157,7 +157,7 @@ fn forward<A: Allocator + Copy>(
         arrival.word header question) ⊤ pending.old result pending.new }
     ensures table { KeepsTable pending.old pending.new }
 {
-    queries_have_the_id_told();
+    asking_uses_query_id();
     let outcome = first_outcome(alloc, pending, upstreams, arrival.word, &question)?;
     let from = arrival.from;
     let id = header.id;

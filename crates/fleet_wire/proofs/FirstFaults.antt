@@ -84,7 +84,7 @@ one_record_fault m p f g (inr h) (inr h') =
     let same = one_reads m p h'.0 h.0 h'.1 h.1 h'.2 h.2 in
     one_fixed_fault m h.1 f g h.3 (subst (λ (x : ℕ). FixedFails m x g) same.1 h'.3)
 
--- behind the records that stand there one of them fails first
+-- after the records that are there one fails first
 one_row_fault : (m : List ℕ) (p past past' : ℕ) (rs rs' : List RecordData) (f g : ReadFault)
     → RecordsAt m p rs past → RecordsAt m p rs' past' → RecordFails m past f → RecordFails m past' g
     → f ≡ g

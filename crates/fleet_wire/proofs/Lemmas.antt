@@ -13,7 +13,7 @@ u16_long n = refl
 pub u32_long : (n : ℕ) → length (u32_octets n) ≡ 4
 u32_long n = refl
 
--- octets of numbers, and what stands behind them, tell both
+-- octets of numbers, and what follows them, determine both
 pub u16_exact : (a b : ℕ) (r s : List ℕ) → u16_octets a ++ r ≡ u16_octets b ++ s
     → (a ≡ b) × (r ≡ s)
 u16_exact a b r s e =

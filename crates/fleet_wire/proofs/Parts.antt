@@ -17,17 +17,17 @@ pub name_or_fault : (m : List ℕ) (p : ℕ) (n : List (List ℕ)) (e : ℕ) (f 
     → ReadsName m p n e → NameFails m p f → ⊥
 name_or_fault m p n e f r h =
     none_from_fails m p f r.spelled e h (subst (λ (x : List (List ℕ)). IsName x) r.lowered r.named)
-    r.stands
+    r.name_at
 
 pub one_reads : (m : List ℕ) (p : ℕ) (a b : List (List ℕ)) (x y : ℕ) → ReadsName m p a x
     → ReadsName m p b y → (a ≡ b) × (x ≡ y)
 one_reads m p a b x y one two =
-    let same = one_reading m p p one.spelled two.spelled x y one.stands two.stands in
+    let same = one_reading m p p one.spelled two.spelled x y one.name_at two.name_at in
     (one.lowered ∙ (ap lower_all same.0 ∙ sym two.lowered), same.1)
 
 pub reads_within : (m : List ℕ) (p : ℕ) (n : List (List ℕ)) (e : ℕ) → ReadsName m p n e
     → e ≤ length m
-reads_within m p n e r = ends_within m p p r.spelled e r.stands
+reads_within m p n e r = ends_within m p p r.spelled e r.name_at
 
 pub reads_named : (m : List ℕ) (p : ℕ) (n : List (List ℕ)) (e : ℕ) → ReadsName m p n e → IsName n
 reads_named m p n e r = r.named
@@ -71,7 +71,7 @@ shape_or_fault m p k (Some parts) o f r (inl h) = parts_or_fault m parts p o (p 
 shape_or_fault m p k (Some parts) o f r (inr h) =
     h.3 (one_parts m parts p h.0 o h.1 (p + k) h.2 r).1
 
--- want of memory is no fault of parts, nor of RDATA
+-- out of memory is no fault of parts, nor of RDATA
 parts_no_memory : (m : List ℕ) (parts : List Part) (p : ℕ) (f : ReadFault) → PartsFail m parts p f
     → f ≡ OutOfMemory → ⊥
 parts_no_memory m [] p f h e = h

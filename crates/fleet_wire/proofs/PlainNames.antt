@@ -14,14 +14,14 @@ use Rattle.fleet_wire.specs.declared.shape.Part.{Part}
 use Rattle.fleet_wire.specs.declared.shape.Part.TheVariants.{Plain, Name}
 use Rattle.fleet_wire.specs.Shape.{ArePlain}
 use Rattle.fleet_wire.proofs.Readings.{one_reading, none_read, label_same, octets}
-use Rattle.fleet_wire.proofs.Written.{stands_written}
+use Rattle.fleet_wire.proofs.Written.{lies_written}
 
--- the name at the front of octets stands there
-pub stands_first : (m : List ℕ) (n : List (List ℕ)) (others : List ℕ) → IsName n
+-- the name at the front of octets is at that place of the message
+pub lies_first : (m : List ℕ) (n : List (List ℕ)) (others : List ℕ) → IsName n
     → m ≡ wire n ++ others → NameAt m 0 0 n (0 + length (wire n))
-stands_first m n others named e =
+lies_first m n others named e =
     let same = lower_all-same n named.labels in
-    stands_written m 0 0 n (any_case-from_lower n (rw same named.labels))
+    lies_written m 0 0 n (any_case-from_lower n (rw same named.labels))
     (record { front = []; back = others; whole = e; place = refl })
 
 pub same_behind : (m : List ℕ) (n n' : List (List ℕ)) (a b : List ℕ) → IsName n → IsName n'
@@ -29,23 +29,23 @@ pub same_behind : (m : List ℕ) (n n' : List (List ℕ)) (a b : List ℕ) → I
 same_behind m n n' a b named named' e e' =
     let same =
     (one_reading m 0 0 n n' (0 + length (wire n)) (0 + length (wire n'))
-    (stands_first m n a named e) (stands_first m n' b named' e')).0 in
+    (lies_first m n a named e) (lies_first m n' b named' e')).0 in
     let both : wire n ++ a ≡ wire n ++ b =
     sym e ∙ (e' ∙ ap (λ (x : List (List ℕ)). wire x ++ b) (sym same)) in
     sym (drop-append_seam (wire n) a)
     ∙ (ap (λ (x : List ℕ). drop (length (wire n)) x) both ∙ drop-append_seam (wire n) b)
 
-stands_label : (m : List ℕ) (p s : ℕ) (label : List ℕ) (t : List (List ℕ)) (e : ℕ)
+lies_label : (m : List ℕ) (p s : ℕ) (label : List ℕ) (t : List (List ℕ)) (e : ℕ)
     → LabelAt m p label → NameAt m s p t e
     → (rest : List (List ℕ)) × (t ≡ label ∷ rest) × NameAt m s (p + 1 + length label) rest e
-stands_label m p s label t e at (ends ended is past) = absurd (omega (arith, at, ended))
-stands_label m p s label t e at (goes_on l rest at' r is) =
+lies_label m p s label t e at (ends ended is past) = absurd (omega (arith, at, ended))
+lies_label m p s label t e at (goes_on l rest at' r is) =
     let same = label_same m p l label at' at in (
       rest,
       is ∙ ap (λ (x : List ℕ). x ∷ rest) same,
       subst (λ (x : List ℕ). NameAt m s (p + 1 + length x) rest e) same r,
     )
-stands_label m p s label t e at (points q past at' lt r is) = absurd (omega (arith, at, at'))
+lies_label m p s label t e at (points q past at' lt r is) = absurd (omega (arith, at, at'))
 
 -- The labels read so far, and what any name at the front goes on with.
 module _ (m : List ℕ) (at : ℕ) (before : List (List ℕ))
@@ -67,8 +67,8 @@ module _ (m : List ℕ) (at : ℕ) (before : List (List ℕ))
   pub no_name : (f : ReadFault) → FaultAt m at 0 (at + 1) f → (n : List (List ℕ)) (others : List ℕ)
       → IsName n → m ≡ wire n ++ others → ⊥
   no_name f fault n others is e =
-      let stands = stands_first m n others is e in
-      let o = only n (0 + length (wire n)) stands in
+      let name_at = lies_first m n others is e in
+      let o = only n (0 + length (wire n)) name_at in
       let parted : length (flat_map label_octets n)
       ≡ length (flat_map label_octets before) + octets o.0 =
       ap (λ (x : List (List ℕ)). length (flat_map label_octets x)) o.1
@@ -81,8 +81,8 @@ module _ (m : List ℕ) (at : ℕ) (before : List (List ℕ))
     pub no_capital : (lower label ≡ label → ⊥) → (n : List (List ℕ)) (others : List ℕ) → IsName n
         → m ≡ wire n ++ others → ⊥
     no_capital capital n others is e =
-        let o = only n (0 + length (wire n)) (stands_first m n others is e) in
-        let next = stands_label m at 0 label o.0 (0 + length (wire n)) found o.2 in
+        let o = only n (0 + length (wire n)) (lies_first m n others is e) in
+        let next = lies_label m at 0 label o.0 (0 + length (wire n)) found o.2 in
         let split : n ≡ before ++ label ∷ next.0 =
         o.1 ∙ ap (λ (x : List (List ℕ)). before ++ x) next.1 in
         capital (label_among before label next.0
@@ -125,7 +125,7 @@ module _ (m : List ℕ) (at : ℕ) (before : List (List ℕ))
           × NameAt m 0 (at + (1 + length label)) t e
       more_only n e r =
           let o = only n e r in
-          let next = stands_label m at 0 label o.0 e found o.2 in
+          let next = lies_label m at 0 label o.0 e found o.2 in
           let here_is : at + 1 + length label ≡ at + (1 + length label) = omega arith in (
             next.0,
             o.1

@@ -1,4 +1,4 @@
--- Questions that stand in full and in lower case.
+-- Questions in full and in lower case.
 use Rattle.std.proofs.Common.{◌≡◌, ℕ, ◌+◌, ◌-◌, ◌≤◌, List, [], ◌∷◌, ◌++◌, length, take, drop, refl, sym, ap, ◌∙◌, arith, length-append}
 use Rattle.std.proofs.Math.Seq.{take-append_seam}
 use Rattle.std.proofs.lemmas.List.{append-nil, take-append-drop, length-take-le}
@@ -11,7 +11,7 @@ use Rattle.fleet_wire.specs.Message.{IsPlainQuery}
 use Rattle.fleet_wire.specs.declared.header.Header.{Header}
 use Rattle.fleet_wire.proofs.PlainNames.{same_behind}
 use Rattle.fleet_wire.proofs.Readings.{one_reading}
-use Rattle.fleet_wire.proofs.Written.{SitsAt, sits_first, sits_rest, sits_octet, sits_within, stands_written}
+use Rattle.fleet_wire.proofs.Written.{SitsAt, sits_first, sits_rest, sits_octet, sits_within, lies_written}
 
 -- what is before the others, by how many there are
 pub front_is : (rest front others : List ℕ) → rest ≡ front ++ others
@@ -37,14 +37,14 @@ name_lent octets n named e =
       named = rw is named;
     }
 
--- two numbers stand where octets do
-pub numbers_stand : (m : List ℕ) (p : ℕ) (others : List ℕ) → 4 ≤ length others → SitsAt m p others
+-- two numbers are where their octets are
+pub numbers_lie : (m : List ℕ) (p : ℕ) (others : List ℕ) → 4 ≤ length others → SitsAt m p others
     → (u16_at m p ≡ u16_at others 0) × (u16_at m (p + 2) ≡ u16_at others 2)
-numbers_stand m p [] long s = absurd (omega (arith, long))
-numbers_stand m p (a ∷ []) long s = absurd (omega (arith, long))
-numbers_stand m p (a ∷ b ∷ []) long s = absurd (omega (arith, long))
-numbers_stand m p (a ∷ b ∷ c ∷ []) long s = absurd (omega (arith, long))
-numbers_stand m p (a ∷ b ∷ c ∷ d ∷ r) long s =
+numbers_lie m p [] long s = absurd (omega (arith, long))
+numbers_lie m p (a ∷ []) long s = absurd (omega (arith, long))
+numbers_lie m p (a ∷ b ∷ []) long s = absurd (omega (arith, long))
+numbers_lie m p (a ∷ b ∷ c ∷ []) long s = absurd (omega (arith, long))
+numbers_lie m p (a ∷ b ∷ c ∷ d ∷ r) long s =
     let second = sits_rest m p (a ∷ []) (b ∷ c ∷ d ∷ r) s in
     let third = sits_rest m p (a ∷ b ∷ []) (c ∷ d ∷ r) s in
     let fourth = sits_rest m (p + 2) (c ∷ []) (d ∷ r) third in (
@@ -54,7 +54,7 @@ numbers_stand m p (a ∷ b ∷ c ∷ d ∷ r) long s =
 
 module _ (m : List ℕ) (n : List (List ℕ)) (others : List ℕ) (long : 12 ≤ length m)
     (named : IsName n) (e : drop 12 m ≡ wire n ++ others) where
-  -- what stands behind the header
+  -- what follows the header
   sits : SitsAt m 12 (wire n ++ others)
   sits = record {
     front = take 12 m;
@@ -65,25 +65,25 @@ module _ (m : List ℕ) (n : List (List ℕ)) (others : List ℕ) (long : 12 ≤
     place = length-take-le 12 m long;
   }
 
-  pub name_stands : NameAt m 12 12 n (12 + length (wire n))
-  name_stands =
+  pub name_lies : NameAt m 12 12 n (12 + length (wire n))
+  name_lies =
       let same = lower_all-same n named.labels in
-      stands_written m 12 12 n (any_case-from_lower n (rw same named.labels))
+      lies_written m 12 12 n (any_case-from_lower n (rw same named.labels))
       (sits_first m 12 (wire n) others sits)
 
-  pub question_stands : (spelled : List ℕ) (rtype class : ℕ) → spelled ≡ wire n
+  pub question_lies : (spelled : List ℕ) (rtype class : ℕ) → spelled ≡ wire n
       → 4 ≤ length others → rtype ≡ u16_at others 0 → class ≡ u16_at others 2
       → IsQuestion m 12
       (record { spelled = spelled; name = n; rtype = rtype; class = class })
       (12 + length (wire n) + 4)
-  question_stands spelled rtype class is_spelled enough is_type is_class =
+  question_lies spelled rtype class is_spelled enough is_type is_class =
       let past = 12 + length (wire n) in
       let behind = sits_rest m 12 (wire n) others sits in
-      let numbers = numbers_stand m past others enough behind in
+      let numbers = numbers_lie m past others enough behind in
       record {
         labels = n;
         past = past;
-        stands = name_stands;
+        name_at = name_lies;
         spelled = is_spelled;
         name = sym (lower_all-same n named.labels);
         named = named;
@@ -93,17 +93,17 @@ module _ (m : List ℕ) (n : List (List ℕ)) (others : List ℕ) (long : 12 ≤
         end_is = refl;
       }
 
--- behind the name of a plain question stand four octets
+-- four octets follow the name of a plain question
 pub plain_behind : (m : List ℕ) (h : Header) (q : QuestionData) (n : List (List ℕ))
     (others : List ℕ) → IsName n → drop 12 m ≡ wire n ++ others → IsPlainQuery m h q
     → 4 ≤ length others
 plain_behind m h q n others named e plain =
     let asked = plain.query.question in
     let long = plain.query.counted.long in
-    let stands = name_stands m q.name plain.others long asked.named plain.in_full in
+    let name_at = name_lies m q.name plain.others long asked.named plain.in_full in
     let past : asked.past ≡ 12 + length (wire q.name) =
-    (one_reading m 12 12 asked.labels q.name asked.past (12 + length (wire q.name)) asked.stands
-    stands).1 in
+    (one_reading m 12 12 asked.labels q.name asked.past (12 + length (wire q.name)) asked.name_at
+    name_at).1 in
     let same : others ≡ plain.others =
     same_behind (drop 12 m) n q.name others plain.others named asked.named e plain.in_full in
     let behind = sits_rest m 12 (wire q.name) plain.others

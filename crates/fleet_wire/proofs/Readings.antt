@@ -57,7 +57,7 @@ none_read m p s k f n e (beyond q at lt more) (points q' past at' lt' r is) room
     let same : q' ≡ q = at'.target ∙ sym at.target in
     none_read m q q k f n past more (subst (λ (x : ℕ). NameAt m x x n past) same r) room
 
--- want of memory is no fault of a name
+-- out of memory is no fault of a name
 pub no_memory : (m : List ℕ) (p s k : ℕ) (f : ReadFault) → Fails m p s k f → f ≡ OutOfMemory → ⊥
 no_memory m p s k f (here h) e = no_memory_here m p s k f h e
 no_memory m p s k f (later label at room more) e =
@@ -80,7 +80,7 @@ octets_fit n named =
       length-lower_all n,
     )
 
--- where the reading fails, no name stands
+-- where the reading fails, there is no name
 pub none_from_fails : (m : List ℕ) (p : ℕ) (f : ReadFault) (n : List (List ℕ)) (e : ℕ)
     → Fails m p p 1 f → IsName (lower_all n) → NameAt m p p n e → ⊥
 none_from_fails m p f n e fails named r =

@@ -22,17 +22,17 @@ shape_moved m past past' t t' o e e' h =
     subst (λ (x : ℕ). ShapeAt m (past + 10) (u16_at m (past + 8)) (shape_of x) o) e'
     (subst (λ (x : ℕ). ShapeAt m (x + 10) (u16_at m (x + 8)) (shape_of t') o) e h)
 
-told_of : List (List ℕ) → ℕ → ℕ → ℕ → List ℕ → RecordData
-told_of name rtype class ttl rdata =
+record_from : List (List ℕ) → ℕ → ℕ → ℕ → List ℕ → RecordData
+record_from name rtype class ttl rdata =
     record { name = name; rtype = rtype; class = class; ttl = ttl; rdata = rdata }
 
-told_same : (a b : RecordData) → a.name ≡ b.name → a.rtype ≡ b.rtype → a.class ≡ b.class
+record_same : (a b : RecordData) → a.name ≡ b.name → a.rtype ≡ b.rtype → a.class ≡ b.class
     → a.ttl ≡ b.ttl
     → a.rdata ≡ b.rdata → a ≡ b
-unfolding told_of
-told_same a b name rtype class ttl rdata =
-    let h : told_of a.name a.rtype a.class a.ttl a.rdata
-    ≡ told_of b.name b.rtype b.class b.ttl b.rdata = cc in h
+unfolding record_from
+record_same a b name rtype class ttl rdata =
+    let h : record_from a.name a.rtype a.class a.ttl a.rdata
+    ≡ record_from b.name b.rtype b.class b.ttl b.rdata = cc in h
 
 pub one_record : (m : List ℕ) (p : ℕ) (a b : RecordData) (x y : ℕ) → RecordAt m p a x
     → RecordAt m p b y
@@ -48,7 +48,7 @@ one_record m p a b x y one two =
     one_shape m (one.past + 10) (u16_at m (one.past + 8)) (shape_of a.rtype) a.rdata b.rdata
     one.rdata (shape_moved m one.past two.past a.rtype b.rtype b.rdata (sym same.1) (sym rtype)
     two.rdata) in (
-      told_same a b same.0 rtype class ttl rdata,
+      record_same a b same.0 rtype class ttl rdata,
       one.end_is
           ∙ (ap (λ (q : ℕ). q + 10 + u16_at m (q + 8)) same.1 ∙ sym two.end_is),
     )
@@ -84,7 +84,7 @@ one_row m p (r ∷ rs) (r' ∷ rs') x y one two n =
       others.1,
     )
 
--- behind fewer records than stand there no record fails
+-- after fewer records than are there none fails
 row_or_fault : (m : List ℕ) (p middle e : ℕ) (rs all : List RecordData) (f : ReadFault)
     → RecordsAt m p rs middle → length rs < length all → RecordFails m middle f
     → RecordsAt m p all e → ⊥
@@ -101,31 +101,31 @@ pub records_or_fault : (m : List ℕ) (p count e : ℕ) (all : List RecordData) 
 records_or_fault m p count e all f at n h =
     row_or_fault m p h.1 e h.0 all f h.2 (omega (arith, n, h.3)) h.4 at
 
--- one more record behind those that stand there
+-- one more record after those that are there
 pub records_more : (m : List ℕ) (p middle e : ℕ) (rs : List RecordData) (r : RecordData)
     → RecordsAt m p rs middle → RecordAt m middle r e → RecordsAt m p (rs ++ r ∷ []) e
 records_more m p middle e [] r before at = (e, subst (λ (q : ℕ). RecordAt m q r e) before at, refl)
 records_more m p middle e (first ∷ rs) r before at =
     (before.0, before.1, records_more m before.0 middle e rs r before.2 at)
 
--- where records stand in a row, the first one doesn't fail, and the others stand behind it
-pub first_stands : (m : List ℕ) (p count : ℕ) (f : ReadFault) → HasRecords m p count → 0 < count
+-- where records are in a row, the first one doesn't fail, and the others follow it
+pub first_lies : (m : List ℕ) (p count : ℕ) (f : ReadFault) → HasRecords m p count → 0 < count
     → RecordFails m p f → ⊥
-first_stands m p count f ([], e, at, n) some h = omega (arith, n, some)
-first_stands m p count f (r ∷ rs, e, at, n) some h = record_or_fault m p r at.0 f at.1 h
+first_lies m p count f ([], e, at, n) some h = omega (arith, n, some)
+first_lies m p count f (r ∷ rs, e, at, n) some h = record_or_fault m p r at.0 f at.1 h
 
-pub others_stand : (m : List ℕ) (p count left : ℕ) (r : RecordData) (past : ℕ)
+pub others_lie : (m : List ℕ) (p count left : ℕ) (r : RecordData) (past : ℕ)
     → HasRecords m p count
     → count ≡ left + 1 → RecordAt m p r past → HasRecords m past left
-others_stand m p count left r past ([], e, at, n) some one = absurd (omega (arith, n, some))
-others_stand m p count left r past (r' ∷ rs, e, at, n) some one =
+others_lie m p count left r past ([], e, at, n) some one = absurd (omega (arith, n, some))
+others_lie m p count left r past (r' ∷ rs, e, at, n) some one =
     let same = one_record m p r' r at.0 past at.1 one in
     (rs, e, subst (λ (q : ℕ). RecordsAt m q rs e) same.1 at.2, omega (arith, n, some))
 
 reads_question : (m : List ℕ) (p : ℕ) (q : QuestionData) (e : ℕ) → (at : IsQuestion m p q e)
     → ReadsName m p q.name at.past
 reads_question m p q e at =
-    record { spelled = at.labels; stands = at.stands; lowered = at.name; named = at.named }
+    record { spelled = at.labels; name_at = at.name_at; lowered = at.name; named = at.named }
 
 question_or_fault : (m : List ℕ) (p : ℕ) (q : QuestionData) (e : ℕ) (f : ReadFault)
     → IsQuestion m p q e
@@ -155,7 +155,7 @@ asked_same a b spelled name rtype class =
 pub one_question : (m : List ℕ) (p : ℕ) (a b : QuestionData) (x y : ℕ) → IsQuestion m p a x
     → IsQuestion m p b y → (a ≡ b) × (x ≡ y)
 one_question m p a b x y one two =
-    let same = one_reading m p p one.labels two.labels one.past two.past one.stands two.stands in
+    let same = one_reading m p p one.labels two.labels one.past two.past one.name_at two.name_at in
     let spelled : a.spelled ≡ b.spelled = one.spelled ∙ (ap wire same.0 ∙ sym two.spelled) in
     let name : a.name ≡ b.name = one.name ∙ (ap lower_all same.0 ∙ sym two.name) in
     let rtype : a.rtype ≡ b.rtype =
@@ -167,7 +167,7 @@ one_question m p a b x y one two =
           ∙ (ap (λ (q : ℕ). q + 4) same.1 ∙ sym two.end_is),
     )
 
--- want of memory is no fault of a record, nor of a question
+-- out of memory is no fault of a record, nor of a question
 fixed_no_memory : (m : List ℕ) (past : ℕ) (f : ReadFault) → FixedFails m past f → f ≡ OutOfMemory
     → ⊥
 fixed_no_memory m past f (inl h) e = let t : Truncated ≡ OutOfMemory = sym h.1 ∙ e in absurd (cc)
@@ -193,7 +193,7 @@ sections_no_memory m past true f h e = h
 sections_no_memory m past false f (inl h) e = records_no_memory m past (u16_at m 6) f h e
 sections_no_memory m past false f (inr h) e = records_no_memory m h.1 (u16_at m 8) f h.4 e
 
--- want of memory is no fault of a query, nor of a reply
+-- out of memory is no fault of a query, nor of a reply
 pub query_no_memory : (m : List ℕ) (f : ReadFault) → QueryFails m f → f ≡ OutOfMemory → ⊥
 query_no_memory m f (inl h) e = header_no_memory m f h e
 query_no_memory m f (inr h) e = question_no_memory m 12 f h.1 e
@@ -286,12 +286,12 @@ module _ (m : List ℕ) (h : Header) (q : QuestionData) (past : ℕ) (f : ReadFa
       section_fails
       (inr (a, middle, at, count, subst (λ (n : ℕ). RecordsFail m middle n f) count' fails))
 
--- and the sections of a reply stand behind the question
+-- and the sections of a reply follow the question
 module _ (m : List ℕ) (h : Header) (q : QuestionData) (past : ℕ) (is : IsQuery m h q past)
     (whole : h.tc ≡ false) where
-  sections_stand : HasReply m
+  sections_lie : HasReply m
       → (a : List RecordData) × (b : List RecordData) × SectionsAt m past false a b
-  sections_stand (r, reply) =
+  sections_lie (r, reply) =
       let same = one_question m 12 r.question q reply.past past reply.query.question is.question in
       let tc : r.header.tc ≡ false =
       ap (λ (x : Header). x.tc) (reply.query.header ∙ sym is.header) ∙ whole in (
@@ -302,27 +302,27 @@ module _ (m : List ℕ) (h : Header) (q : QuestionData) (past : ℕ) (is : IsQue
             reply.sections),
       )
 
-  pub answer_stands : (k : ℕ) → k ≡ get_or h.counts 1 0 → HasReply m → HasRecords m past k
-  answer_stands k e reply =
-      let s = (sections_stand reply).2 in (
-        (sections_stand reply).0,
+  pub answer_lies : (k : ℕ) → k ≡ get_or h.counts 1 0 → HasReply m → HasRecords m past k
+  answer_lies k e reply =
+      let s = (sections_lie reply).2 in (
+        (sections_lie reply).0,
         s.0,
         s.2,
         s.3
             ∙ sym (e ∙ ap (λ (x : Header). get_or x.counts 1 0) is.header),
       )
 
-  pub authority_stands : (k l middle : ℕ) (a : List RecordData) → k ≡ get_or h.counts 1 0
+  pub authority_lies : (k l middle : ℕ) (a : List RecordData) → k ≡ get_or h.counts 1 0
       → l ≡ get_or h.counts 2 0 → RecordsAt m past a middle → length a ≡ k → HasReply m
       → HasRecords m middle l
-  authority_stands k l middle a e e' at n reply =
-      let s = (sections_stand reply).2 in
+  authority_lies k l middle a e e' at n reply =
+      let s = (sections_lie reply).2 in
       let count : length a ≡ u16_at m 6 =
       n ∙ (e ∙ ap (λ (x : Header). get_or x.counts 1 0) is.header) in
-      let same = one_row m past (sections_stand reply).0 a s.0 middle s.2 at (s.3 ∙ sym count) in (
-        (sections_stand reply).1,
+      let same = one_row m past (sections_lie reply).0 a s.0 middle s.2 at (s.3 ∙ sym count) in (
+        (sections_lie reply).1,
         s.1,
-        subst (λ (p : ℕ). RecordsAt m p (sections_stand reply).1 s.1) same.1 s.4,
+        subst (λ (p : ℕ). RecordsAt m p (sections_lie reply).1 s.1) same.1 s.4,
         s.5
             ∙ sym (e' ∙ ap (λ (x : Header). get_or x.counts 2 0) is.header),
       )

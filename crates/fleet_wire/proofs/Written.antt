@@ -21,7 +21,7 @@ use Rattle.fleet_wire.specs.Outline.{flag, record_octets, question_octets, Outli
 use Rattle.fleet_name.proofs.Lemmas.{IsAnyCase, any_case-from_lower, lower_all-same, lower-wire}
 use Rattle.fleet_wire.proofs.Spelled.{labels_spelled}
 
--- these octets stand at a place of the message
+-- these octets are at a place of the message
 pub record SitsAt (m : List ℕ) (p : ℕ) (x : List ℕ) : Type 0 where
   pub front : List ℕ
   pub back : List ℕ
@@ -102,15 +102,15 @@ sits_u32 m p n s =
     (sits_rest m p (u16_octets (n / 65536)) (u16_octets (n % 65536)) s) in
     rw (high, low) (omega arith)
 
-pub stands_written : (m : List ℕ) (p s : ℕ) (n : List (List ℕ)) → AllByRecursion IsAnyCase n
+pub lies_written : (m : List ℕ) (p s : ℕ) (n : List (List ℕ)) → AllByRecursion IsAnyCase n
     → SitsAt m p (wire n) → NameAt m s p n (p + length (wire n))
-stands_written m p s [] all at =
+lies_written m p s [] all at =
     ends (record {
       begins = omega (arith, sits_within m p (0 ∷ []) at);
       zero_octet =
           sits_octet m p 0 [] at;
     }) refl refl
-stands_written m p s (l ∷ n) all at =
+lies_written m p s (l ∷ n) all at =
     let is : wire (l ∷ n) ≡ label_octets l ++ wire n =
     append_assoc (label_octets l) (flat_map label_octets n) (0 ∷ []) in
     let at' = sits_moved m p p (wire (l ∷ n)) (label_octets l ++ wire n) refl is at in
@@ -128,7 +128,7 @@ stands_written m p s (l ∷ n) all at =
     sits_moved m (p + length (label_octets l)) (p + 1 + length l) (wire n) (wire n)
     (omega arith) refl
     (sits_rest m p (label_octets l) (wire n) at') in
-    let others = stands_written m (p + 1 + length l) s n all.1 rest in
+    let others = lies_written m (p + 1 + length l) s n all.1 rest in
     let size = ap length is ∙ length-append (label_octets l) (wire n) in
     goes_on l n found
     (subst (λ (e : ℕ). NameAt m s (p + 1 + length l) n e) (omega (arith, size)) others) refl
@@ -139,8 +139,8 @@ reads_written m p n named at =
     let same = lower_all-same n named.labels in
     record {
       spelled = n;
-      stands =
-          stands_written m p p n (any_case-from_lower n (rw same named.labels)) at;
+      name_at =
+          lies_written m p p n (any_case-from_lower n (rw same named.labels)) at;
       lowered =
           sym same;
       named = named;
@@ -163,8 +163,8 @@ question_written m p q is at =
     record {
       labels = labels;
       past = past;
-      stands =
-          stands_written m p p labels
+      name_at =
+          lies_written m p p labels
           (any_case-from_lower labels
           (subst (λ (x : List (List ℕ)). AllByRecursion IsLabel x) (sym found.2) is.named.labels))
           name;

@@ -1,5 +1,4 @@
--- Why no name stands at a place of a message: the first fault on the way. RFC 1035 2.3.4, 3.1,
--- 4.1.4.
+-- Why no name is at a place of a message: the first fault on the way. RFC 1035 2.3.4, 3.1, 4.1.4.
 -- Serves `read_query` and `read_reply`.
 use Rattle.std.specs.Prelude.{◌≡◌, ℕ, ◌+◌, ◌<◌, ◌≤◌, length, slice_index}
 use Rattle.fleet_name.specs.Types.{Label, OctetList}
@@ -9,7 +8,7 @@ use Rattle.fleet_wire.specs.NameAt.{LabelAt, PointerAt}
 use Rattle.fleet_wire.specs.declared.fault.ReadFault.{ReadFault}
 use Rattle.fleet_wire.specs.declared.fault.ReadFault.TheVariants.{Truncated, BadLabel, BadPointer, LongName}
 
--- a label's length octet stands at p
+-- a label's length octet is at p
 abbrev pub LengthAt : OctetList → Place → Type 0
 LengthAt m p = (p < length m) × (0 < slice_index m p) × (slice_index m p ≤ LONGEST_LABEL)
 
@@ -36,6 +35,6 @@ pub data Fails (m : OctetList) : Place → Place → ℕ → ReadFault → Type 
   beyond : {p s : Place} {k : ℕ} {f : ReadFault} (q : Place) → PointerAt m p q → q < s → Fails m q q k f
       → Fails m p s k f
 
--- no name stands at p, for this first fault
+-- no name is at p, for this first fault
 abbrev pub NameFails : OctetList → Place → ReadFault → Type 0
 NameFails m p f = Fails m p p 1 f

@@ -51,7 +51,7 @@ pub record IsQuery (m : OctetList) (h : Header) (q : QuestionData) (past : Place
   pub header : h ≡ header_of m
   pub question : IsQuestion m 12 q past
 
--- m is a query whose name stands in full and in lower case: it has no pointer and no capital letter
+-- m is a query whose name is in full and in lower case: it has no pointer and no capital letter
 pub record IsPlainQuery (m : OctetList) (h : Header) (q : QuestionData) : Type 0 where
   pub past : Place
   pub query : IsQuery m h q past

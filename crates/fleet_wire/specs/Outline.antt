@@ -114,7 +114,7 @@ pub record IsOutlineData (o : OutlineData) : Type 0 where
 abbrev pub HasPlainRdata : RecordData → Type 0
 HasPlainRdata r = IsPlain r.rtype r.rdata
 
--- an outline that is to be read again: with a question, TC clear, plain RDATA, and within a message
+-- an outline that reads back: with a question, TC clear, plain RDATA, and within a message
 pub record IsWhole (o : OutlineData) (q : QuestionData) : Type 0 where
   pub clear : o.tc ≡ false
   pub question : o.question ≡ Some q

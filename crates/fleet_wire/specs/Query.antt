@@ -13,7 +13,7 @@ abbrev pub lowercase_question : QuestionData → QuestionData
 lowercase_question q = record
     { spelled = wire q.name; name = q.name; rtype = q.rtype; class = q.class }
 
--- a header that wants recursion alone and counts one question
+-- the header of a query: RD set, no other flag, and one question
 abbrev pub query_head : ℕ → OctetList
 query_head id = u16_octets id
     ++ (u16_octets 256 ++ (u16_octets 1 ++ (u16_octets 0 ++ (u16_octets 0 ++ u16_octets 0))))
@@ -22,7 +22,7 @@ query_head id = u16_octets id
 abbrev pub query_octets : ℕ → QuestionData → OctetList
 query_octets id q = query_head id ++ question_octets (lowercase_question q)
 
--- the header that is read again
+-- the header that is read back
 abbrev pub query_header : ℕ → Header
 query_header id = record {
   id = id;

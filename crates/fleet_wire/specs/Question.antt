@@ -29,11 +29,11 @@ pub record IsLent (spelled name : OctetList) : Type 0 where
   pub whole : name ≡ wire (labels_of name)
   pub named : IsName (labels_of name)
 
--- the question q stands at p, and ends before e
+-- the question q is at p, and ends before e
 pub record IsQuestion (m : OctetList) (p : Place) (q : QuestionData) (e : Place) : Type 0 where
   pub labels : Labels
   pub past : Place
-  pub stands : NameAt m p p labels past
+  pub name_at : NameAt m p p labels past
   pub spelled : q.spelled ≡ wire labels
   pub name : q.name ≡ lower_all labels
   pub named : IsName q.name
@@ -55,7 +55,7 @@ pub record IsQuestionData (q : QuestionData) : Type 0 where
 
 -- What follows, private contracts alone cite.
 
--- a question that has taken no memory yet
+-- a question as it was read, before its name is allocated
 abbrev pub spelled_question_data : SpelledQuestion → QuestionData
 spelled_question_data q = record {
   spelled = q.name.octets.items;

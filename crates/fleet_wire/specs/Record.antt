@@ -1,5 +1,5 @@
--- What a record is, without where it lies in memory, and what records stand at a place of a message
--- (RFC 1035 4.1.3).
+-- What a record is, without where it lies in memory, and the records at a place of a message (RFC
+-- 1035 4.1.3).
 -- Serves `read_reply`.
 use Rattle.std.specs.Prelude.{◌≡◌, ℕ, ◌+◌, ◌<◌, ◌≤◌, ◌⊎◌, List, [], ◌∷◌, length}
 use Rattle.fleet_name.specs.Types.{Labels, OctetList}
@@ -21,8 +21,8 @@ pub record RecordData : Type 0 where
   pub ttl : Seconds
   pub rdata : OctetList
 
--- the record r stands at p, and ends before e: a name, ten octets, and the RDATA that the last two
--- of them count
+-- the record r is at p, and ends before e: a name, ten octets, and the RDATA that the last two of
+-- them count
 pub record RecordAt (m : OctetList) (p : Place) (r : RecordData) (e : Place) : Type 0 where
   pub past : Place
   pub name : ReadsName m p r.name past
@@ -48,12 +48,12 @@ abbrev pub RecordFails : OctetList → Place → ReadFault → Type 0
 RecordFails m p f = NameFails m p f
     ⊎ ((n : Labels) × (past : Place) × ReadsName m p n past × FixedFails m past f)
 
--- the records stand at p in a row, and end before e
+-- the records are at p in a row, and end before e
 abbrev pub RecordsAt : OctetList → Place → List RecordData → Place → Type 0
 RecordsAt m p [] e = e ≡ p
 RecordsAt m p (r ∷ rs) e = (past : Place) × RecordAt m p r past × RecordsAt m past rs e
 
--- the first fault of so many records at p: behind fewer of them stands none
+-- the first fault of `count` records at p: that of the one after fewer of them
 abbrev pub RecordsFail : OctetList → Place → ℕ → ReadFault → Type 0
 RecordsFail m p count f = (rs : List RecordData) × (past : Place) × RecordsAt m p rs past
     × (length rs < count) × RecordFails m past f
@@ -65,7 +65,7 @@ pub record IsPlainRecord (r : RecordData) : Type 0 where
 
 -- What follows, private contracts alone cite.
 
--- a record that has taken no memory yet
+-- a record as it was read, before anything of it is allocated
 abbrev pub spelled_record_data : SpelledRecord → RecordData
 spelled_record_data r = record {
   name = lower_all (labels_of r.owner.octets.items);
@@ -75,6 +75,6 @@ spelled_record_data r = record {
   rdata = r.rdata.items;
 }
 
--- so many records stand at p in a row
+-- `count` records are at p in a row
 abbrev pub HasRecords : OctetList → Place → ℕ → Type 0
 HasRecords m p count = (rs : List RecordData) × (e : Place) × RecordsAt m p rs e × (length rs ≡ count)

@@ -1,5 +1,5 @@
--- What RDATA holds: a table from types to parts, and what parts stand at a place of a message (RFC
--- 1035 3.3, RFC 2782).
+-- What RDATA holds: a table from types to parts, and the parts at a place of a message (RFC 1035
+-- 3.3, RFC 2782).
 -- Serves `read_reply`, `plain_rdata`.
 use Rattle.std.specs.Prelude.{◌≡◌, ◌≢◌, ℕ, ◌+◌, ◌<◌, ◌≤◌, ◌⊎◌, List, [], ◌∷◌, ◌++◌, length, take, drop, Option, Some, None, if◌then◌else◌, nat_eq, ◌||◌}
 use Rattle.fleet_name.specs.Types.{Labels, OctetList}
@@ -26,8 +26,7 @@ shape_of t =
     if nat_eq t MX then Some (Plain 2 ∷ Name ∷ []) else
     if nat_eq t SRV then Some (Plain 6 ∷ Name ∷ []) else None
 
--- the parts stand at p one after the other, as these octets with each name in full, and end before
--- e
+-- the parts are at p one after the other, as these octets with each name in full, and end before e
 abbrev pub PartsAt : OctetList → List Part → Place → OctetList → Place → Type 0
 PartsAt m [] p octets e = (octets ≡ []) × (e ≡ p)
 PartsAt m (Plain n ∷ parts) p octets e = (others : OctetList) × (p + n ≤ length m)

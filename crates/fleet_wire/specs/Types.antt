@@ -1,8 +1,8 @@
--- What plain numbers stand for.
+-- Types of numbers.
 -- Serves every crate above: the types of what definitions speak of.
 use Rattle.std.specs.Prelude.{ℕ}
 
--- a place in a message: how many octets stand before it
+-- a place in a message: how many octets come before it
 abbrev pub Place : Type 0
 Place = ℕ
 

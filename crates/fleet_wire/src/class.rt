@@ -1,4 +1,4 @@
 //! The classes of records (RFC 1035 3.2.4).
 
-/// The Internet.
+/// IN, the Internet.
 pub const IN: u16 = 1;

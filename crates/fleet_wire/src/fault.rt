@@ -6,7 +6,7 @@ ghost use Rattle.fleet_wire.specs.declared.fault.ReadFault.TheVariants.{OutOfMem
 use std::alloc::{AllocError, AllocFailed};
 use thiserror::Error;
 
-/// Why a message can't be read: the first fault that it meets, in the order of its octets.
+/// Why a message can't be read: its first fault, in the order of its octets.
 #[derive(Clone, Copy, Debug, PartialEq, Eq, Error)]
 pub enum ReadFault {
     /// It has under 12 octets, so no header (RFC 1035 4.1.1).
@@ -15,7 +15,7 @@ pub enum ReadFault {
     /// It has over 512 octets (RFC 1035 2.3.4).
     #[error("too long")]
     TooLong,
-    /// It ends within a name, a question or a record.
+    /// It ends within a name, a question or a record (RFC 1035 4.1.2, 4.1.3).
     #[error("truncated")]
     Truncated,
     /// A length octet has the top bits 01 or 10 (RFC 1035 4.1.4).
@@ -24,16 +24,16 @@ pub enum ReadFault {
     /// A pointer doesn't lead to a place before the run of labels that holds it (RFC 1035 4.1.4).
     #[error("bad pointer")]
     BadPointer,
-    /// A name would pass 255 octets (RFC 1035 2.3.4).
+    /// A name in full would have more than 255 octets (RFC 1035 2.3.4).
     #[error("long name")]
     LongName,
     /// The parts of RDATA end at another octet than the RDATA (RFC 1035 3.3).
     #[error("bad RDATA")]
     BadRdata,
-    /// It has no question, or several (RFC 1035 4.1.1).
+    /// QDCOUNT is not 1 (RFC 1035 4.1.1).
     #[error("not one question")]
     QuestionCount,
-    /// There was no memory for what was read.
+    /// An allocation failed.
     #[error("out of memory")]
     OutOfMemory,
 }

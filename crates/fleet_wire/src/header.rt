@@ -10,11 +10,11 @@ use crate::number::read_u16;
 pub struct Header {
     /// ID: a reply has that of its query.
     pub id: u16,
-    /// QR: whether it is a reply.
+    /// QR: whether the message is a reply.
     pub response: bool,
     /// Opcode, 0 to 15: 0 is a standard query.
     pub opcode: u8,
-    /// AA: whether the answer is an authority's.
+    /// AA: whether the server is an authority for the name of the question.
     pub aa: bool,
     /// TC: whether the message was cut off.
     pub tc: bool,
@@ -22,11 +22,11 @@ pub struct Header {
     pub rd: bool,
     /// RCODE, 0 to 15: 0 is no error, 3 a name error.
     pub rcode: u8,
-    /// How many questions, answer, authority and additional records the message says that it has.
+    /// QDCOUNT, ANCOUNT, NSCOUNT and ARCOUNT, as the message has them.
     pub counts: [u16; 4],
 }
 
-/// The header in the first octets of a message.
+/// The header in the first twelve octets of a message.
 pub(crate) fn header_at(message: &[u8]) -> Header
     requires { 12 ≤ length message.now }
     ensures { result ≡ header_of message.now }

@@ -11,13 +11,13 @@ ghost use Rattle.fleet_wire.specs.Query.{lowercase_question, query_octets, query
 ghost use Rattle.fleet_wire.specs.declared.header.Header.{Header};
 ghost use Rattle.fleet_wire.specs.declared.fault.ReadFault.{ReadFault};
 
-/// A place of a message has one name at most.
+/// At a place of a message there is one name at most, with one end (RFC 1035 4.1.4).
 pub fn one_name()
     ensures { (m : OctetList) (p : ℕ) (a b : Labels) (x y : ℕ) → ReadsName m p a x
         → ReadsName m p b y → (a ≡ b) × (x ≡ y) }
 {}
 
-/// A message is one query at most.
+/// A message is one query at most: one header, one question, one end.
 pub fn one_query()
     ensures { (m : OctetList) (h k : Header) (a b : QuestionData) (x y : ℕ) → IsQuery m h a x
         → IsQuery m k b y → (h ≡ k) × (a ≡ b) × (x ≡ y) }
@@ -28,14 +28,14 @@ pub fn one_reply()
     ensures { (m : OctetList) (a b : MessageData) → IsReply m a → IsReply m b → a ≡ b }
 {}
 
-/// What is a query has no fault.
+/// A message that is a query has no fault as one.
 pub fn query_or_fault()
     ensures { (m : OctetList) (h : Header) (q : QuestionData) (past : ℕ) (f : ReadFault)
         → IsQuery m h q past
         → QueryFails m f → ⊥ }
 {}
 
-/// What is a reply has no fault.
+/// A message that is a reply has no fault as one.
 pub fn reply_or_fault()
     ensures { (m : OctetList) (r : MessageData) (f : ReadFault) → IsReply m r → ReplyFails m f → ⊥ }
 {}
@@ -50,14 +50,14 @@ pub fn one_reply_fault()
     ensures { (m : OctetList) (f g : ReadFault) → ReplyFails m f → ReplyFails m g → f ≡ g }
 {}
 
-/// The octets of an outline with a question, plain RDATA and TC clear are read as its lines, if all
-/// of it fits a message.
+/// `read_reply` reads the octets of an outline as that outline, where it has a question, plain
+/// RDATA and TC clear, and fits a message whole.
 pub fn reply_reads_back()
     ensures { (o : OutlineData) (q : QuestionData) → IsOutlineData o → IsWhole o q
         → IsReply (octets_of_outline o) (message_of_outline o q) }
 {}
 
-/// A query is read again, with its name in lower case.
+/// `read_query` reads the octets of a query as its question, with the name in lower case.
 pub fn query_reads_back()
     ensures { (id : ℕ) (q : QuestionData) → IsName q.name
         → IsQuery (query_octets id q) (query_header id) (lowercase_question q)

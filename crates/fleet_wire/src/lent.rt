@@ -1,4 +1,4 @@
-//! Questions that are lent.
+//! Questions that borrow their name.
 
 ghost use Rattle.std.specs.Prelude.{◌≡◌, None, List, ℕ, ◌++◌, ◌+◌, ◌≤◌, length, IfOk, IfSome, MatchOption};
 ghost use Rattle.fleet_name.specs.Name.{wire, labels_of, IsName};
@@ -11,16 +11,16 @@ use fleet_name::{Name, Octets};
 use std::alloc::{AllocError, Allocator};
 use std::marker::Model;
 
-/// A question (RFC 1035 4.1.2) that a message or a `Question` lends: nothing of it is copied.
+/// A question (RFC 1035 4.1.2) that borrows its name from a message or a `Question`.
 #[derive(Drop)]
 pub struct LentQuestion<'a> {
     /// The name in full, in its own case.
     pub(crate) spelled: &'a [u8],
     /// The name in full, in lower case.
     pub(crate) name: &'a [u8],
-    /// The type that is asked for.
+    /// QTYPE.
     pub(crate) rtype: u16,
-    /// The class that is asked for.
+    /// QCLASS.
     pub(crate) class: u16,
 }
 
@@ -45,14 +45,14 @@ impl<'a> LentQuestion<'a> {
         self.name
     }
 
-    /// The type that is asked for.
+    /// QTYPE.
     pub fn rtype(&self) -> u16
         ensures { result ≡ self.now.rtype }
     {
         self.rtype
     }
 
-    /// The class that is asked for.
+    /// QCLASS.
     pub fn class(&self) -> u16
         ensures { result ≡ self.now.class }
     {
@@ -83,7 +83,7 @@ impl<'a> LentQuestion<'a> {
 }
 
 impl<A: Allocator> Question<A> {
-    /// The question, lent.
+    /// The question, with its name borrowed from this one.
     pub fn lend(&self) -> LentQuestion<'_>
         ensures { result ≡ self.now }
     {

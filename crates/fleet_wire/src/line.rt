@@ -1,9 +1,9 @@
-//! Lines of a reply that is to be written.
+//! Records of a reply that is to be written.
 
 ghost use Rattle.std.specs.Prelude.{◌≡◌};
 ghost use Rattle.fleet_name.specs.Name.{wire, labels_of};
 
-/// A record of the class IN, lent: its owner in full and in lower case, its type, its TTL in
+/// A borrowed record of the class IN: its owner in full and in lower case, its type, its TTL in
 /// seconds and its RDATA.
 #[derive(Drop)]
 pub(crate) struct Line<'a> {
@@ -15,7 +15,7 @@ pub(crate) struct Line<'a> {
     pub(crate) ghost spells: { owner.now ≡ wire (labels_of owner.now) },
 }
 
-/// What fills a place that has no line yet: a line of the root.
+/// What fills a slot that has no line yet: a line of the root.
 impl Default for Line<'_> {
     fn default() -> Self {
         Line {

@@ -31,7 +31,7 @@ impl<A: Allocator> Model for Message<A> {
 }
 
 impl<A: Allocator> Message<A> {
-    /// A reply of its parts.
+    /// A reply made of its parts.
     pub(crate) fn of_parts(
         header: Header,
         question: Question<A>,
@@ -49,7 +49,7 @@ impl<A: Allocator> Message<A> {
         }
     }
 
-    /// The header, with its counts as the message says them.
+    /// The header, with the counts that the message has.
     pub fn header(&self) -> Header
         ensures header { result ≡ self.now.header }
         ensures read { IsRead self.now }
@@ -57,7 +57,7 @@ impl<A: Allocator> Message<A> {
         self.header
     }
 
-    /// The question.
+    /// The question of the reply (RFC 1035 4.1.2).
     pub fn question(&self) -> &Question<A>
         ensures question { result.now ≡ self.now.question }
         ensures read { IsRead self.now }
@@ -65,7 +65,7 @@ impl<A: Allocator> Message<A> {
         &self.question
     }
 
-    /// The records of the answer section, in their order.
+    /// The records of the answer section, in order; none where TC is set.
     pub fn answer(&self) -> &[Record<A>]
         ensures answer { result.now ≡ self.now.answer }
         ensures read { IsRead self.now }
@@ -73,7 +73,7 @@ impl<A: Allocator> Message<A> {
         &self.answer
     }
 
-    /// The records of the authority section, in their order.
+    /// The records of the authority section, in order; none where TC is set.
     pub fn authority(&self) -> &[Record<A>]
         ensures authority { result.now ≡ self.now.authority }
         ensures read { IsRead self.now }

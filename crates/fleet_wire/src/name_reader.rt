@@ -13,7 +13,7 @@ use fleet_name::Name;
 use fleet_name::bounds::LONGEST_NAME;
 use std::alloc::{AllocError, Allocator};
 
-/// What stands at a place where a label may begin.
+/// What is at a place of a message where a label may begin.
 pub(crate) enum Step<'a> {
     End,
     Label(&'a [u8]),
@@ -66,7 +66,7 @@ pub(crate) fn step_at(
     Ok(Step::Pointer(target))
 }
 
-/// The label whose length octet stands at `at`.
+/// The label whose length octet, `count`, is at `at`. The name has `used` octets in full before it.
 fn label_at(message: &[u8], at: usize, count: usize, used: usize) -> Result<Step<'_>, ReadFault>
     requires begins { at < length message.now }
     requires counted { slice_index message.now at ≡ count }
@@ -87,7 +87,7 @@ fn label_at(message: &[u8], at: usize, count: usize, used: usize) -> Result<Step
     Ok(Step::Label(octets))
 }
 
-/// Adds a label in its own case.
+/// Adds a label with its length octet, in its own case.
 fn append_label(octets: &mut ArrayVec<u8, LONGEST_NAME>, label: &[u8])
     requires short { length label.now ≤ LONGEST_LABEL }
     requires room { length octets.old.items + length label.now < LONGEST_NAME }
@@ -97,7 +97,7 @@ fn append_label(octets: &mut ArrayVec<u8, LONGEST_NAME>, label: &[u8])
     let _ = octets.try_extend_from_slice(label);
 }
 
-/// The name at a place of a message.
+/// The name at a place of a message, its pointers followed.
 pub(crate) fn spelling_at(message: &[u8], offset: usize) -> Result<Spelled, ReadFault>
     ensures found { IfOk result (λ r.
         NameAt message.now offset offset (labels_of r.octets.items) r.end) }
@@ -134,7 +134,7 @@ pub(crate) fn spelling_at(message: &[u8], offset: usize) -> Result<Spelled, Read
     }
 }
 
-/// The name that was spelled, in lower case.
+/// The name in lower case, in one allocation. `Err` where it fails.
 pub(crate) fn name_of<A: Allocator>(alloc: A, spelled: &Spelled) -> Result<Name<A>, AllocError>
     requires spelled { IsSpelling spelled.now.octets.items }
     requires counted { spelled.now.labels ≡ length (labels_of spelled.now.octets.items) }

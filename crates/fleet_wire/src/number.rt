@@ -33,7 +33,7 @@ pub(crate) fn push_u16<A: Allocator>(out: &mut Vec<u8, A>, n: u16) -> Result<(),
     out.extend_from_slice(&n.to_be_bytes())
 }
 
-/// The octets of a number of four octets.
+/// The octets of a number of 32 bits.
 pub(crate) fn octets_of_u32(n: u32) -> [u8; 4]
     ensures { result ≡ u32_octets n }
 {

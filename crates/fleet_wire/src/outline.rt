@@ -10,10 +10,9 @@ use fleet_name::Name;
 use std::alloc::{AllocError, Allocator, Global};
 use std::marker::Model;
 
-/// What a reply is to say: header fields, a question if any, and lines of the answer and authority
-/// sections. A line is a record of the class IN. The question and what the lines say are lent for
-/// as long as the outline lives, and nothing of them is copied. Four lines of a section take no
-/// memory.
+/// A reply that is to be written: header fields, a question if any, and lines of the answer and
+/// authority sections. A line is a record of the class IN. The outline borrows its question and its
+/// lines. The first four lines of a section allocate nothing.
 #[derive(Drop)]
 pub struct Outline<'a, A: Allocator = Global> {
     pub(crate) id: u16,
@@ -39,8 +38,8 @@ impl<'a, A: Allocator> Model for Outline<'a, A> {
 }
 
 impl<'a, A: Allocator + Copy> Outline<'a, A> {
-    /// An outline without lines. Its opcode and RCODE are at most 15 (RFC 1035 4.1.1). This takes
-    /// no memory.
+    /// An outline without lines. Its opcode and RCODE are at most 15 (RFC 1035 4.1.1). This
+    /// allocates nothing.
     pub fn new(
         alloc: A,
         id: u16,
@@ -65,7 +64,7 @@ impl<'a, A: Allocator + Copy> Outline<'a, A> {
         Outline::of_lent(alloc, id, opcode, rd, rcode, tc, lent)
     }
 
-    /// `new`, of a question that is lent.
+    /// `new` with a question that borrows its name.
     pub fn of_lent(
         alloc: A,
         id: u16,
@@ -95,8 +94,8 @@ impl<'a, A: Allocator + Copy> Outline<'a, A> {
     }
 
     /// Adds a line at the end of the answer section: its owner, its type, its TTL in seconds and
-    /// its RDATA with every name in full. Where there is no memory for it, the outline stays as it
-    /// was.
+    /// its RDATA with every name in full. `Err` where an allocation fails; the outline is then as
+    /// it was.
     pub fn answer(
         &mut self,
         name: &'a Name<A>,
@@ -112,8 +111,8 @@ impl<'a, A: Allocator + Copy> Outline<'a, A> {
     }
 
     /// Adds a line at the end of the authority section: its owner, its type, its TTL in seconds and
-    /// its RDATA with every name in full. Where there is no memory for it, the outline stays as it
-    /// was.
+    /// its RDATA with every name in full. `Err` where an allocation fails; the outline is then as
+    /// it was.
     pub fn authority(
         &mut self,
         name: &'a Name<A>,

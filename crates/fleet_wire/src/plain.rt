@@ -9,7 +9,7 @@ use crate::name_reader::{Step, step_at};
 use crate::shape::{Part, parts_of};
 use fleet_name::is_lower;
 
-/// The octets behind a name in full and in lower case, if one stands first.
+/// The octets after the name in full and in lower case that comes first. `None` where none does.
 pub(crate) fn after_name(octets: &[u8]) -> Option<&[u8]>
     ensures { MatchOption result
         ((n : Labels) (others : OctetList) → IsName n → octets.now ≡ wire n ++ others → ⊥)

@@ -20,7 +20,7 @@ use crate::question::Question;
 use fleet_name::Octets;
 use std::alloc::{AllocError, Allocator};
 
-/// The header of a message of one question.
+/// The header of a message of 12 to 512 octets with one question.
 pub(crate) fn counted_header(message: &[u8]) -> Result<Header, ReadFault>
     ensures { MatchResult result (λ h. HasOneQuestion message.now × (h ≡ header_of message.now))
         (HeaderFails message.now) }
@@ -38,7 +38,7 @@ pub(crate) fn counted_header(message: &[u8]) -> Result<Header, ReadFault>
     Ok(header)
 }
 
-/// A question that has taken no memory yet.
+/// A question as it was read, before its name is allocated.
 #[derive(Drop)]
 pub(crate) struct SpelledQuestion {
     pub(crate) name: Spelled,
@@ -69,7 +69,7 @@ pub(crate) fn question_at(message: &[u8], offset: usize) -> Result<SpelledQuesti
     })
 }
 
-/// The question that was spelled, in memory of its own.
+/// The question with a name of its own. `Err` where an allocation fails.
 pub(crate) fn question_of<A: Allocator + Copy>(
     alloc: A,
     spelled: &SpelledQuestion,
@@ -91,9 +91,11 @@ pub(crate) fn question_of<A: Allocator + Copy>(
 /// The header and the question of a message (RFC 1035 4.1.1, 4.1.2). What follows the question is
 /// not looked at.
 ///
-/// The first fault is told: `TooShort` under 12 octets, `TooLong` over 512, `QuestionCount` where
-/// there is not one question, then what the question's name meets, and `Truncated` where its type
-/// or class is cut off. `OutOfMemory` is told only where there is none of these.
+/// # Errors
+///
+/// The first of these: `TooShort` under 12 octets, `TooLong` over 512, `QuestionCount` where there
+/// is not one question, then the fault of the question's name, and `Truncated` where its type or
+/// class is cut off. `OutOfMemory` comes only where there is no other.
 pub fn read_query<A: Allocator + Copy>(
     alloc: A,
     message: &[u8],
@@ -111,10 +113,11 @@ pub fn read_query<A: Allocator + Copy>(
     Ok((header, question))
 }
 
-/// The header and the question of a message whose question stands in full and in lower case: its
-/// name has no pointer and no capital letter (RFC 1035 3.1, 4.1.4). The message lends the question.
-/// `None` where `read_query` has a fault to tell, or the question is spelled in another way. What
-/// follows the question is not looked at. This takes no memory.
+/// `read_query` without a copy: the header and the question of a message whose question is in full
+/// and in lower case, so its name has no pointer and no capital letter (RFC 1035 3.1, 4.1.4). The
+/// question borrows its name from the message. `None` where `read_query` returns a fault, or the
+/// name is spelled in another way. What follows the question is not looked at. This allocates
+/// nothing.
 pub fn read_plain_query(message: &[u8]) -> Option<(Header, LentQuestion<'_>)>
     ensures found { IfSome result (λ r. IsPlainQuery message.now r.0 r.1) }
     ensures lawful { IfSome result (λ r. IsHeader r.0) }
@@ -141,7 +144,7 @@ pub fn read_plain_query(message: &[u8]) -> Option<(Header, LentQuestion<'_>)>
     Some((header, question))
 }
 
-/// Adds a header that wants recursion alone and counts one question.
+/// Adds the header of a query: RD is set, no other flag, and QDCOUNT is 1.
 fn push_query_head<A: Allocator>(out: &mut Vec<u8, A>, id: u16) -> Result<(), AllocError>
     ensures { OnOk result (out.new.items ≡ out.old.items ++ query_head id) }
 {
@@ -153,15 +156,15 @@ fn push_query_head<A: Allocator>(out: &mut Vec<u8, A>, id: u16) -> Result<(), Al
     push_u16(out, 0)
 }
 
-/// The octets of a query to an upstream: recursion alone is wanted (RD, RFC 1035 4.1.1), and the
-/// name is in lower case. `Err` where there is no memory for them.
+/// The octets of a query to an upstream: RD is set and no other flag (RFC 1035 4.1.1), and the name
+/// is in lower case. `Err` where an allocation fails.
 pub fn write_query<A: Allocator, B: Allocator>(
     alloc: A,
     id: u16,
     question: &Question<B>,
 ) -> Result<Vec<u8, A>, AllocError>
     ensures octets { IfOk result (λ v. v.items ≡ query_octets id question.now) }
-    // It is read again.
+    // `read_query` reads it back.
     ensures reads_back { IfOk result (λ v.
         IsQuery v.items (query_header id) (lowercase_question question.now) (length v.items)) }
 {

@@ -1,4 +1,4 @@
-//! Questions.
+//! Questions (RFC 1035 4.1.2).
 
 use fleet_name::{Name, Octets};
 use std::alloc::{AllocError, Allocator, Global};
@@ -11,9 +11,9 @@ pub struct Question<A: Allocator = Global> {
     pub spelled: Octets<A>,
     /// The name, in lower case.
     pub name: Name<A>,
-    /// The type that is asked for.
+    /// QTYPE.
     pub rtype: u16,
-    /// The class that is asked for.
+    /// QCLASS.
     pub class: u16,
 }
 
@@ -38,7 +38,7 @@ impl<A: Allocator> Model for Question<A> {
 impl<A: Allocator> Question<A> {
     ghost use Rattle.std.specs.Prelude.{◌≡◌, IfOk};
 
-    /// A copy of the question, or `Err` where there is no memory for it.
+    /// A copy of the question. `Err` where an allocation fails.
     pub fn try_clone(&self) -> Result<Question<A>, AllocError>
     where
         A: Copy,

@@ -16,15 +16,15 @@ use std::marker::Model;
 /// A record of a message (RFC 1035 4.1.3).
 #[derive(Drop)]
 pub struct Record<A: Allocator = Global> {
-    /// The owner, in lower case.
+    /// NAME, the owner, in lower case.
     pub name: Name<A>,
-    /// The type.
+    /// TYPE.
     pub rtype: u16,
-    /// The class.
+    /// CLASS.
     pub class: u16,
-    /// The TTL in seconds, as it was read.
+    /// TTL in seconds, all 32 bits as the message has them.
     pub ttl: u32,
-    /// The RDATA. For the types with names in it, each name is in full and in lower case.
+    /// RDATA. Where its type has names in it, each name is in full and in lower case.
     pub rdata: Octets<A>,
 }
 
@@ -42,7 +42,7 @@ impl<A: Allocator> Model for Record<A> {
     } };
 }
 
-/// A record that has taken no memory yet.
+/// A record as it was read, before anything of it is allocated.
 #[derive(Drop)]
 pub(crate) struct SpelledRecord {
     pub(crate) owner: Spelled,
@@ -83,7 +83,7 @@ fn record_at(message: &[u8], offset: usize) -> Result<SpelledRecord, ReadFault>
     })
 }
 
-/// Where so many records in a row end that stand at a place of a message.
+/// Where `count` records in a row end that begin at a place of a message.
 pub(crate) fn records_end(message: &[u8], offset: usize, count: u16) -> Result<usize, ReadFault>
     requires short { length message.now ≤ LONGEST_MESSAGE }
     ensures found { IfOk result (λ e.
@@ -97,7 +97,7 @@ pub(crate) fn records_end(message: &[u8], offset: usize, count: u16) -> Result<u
     Ok(at)
 }
 
-/// The record that was spelled, in memory of its own.
+/// The record with a name and RDATA of its own. `Err` where an allocation fails.
 fn record_of<A: Allocator + Copy>(
     alloc: A,
     spelled: &SpelledRecord,
@@ -124,7 +124,8 @@ fn record_of<A: Allocator + Copy>(
     })
 }
 
-/// So many records in a row at a place of a message where they stand, and where they end.
+/// The `count` records in a row at a place of a message, and where they end. The caller has read
+/// them once.
 pub(crate) fn records_of<A: Allocator + Copy>(
     alloc: A,
     message: &[u8],
@@ -132,7 +133,7 @@ pub(crate) fn records_of<A: Allocator + Copy>(
     count: u16,
 ) -> Result<(Vec<Record<A>, A>, usize), AllocError>
     requires short { length message.now ≤ LONGEST_MESSAGE }
-    requires stand { HasRecords message.now offset count }
+    requires found { HasRecords message.now offset count }
     ensures found { IfOk result (λ r. RecordsAt message.now offset r.0.items r.1) }
     ensures counted { IfOk result (λ r. length r.0.items ≡ count) }
 {

@@ -14,8 +14,8 @@ use crate::query::{SpelledQuestion, counted_header, question_at, question_of};
 use crate::record::{records_end, records_of};
 use std::alloc::{AllocError, Allocator};
 
-/// The header and the question of a message that is a reply. Its records are read too, and not
-/// kept.
+/// The header and the question of a reply. Its records are read too, and not kept, so each fault is
+/// met before anything is allocated.
 fn reply_head(message: &[u8]) -> Result<(Header, SpelledQuestion), ReadFault>
     ensures query { IfOk result (λ r. IsQuery message.now r.0 (spelled_question_data r.1) r.1.end) }
     ensures whole { IfOk result (λ _. HasReply message.now) }
@@ -34,7 +34,7 @@ fn reply_head(message: &[u8]) -> Result<(Header, SpelledQuestion), ReadFault>
     Ok((header, question))
 }
 
-/// The reply that a message with this header and this question is.
+/// The reply of a message with this header and this question, whose records were read once.
 fn message_of<A: Allocator + Copy>(
     alloc: A,
     message: &[u8],
@@ -63,10 +63,12 @@ fn message_of<A: Allocator + Copy>(
 /// 1035 4.1). With TC set both sections are empty. The additional section, and octets after the
 /// last part, are not looked at.
 ///
-/// The first fault is told, in the order of the octets: those of `read_query`, then for each record
-/// what its name meets, `Truncated` where its ten fixed octets or its RDATA pass the end, then what
-/// the parts of its RDATA meet, and `BadRdata` where they end at another octet than it does.
-/// `OutOfMemory` is told only where there is none of these.
+/// # Errors
+///
+/// The first of these, in the order of the octets: those of `read_query`; then for each record the
+/// fault of its name, `Truncated` where its ten fixed octets or its RDATA pass the end of the
+/// message, the fault of a part of its RDATA, and `BadRdata` where the parts end at another octet
+/// than it does. `OutOfMemory` comes only where there is no other.
 pub fn read_reply<A: Allocator + Copy>(alloc: A, message: &[u8]) -> Result<Message<A>, ReadFault>
     ensures found { IfOk result (λ r. IsReply message.now r) }
     ensures fault { IfErr result (λ f. OrMemory OutOfMemory f (ReplyFails message.now f)) }

@@ -12,8 +12,8 @@ use fleet_name::Name;
 use std::alloc::{AllocError, Allocator};
 use std::marker::Model;
 
-/// The lines of a section, in order. The first four lie in the value itself, so that a section of
-/// few lines takes no memory.
+/// The lines of a section, in order. The first four lie in the value itself, so a section of at
+/// most four lines allocates nothing.
 #[derive(Drop)]
 pub(crate) struct Section<'a, A: Allocator> {
     first: ArrayVec<Line<'a>, 4>,
@@ -41,7 +41,7 @@ impl<'a, A: Allocator> Section<'a, A> {
         }
     }
 
-    /// Adds a line at the end, or leaves the section as it was where there is no memory for it.
+    /// Adds a line at the end. `Err` where an allocation fails; the section is then as it was.
     pub(crate) fn push(&mut self, line: Line<'a>) -> Result<(), AllocError>
         ensures ok { OnOk result (self.new ≡ self.old ++ record_of_line line.entry ∷ []) }
         ensures err { OnErr result (self.new ≡ self.old) }
@@ -54,7 +54,7 @@ impl<'a, A: Allocator> Section<'a, A> {
         Ok(())
     }
 
-    /// How many lines there are.
+    /// The number of lines.
     pub(crate) fn len(&self) -> usize
         requires { length self.now ≤ LONGEST_MESSAGE }
         ensures { result ≡ length self.now }
@@ -62,7 +62,7 @@ impl<'a, A: Allocator> Section<'a, A> {
         self.first.len() + self.more.len()
     }
 
-    /// The lines in the value itself, and the others.
+    /// The first four lines, and those on the heap.
     pub(crate) fn parts(&self) -> (&[Line], &[Line])
         ensures { records_of_lines result.0.now ++ records_of_lines result.1.now ≡ self.now }
     {
@@ -70,7 +70,7 @@ impl<'a, A: Allocator> Section<'a, A> {
     }
 }
 
-/// A line.
+/// A line of these values.
 pub(crate) fn line_of<'a, A: Allocator>(
     name: &'a Name<A>,
     rtype: u16,

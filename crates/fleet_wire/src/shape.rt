@@ -19,8 +19,9 @@ use fleet_name::bounds::LONGEST_NAME;
 /// A part of RDATA.
 #[derive(Clone, Copy, Debug, PartialEq, Eq)]
 pub(crate) enum Part {
-    /// So many octets that are no name.
+    /// A number of octets that are no name.
     Plain(usize),
+    /// A name, which may be compressed in a message.
     Name,
 }
 
@@ -28,7 +29,7 @@ pub(crate) enum Part {
 /// five numbers.
 pub(crate) const LONGEST_RDATA: usize = 2 * LONGEST_NAME + 20;
 
-/// RDATA that has taken no memory yet.
+/// RDATA as it was read, before it is allocated.
 pub(crate) type Rdata = ArrayVec<u8, LONGEST_RDATA>;
 
 /// The parts of a type's RDATA, if it has names.
@@ -46,7 +47,7 @@ pub(crate) fn parts_of(rtype: u16) -> Option<&'static [Part]>
     }
 }
 
-/// So many octets at a place.
+/// The `count` octets at a place; `Truncated` where the message ends before.
 fn octets_at(message: &[u8], at: usize, count: usize) -> Result<&[u8], ReadFault>
     requires { at ≤ length message.now }
     ensures { MatchResult result
@@ -78,7 +79,7 @@ fn append_lower(out: &mut Rdata, octets: &[u8])
     }
 }
 
-/// Adds the name at a place, in full and in lower case, and tells where it ends.
+/// Adds the name at a place, in full and in lower case, and returns where it ends.
 fn append_name(out: &mut Rdata, message: &[u8], at: usize) -> Result<usize, ReadFault>
     requires room { length out.old.items + LONGEST_NAME ≤ LONGEST_RDATA }
     ensures found { IfOk result (λ past. (n : Labels) × ReadsName message.now at n past
@@ -91,7 +92,7 @@ fn append_name(out: &mut Rdata, message: &[u8], at: usize) -> Result<usize, Read
     Ok(spelled.end)
 }
 
-/// The parts at a place, with each name in full, and where they end.
+/// The parts at a place, with each name in full and in lower case, and where they end.
 fn parts_at(message: &[u8], parts: &[Part], offset: usize) -> Result<(Rdata, usize), ReadFault>
     requires within { offset ≤ length message.now }
     requires room { room_of parts.now ≤ LONGEST_RDATA }
@@ -112,7 +113,8 @@ fn parts_at(message: &[u8], parts: &[Part], offset: usize) -> Result<(Rdata, usi
     Ok((octets, at))
 }
 
-/// So many octets of RDATA of a type at a place, with each name in full.
+/// RDATA of a type, `count` octets at a place, with each name in full and in lower case. `BadRdata`
+/// where its parts end at another octet.
 pub(crate) fn rdata_at(
     message: &[u8],
     at: usize,

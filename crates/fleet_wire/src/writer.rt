@@ -55,7 +55,7 @@ fn question_size(question: &Option<LentQuestion>) -> usize
     }
 }
 
-/// Adds the octets between the name and the RDATA.
+/// Adds the ten octets between the name and the RDATA: type, class, TTL and RDLENGTH.
 fn push_fixed<A: Allocator>(
     out: &mut Vec<u8, A>,
     rtype: u16,
@@ -111,7 +111,7 @@ fn push_section<A: Allocator, B: Allocator>(
     push_lines(out, more)
 }
 
-/// How much of the room is left behind the octets of the lines' records, if they fit.
+/// How many octets of `room` are left after the lines' records. `None` where they do not fit.
 fn room_after(lines: &[Line], room: usize) -> Option<usize>
     ensures { MatchOption result (room < length (section_octets (records_of_lines lines.now)))
         (λ left. left + length (section_octets (records_of_lines lines.now)) ≡ room) }
@@ -132,7 +132,7 @@ fn room_after(lines: &[Line], room: usize) -> Option<usize>
     Some(left)
 }
 
-/// How much of the room is left behind the octets of a section, if they fit.
+/// How many octets of `room` are left after a section. `None` where it does not fit.
 fn room_behind<A: Allocator>(section: &Section<A>, room: usize) -> Option<usize>
     ensures { MatchOption result (room < length (section_octets section.now))
         (λ left. left + length (section_octets section.now) ≡ room) }
@@ -142,7 +142,7 @@ fn room_behind<A: Allocator>(section: &Section<A>, room: usize) -> Option<usize>
     room_after(more, left)
 }
 
-/// How many octets a reply has that is written whole, if they fit a message.
+/// How many octets the reply has where it is written whole. `None` where these pass 512.
 fn size_of<A: Allocator>(outline: &Outline<A>) -> Option<usize>
     ensures size { MatchOption result (LONGEST_MESSAGE < length (whole_octets outline.now))
         (λ size. size ≡ length (whole_octets outline.now)) }
@@ -155,12 +155,12 @@ fn size_of<A: Allocator>(outline: &Outline<A>) -> Option<usize>
     Some(LONGEST_MESSAGE - left)
 }
 
-/// How many octets a reply has that is cut off.
+/// How many octets the reply has where it is cut off: header and question.
 fn cut_size<A: Allocator>(outline: &Outline<A>) -> usize {
     12 + question_size(&outline.question)
 }
 
-/// Adds the header.
+/// Adds the header of a reply, with these counts of records: QR and RA are set, AA is clear.
 fn push_header<A: Allocator, B: Allocator>(
     out: &mut Vec<u8, A>,
     outline: &Outline<B>,
@@ -226,13 +226,14 @@ fn push_cut<A: Allocator, B: Allocator>(
 
 /// The octets of a reply (RFC 1035 4.1): header, question and records, every name in full. QR and
 /// RA are set, AA is clear. Where all of it passes 512 octets: header and question alone, with TC
-/// set. Its memory is just its octets. `Err` where there is none for them.
+/// set. One allocation of exactly these octets; `Err` where it fails.
 pub fn write_reply<A: Allocator, B: Allocator>(
     alloc: A,
     outline: &Outline<B>,
 ) -> Result<Vec<u8, A>, AllocError>
     ensures octets { IfOk result (λ v. v.items ≡ octets_of_outline outline.now) }
-    // Where it has a question, plain RDATA, TC clear, and fits a message, it is read again.
+    // Where it has a question, plain RDATA, TC clear, and fits a message, `read_reply` reads it
+    // back.
     ensures reads_back { IfOk result (λ v.
         (q : QuestionData) → IsWhole outline.now q
         → IsReply v.items (message_of_outline outline.now q)) }
@@ -247,8 +248,8 @@ pub fn write_reply<A: Allocator, B: Allocator>(
     Ok(octets)
 }
 
-/// Writes the octets that `write_reply` gives in place of what `out` holds. Where it has room for
-/// 512 octets, this takes no memory. `Err` where there is none for them; `out` then holds anything.
+/// Writes the octets of `write_reply` in place of what `out` holds. Where `out` has room for 512
+/// octets, this allocates nothing. `Err` where an allocation fails; `out` may then hold anything.
 pub fn write_reply_into<A: Allocator, B: Allocator>(
     out: &mut Vec<u8, A>,
     outline: &Outline<B>,

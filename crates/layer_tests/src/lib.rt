@@ -1,4 +1,4 @@
-//! Tests of the layers below a site: names, messages, what replies tell, fronts, caches, frames,
+//! Tests of the layers below a site: names, messages, what replies say, fronts, caches, frames,
 //! and open questions.
 #![tactic(auto)]
 

@@ -20,7 +20,7 @@ const FRAME: usize = 600;
 /// A buffer with room for a frame and one octet more.
 type Buffer = [u8; FRAME + 1];
 
-/// Octets that begin with a mark, so many.
+/// This number of octets, which begin with a mark.
 fn marked(alloc: Global, mark: u8, len: usize) -> Result<Vec<u8>, Fail> {
     let mut octets = vec![in alloc; 0u8; len]?;
     if let Some(first) = octets.first_mut() {
@@ -80,7 +80,7 @@ fn hands_messages_on_before_frames(rt: HostRuntime) -> Result<(), Fail> {
     check_order(&rt, rt.alloc(), &mut port, &client, from)
 }
 
-/// Sends as many frames as a socket holds, so many times, and takes one of them out each time.
+/// Sends as many frames as a socket holds, five times, and takes one of them out each time.
 fn check_bursts(
     rt: &impl Abort,
     alloc: Global,
@@ -111,7 +111,7 @@ fn loses_no_frame_that_has_room(rt: HostRuntime) -> Result<(), Fail> {
 
 /// What waits is bounded: what comes beyond is dropped, of each kind by itself.
 #[test]
-fn keeps_so_many_and_no_more(rt: HostRuntime) -> Result<(), Fail> {
+fn keeps_what_has_room_and_no_more(rt: HostRuntime) -> Result<(), Fail> {
     let mut inbox = Inbox::new(rt.alloc());
     let from = loopback(1);
     let octets = [7u8; FRAME];
@@ -128,17 +128,35 @@ fn keeps_so_many_and_no_more(rt: HostRuntime) -> Result<(), Fail> {
     Ok(())
 }
 
+/// The marks of a port to which three frames and a message come.
+fn marks_at<A: Allocator + Copy>(
+    rt: &HostRuntime,
+    port: &mut UdpPort<'_, HostRuntime, A>,
+) -> Result<String, Fail> {
+    let (client, _) = open(rt)?;
+    send_marked(rt.alloc(), &client, port.address(), "12a3")?;
+    handed_on(rt.alloc(), port)
+}
+
+/// At most one of three frames and a message is dropped, and all others come in order.
+fn check_marks<A: Allocator + Copy>(
+    stop: &impl Abort,
+    rt: &HostRuntime,
+    alloc: A,
+) -> Result<(), Fail> {
+    let mut port = UdpPort::bind(rt, rt, alloc, loopback(0))?;
+    let marks = marks_at(rt, &mut port)?;
+    let mut wanted = "a123 1a23 a23 a13 a12 123".split(' ');
+    assert!(stop; wanted.any(|wanted| wanted == marks.as_str()), "{marks}");
+    assert_eq!(stop; port.failures(), 0);
+    Ok(())
+}
+
 /// Three frames and a message come, while a port's call for memory with that number is refused: at
 /// most one of them is dropped, and all others come in order. Whether the call was made.
 fn check_refused(stop: &impl Abort, rt: &HostRuntime, call: u64) -> Result<bool, Fail> {
     let refusing = Refusing::after(rt.alloc(), call);
-    let mut port = UdpPort::bind(rt, rt, &refusing, loopback(0))?;
-    let (client, _) = open(rt)?;
-    send_marked(rt.alloc(), &client, port.address(), "12a3")?;
-    let marks = handed_on(rt.alloc(), &mut port)?;
-    let wanted = ["a123", "1a23", "a23", "a13", "a12", "123"];
-    assert!(stop; wanted.contains(&marks.as_str()), "{call}: {marks}");
-    assert_eq!(stop; port.failures(), 0);
+    check_marks(stop, rt, &refusing)?;
     Ok(refusing.has_refused())
 }
 
@@ -168,6 +186,19 @@ fn count_arrived(socket: &UdpSocket) -> Result<usize, Fail> {
     Ok(count)
 }
 
+/// Sends twenty frames.
+fn send_frames(
+    alloc: Global,
+    port: &mut UdpPort<'_, HostRuntime>,
+    to: Addr,
+) -> Result<(), Fail> {
+    let frame = marked(alloc, b'f', FRAME)?;
+    for _ in 0..20u32 {
+        port.send(to, &frame)?;
+    }
+    Ok(())
+}
+
 /// A frame goes out while the port receives, a message at once; and what is left at the end.
 fn check_sends(
     rt: &impl Abort,
@@ -176,10 +207,7 @@ fn check_sends(
     client: &UdpSocket,
     to: Addr,
 ) -> Result<(), Fail> {
-    let frame = marked(alloc, b'f', FRAME)?;
-    for _ in 0..20u32 {
-        port.send(to, &frame)?;
-    }
+    send_frames(alloc, port, to)?;
     port.send(to, b"m")?;
     assert_eq!(rt; receive(alloc, client)?.as_slice(), b"m".as_slice());
     assert_eq!(rt; count_arrived(client)?, 0);
@@ -202,7 +230,7 @@ fn sends_frames_while_it_receives(rt: HostRuntime) -> Result<(), Fail> {
 
 /// Where a frame that waited can't be sent, the receive fails, and the next one goes on.
 #[test]
-fn tells_a_frame_that_can_not_be_sent(rt: HostRuntime) -> Result<(), Fail> {
+fn fails_where_a_frame_can_not_be_sent(rt: HostRuntime) -> Result<(), Fail> {
     let mut port = UdpPort::bind(&rt, &rt, rt.alloc(), loopback(0))?;
     let frame = marked(rt.alloc(), b'f', FRAME)?;
     port.send(loopback(0), &frame)?;

@@ -20,7 +20,7 @@ use std::{io, time};
 /// The record of a reply behind the question: example.com. 300 IN A 192.0.2.1
 const RECORD: &[u8] = b"\xc0\x0c\x00\x01\x00\x01\x00\x00\x01\x2c\x00\x04\xc0\x00\x02\x01";
 
-/// Where the last octet of the TTL stands in the answer to it, which tells the name in full.
+/// Where the last octet of the TTL is in the answer to it, which has the name in full.
 const SECONDS: usize = 49;
 
 /// A socket of a test, which waits for a second at most, and where it is.
@@ -114,7 +114,7 @@ fn answer_query(rt: &impl Abort, alloc: Global, stub: &UdpSocket, site: Addr) ->
     send(stub, site, &reply)
 }
 
-/// A site learns the answer from its upstream, and tells it its peer.
+/// A site learns the answer from its upstream, and sends it to its peer.
 fn check_first<R: Abort + time::Clock>(
     rt: &R,
     alloc: Global,
@@ -130,7 +130,22 @@ fn check_first<R: Abort + time::Clock>(
     Ok(())
 }
 
-/// The peer takes in what it was told, and answers from it; the upstream is sent nothing more.
+/// An answer has the record, with a TTL that is hardly less.
+fn check_answer(rt: &impl Abort, answer: &mut [u8]) {
+    assert!(rt; is_recent(seconds_in(answer)));
+    set_seconds(answer);
+    assert_eq!(rt; &*answer, RELAY);
+}
+
+/// Nothing more comes to a socket.
+fn check_silence(rt: &impl Abort, stub: &UdpSocket) -> Result<(), Fail> {
+    let mut buffer = [0u8; 600];
+    stub.set_nonblocking(true)?;
+    assert!(rt; stub.recv_from(&mut buffer).is_err());
+    Ok(())
+}
+
+/// The peer takes in what it was sent, and answers from it; the upstream is sent nothing more.
 fn check_second<R: Abort + time::Clock>(
     rt: &R,
     alloc: Global,
@@ -141,12 +156,8 @@ fn check_second<R: Abort + time::Clock>(
     second.serve(rt, 0);
     send(client, second.port.address(), QUESTION)?;
     second.serve(rt, 1);
-    let answer = receive(alloc, client)?;
-    assert!(rt; shows_record(&answer));
-    let mut buffer = [0u8; 600];
-    stub.set_nonblocking(true)?;
-    assert!(rt; stub.recv_from(&mut buffer).is_err());
-    Ok(())
+    check_answer(rt, receive(alloc, client)?.as_mut_slice());
+    check_silence(rt, stub)
 }
 
 /// One site after the other.
@@ -169,13 +180,24 @@ fn serves_what_a_peer_learnt(rt: HostRuntime) -> Result<(), Fail> {
     check_sites(&rt, rt.alloc(), &stub, &client, &mut sites)
 }
 
-/// Whether an answer has the record, with a TTL of 295 to 300 seconds, since a test may take some.
-fn shows_record(answer: &[u8]) -> bool {
-    answer.get(..SECONDS) == RELAY.get(..SECONDS)
-        && answer
-            .get(SECONDS)
-            .is_some_and(|seconds| (39..=44).contains(seconds))
-        && answer.get(SECONDS + 1..) == RELAY.get(SECONDS + 1..)
+/// The last octet of the TTL in the answer to the question.
+fn seconds_in(answer: &[u8]) -> Option<u8> {
+    answer.get(SECONDS).copied()
+}
+
+/// Whether the last octet of a TTL is that of 295 to 300 seconds, since a test may take some.
+fn is_recent(seconds: Option<u8>) -> bool {
+    match seconds {
+        Some(seconds) => 39 <= seconds && seconds <= 44,
+        None => false,
+    }
+}
+
+/// Sets the last octet of the TTL to that of 300 seconds.
+fn set_seconds(answer: &mut [u8]) {
+    if let Some(seconds) = answer.get_mut(SECONDS) {
+        *seconds = 44;
+    }
 }
 
 /// Two sends of a port fail and are counted; a receive that finds nothing is not.
@@ -212,45 +234,96 @@ fn check_arrival(
     Ok(())
 }
 
+/// A port receives datagrams of a client, and sends one to it.
+fn check_client(
+    rt: &impl Abort,
+    alloc: Global,
+    port: &mut UdpPort<'_, HostRuntime>,
+    client: &UdpSocket,
+    from: Addr,
+) -> Result<(), Fail> {
+    check_arrival(rt, port, client, from, b"")?;
+    check_arrival(rt, port, client, from, b"12345678")?;
+    check_arrival(rt, port, client, from, b"123456789")?;
+    port.send(from, b"abc")?;
+    assert_eq!(rt; receive(alloc, client)?.as_slice(), b"abc".as_slice());
+    assert_eq!(rt; port.failures(), 2);
+    Ok(())
+}
+
 #[test]
 fn counts_what_fails(rt: HostRuntime) -> Result<(), Fail> {
     let mut port = UdpPort::bind(&rt, &rt, rt.alloc(), loopback(0))?;
     assert!(rt; UdpPort::bind(&rt, &rt, rt.alloc(), port.address()).is_err());
     check_failures(&rt, &mut port)?;
     let (client, from) = open(&rt)?;
-    check_arrival(&rt, &mut port, &client, from, b"")?;
-    check_arrival(&rt, &mut port, &client, from, b"12345678")?;
-    check_arrival(&rt, &mut port, &client, from, b"123456789")?;
-    port.send(from, b"abc")?;
-    assert_eq!(rt; receive(rt.alloc(), &client)?.as_slice(), b"abc".as_slice());
-    assert_eq!(rt; port.failures(), 2);
-    Ok(())
+    check_client(&rt, rt.alloc(), &mut port, &client, from)
 }
 
 /// The length of the longest frame.
 const LONGEST: usize = 16384;
 
+/// As many octets as the longest frame has.
+fn longest_frame(alloc: Global) -> Result<Vec<u8>, Fail> {
+    let mut bytes = Vec::new(alloc);
+    for at in 0..LONGEST {
+        bytes.push((at % 251) as u8)?;
+    }
+    Ok(bytes)
+}
+
+/// A port receives the longest frame.
+fn check_received(
+    rt: &impl Abort,
+    port: &mut UdpPort<'_, HostRuntime>,
+    from: Addr,
+    bytes: &[u8],
+    buffer: &mut [u8],
+) {
+    match port.recv(buffer) {
+        Ok(Some(got)) => assert_eq!(rt; got, (from, LONGEST)),
+        _ => assert!(rt; false, "nothing came"),
+    }
+    assert_eq!(rt; buffer.get(..LONGEST), bytes.get(..LONGEST));
+}
+
+/// A port sends the longest frame to a client.
+fn check_sent(
+    rt: &impl Abort,
+    port: &mut UdpPort<'_, HostRuntime>,
+    client: &UdpSocket,
+    to: Addr,
+    bytes: &[u8],
+    buffer: &mut [u8],
+) -> Result<(), Fail> {
+    port.send(to, bytes)?;
+    port.finish();
+    let (len, _) = client.recv_from(buffer)?;
+    assert_eq!(rt; buffer.get(..len), bytes.get(..LONGEST));
+    Ok(())
+}
+
+/// A port carries the longest frame, from a client and to it.
+fn check_longest(
+    rt: &impl Abort,
+    alloc: Global,
+    port: &mut UdpPort<'_, HostRuntime>,
+    client: &UdpSocket,
+    from: Addr,
+) -> Result<(), Fail> {
+    let bytes = longest_frame(alloc)?;
+    let mut buffer = vec![in alloc; 0u8; LONGEST + 1]?;
+    send(client, port.address(), &bytes)?;
+    check_received(rt, port, from, &bytes, &mut buffer);
+    buffer.fill(0);
+    check_sent(rt, port, client, from, &bytes, &mut buffer)
+}
+
 #[test]
 fn carries_the_longest_frame(rt: HostRuntime) -> Result<(), Fail> {
     let mut port = UdpPort::bind(&rt, &rt, rt.alloc(), loopback(0))?;
     let (client, from) = open(&rt)?;
-    let mut bytes = Vec::new(rt.alloc());
-    for at in 0..LONGEST {
-        bytes.push((at % 251) as u8)?;
-    }
-    let mut buffer = vec![in rt.alloc(); 0u8; LONGEST + 1]?;
-    send(&client, port.address(), &bytes)?;
-    match port.recv(&mut buffer) {
-        Ok(Some(got)) => assert_eq!(rt; got, (from, LONGEST)),
-        _ => return Err("nothing came".into()),
-    }
-    assert_eq!(rt; buffer.get(..LONGEST), bytes.get(..LONGEST));
-    port.send(from, &bytes)?;
-    port.finish();
-    buffer.fill(0);
-    let (len, _) = client.recv_from(&mut buffer)?;
-    assert_eq!(rt; buffer.get(..len), bytes.get(..LONGEST));
-    Ok(())
+    check_longest(&rt, rt.alloc(), &mut port, &client, from)
 }
 
 /// A clock that is set by hand; `None` is one that can't be read.
@@ -267,27 +340,38 @@ impl time::Clock for Set {
     }
 }
 
+/// A clock that was set so gives this moment.
+fn check_now(
+    rt: &impl Abort,
+    set: &Set,
+    clock: &mut SystemClock<'_, Set>,
+    since: Option<Duration>,
+    wanted: u64,
+) {
+    set.0.set(since);
+    assert_eq!(rt; clock.now().value(), wanted);
+}
+
+/// A clock gives the latest moment where more has passed.
+fn check_latest(rt: &impl Abort, set: &Set, clock: &mut SystemClock<'_, Set>) {
+    let latest = 1 << 40;
+    check_now(rt, set, clock, Some(Duration::from_secs(latest)), latest);
+    check_now(rt, set, clock, Some(Duration::from_secs(latest + 1)), latest);
+    check_now(rt, set, clock, None, latest);
+    check_now(rt, set, clock, Some(Duration::MAX), latest);
+}
+
 #[test]
-fn tells_whole_seconds(rt: HostRuntime) {
+fn returns_whole_seconds(rt: HostRuntime) {
     let set = Set(Cell::new(None));
     let mut clock = SystemClock::new(&set);
-    assert_eq!(rt; clock.now().value(), 0);
-    for (since, wanted) in [
-        (
-            Some(Duration::from_millis(1_700_000_000_999)),
-            1_700_000_000,
-        ),
-        (None, 1_700_000_000),
-        (Some(Duration::from_secs(7)), 7),
-        (Some(Duration::from_secs(1 << 40)), 1 << 40),
-        (Some(Duration::from_secs((1 << 40) + 1)), 1 << 40),
-        (None, 1 << 40),
-        (Some(Duration::MAX), 1 << 40),
-        (Some(Duration::ZERO), 0),
-    ] {
-        set.0.set(since);
-        assert_eq!(rt; clock.now().value(), wanted);
-    }
+    check_now(&rt, &set, &mut clock, None, 0);
+    let since = Duration::from_millis(1_700_000_000_999);
+    check_now(&rt, &set, &mut clock, Some(since), 1_700_000_000);
+    check_now(&rt, &set, &mut clock, None, 1_700_000_000);
+    check_now(&rt, &set, &mut clock, Some(Duration::from_secs(7)), 7);
+    check_latest(&rt, &set, &mut clock);
+    check_now(&rt, &set, &mut clock, Some(Duration::ZERO), 0);
     let mut clock = SystemClock::new(&rt);
     // 2024 has begun.
     assert!(rt; clock.now() > Moment::new(1_704_067_200).unwrap());

@@ -1,5 +1,5 @@
-//! The messages and frames that stand in more than one place of the tests, each by a name. The tests of other crates have
-//! messages of their own, since what only tests read of a crate is not seen by another.
+//! The messages and frames that more than one test has, each by a name. The tests of other crates
+//! have messages of their own, since a crate does not see the tests of another.
 
 use crate::tests::examples::add_repeats;
 use std::alloc::Global;
@@ -21,18 +21,14 @@ pub const FAILURE: &[u8] =
 pub const RELAY: &[u8] =
     b"\x00\x07\x81\x80\x00\x01\x00\x01\x00\x00\x00\x00\x07example\x03com\x00\x00\x01\x00\x01\x07example\x03com\x00\x00\x01\x00\x01\x00\x00\x01\x2c\x00\x04\xc0\x00\x02\x01";
 
-/// id 2 qr rd ra NXDOMAIN: www.example. IN A; answer www.example. 60 IN CNAME a.example., a.example. 60
-/// IN CNAME b.example.; authority example. 3600 IN SOA ns.example. . 1 3600 600 86400 300
+/// id 2 qr rd ra NXDOMAIN: www.example. IN A; answer www.example. 60 IN CNAME a.example., a.example.
+/// 60 IN CNAME b.example.; authority example. 3600 IN SOA ns.example. . 1 3600 600 86400 300
 pub const ALIASES_REPLY: &[u8] =
     b"\x00\x02\x81\x83\x00\x01\x00\x02\x00\x01\x00\x00\x03www\x07example\x00\x00\x01\x00\x01\xc0\x0c\x00\x05\x00\x01\x00\x00\x00\x3c\x00\x04\x01a\xc0\x10\xc0\x29\x00\x05\x00\x01\x00\x00\x00\x3c\x00\x04\x01b\xc0\x10\xc0\x10\x00\x06\x00\x01\x00\x00\x0e\x10\x00\x1a\x02ns\xc0\x10\x00\x00\x00\x00\x01\x00\x00\x0e\x10\x00\x00\x02\x58\x00\x01\x51\x80\x00\x00\x01\x2c";
 
-/// frame 1: positive rank 1 at 200 for 10: example.com. A 192.0.2.2
-pub const FIRST_NEWER: &[u8] =
-    b"\x44\x47\x01\x00\x01\x03\x01\x00\x00\x00\x00\x00\x00\x00\xc8\x00\x00\x00\x0a\x07example\x03com\x00\x00\x01\x00\x01\x00\x04\xc0\x00\x02\x02";
-
-/// Each other name, and behind it its octets in hexadecimal digits; `{61*460}` stands for 460 times
-/// `61`. The line above says what they are: of a message the id, the flags, the code, the question and
-/// the records of each section; of a frame its version, and of each observation the kind, the rank, the
+/// Each other name, and behind it its octets in hexadecimal digits; `{61*460}` is 460 times `61`. The
+/// line above says what they are: of a message the id, the flags, the code, the question and the
+/// records of each section; of a frame its version, and of each observation the kind, the rank, the
 /// stamp, the life, the name, the type and the data.
 const MESSAGES: &str = "\
 # id 7 rd: c0. IN A
@@ -91,10 +87,31 @@ older 4447020001030100000000000000640000012c076578616d706c6503636f6d000001000100
 # frame 2: positive rank 1 at 200 for 10: example.com. A 192.0.2.2; positive rank 1 at 100 for 300:
 #   example.com. A 192.0.2.1
 both 4447020002030100000000000000c80000000a076578616d706c6503636f6d00000100010004c0000202030100000000000000640000012c076578616d706c6503636f6d00000100010004c0000201
+# frame 1
+empty 4447010000
+# frame 1: positive rank 1 at 100 for 300: 0. A 192.0.2.1
+one-other 4447010001030100000000000000640000012c013000000100010004c0000201
+# frame 1: positive rank 1 at 100 for 300: 0. A 192.0.2.1; positive rank 1 at 100 for 300: 1. A
+#   192.0.2.1
+two-others 4447010002030100000000000000640000012c013000000100010004c0000201030100000000000000640000\
+    012c013100000100010004c0000201
+# frame 1: positive rank 1 at 100 for 300: 0. A 192.0.2.1; positive rank 1 at 100 for 300: 1. A
+#   192.0.2.1; positive rank 1 at 100 for 300: 2. A 192.0.2.1
+three-others 4447010003030100000000000000640000012c013000000100010004c00002010301000000000000006400\
+    00012c013100000100010004c0000201030100000000000000640000012c013200000100010004c0000201
+# frame 1: positive rank 1 at 100 for 60: www.example. CNAME a.example.
+one-alias 4447010001030100000000000000640000003c03777777076578616d706c650000050001000b0161076578616\
+    d706c6500
+# frame 1: positive rank 1 at 100 for 60: www.example. CNAME a.example.; positive rank 1 at 100 for
+#   60: a.example. CNAME b.example.
+two-aliases 4447010002030100000000000000640000003c03777777076578616d706c650000050001000b01610765786\
+    16d706c6500030100000000000000640000003c0161076578616d706c650000050001000b0162076578616d706c6500
+# frame 1: positive rank 1 at 200 for 10: example.com. A 192.0.2.2
+first-newer 4447010001030100000000000000c80000000a076578616d706c6503636f6d00000100010004c0000202
 ";
 
 /// The digits of a message of the table.
-fn digits_of(name: &str) -> Result<&'static str, Fail> {
+pub fn digits_of(name: &str) -> Result<&'static str, Fail> {
     for line in MESSAGES.lines() {
         if let Some((other, digits)) = line.split_once(' ') {
             if other == name {
@@ -119,7 +136,6 @@ pub fn add_message(text: &mut String, name: &str) -> Result<(), Fail> {
         "failure" => add_octets(text, FAILURE),
         "relay" => add_octets(text, RELAY),
         "aliases-reply" => add_octets(text, ALIASES_REPLY),
-        "first-newer" => add_octets(text, FIRST_NEWER),
         name => add_repeats(text, digits_of(name)?),
     }
 }

@@ -135,7 +135,7 @@ reply 000781800001000100000000076578616d706c6503636f6d0000020001076578616d706c65
 taken 1
 > ask 0 110 <servers>
 miss
-= a denial holds for three hours at most, and is told with the SOA of an ancestor
+= a denial holds for three hours at most, and is shown with the SOA of an ancestor
 ; id 5 qr aa rd ra NOERROR: example.com. IN AAAA; authority com. 100000 IN SOA . . 1 3600 600 86400
 ;   20000
 > learn 0 100 000585800001000000010000076578616d706c6503636f6d00001c0001c01400060001000186a0001600000000000100000e10000002580001518000004e20
@@ -186,7 +186,7 @@ taken 1
 miss
 > ask 0 110 <aliases-cname>
 reply <aliases-cname-relay>
-= no data behind an alias is told with the alias and the SOA
+= no data behind an alias is shown with the alias and the SOA
 ; id 2 qr rd ra NOERROR: www.example. IN A; answer www.example. 60 IN CNAME a.example.; authority
 ;   example. 3600 IN SOA ns.example. . 1 3600 600 86400 300
 > learn 0 100 00028180000100010001000003777777076578616d706c650000010001c00c000500010000003c00040161c010c0100006000100000e10001a026e73c010000000000100000e1000000258000151800000012c

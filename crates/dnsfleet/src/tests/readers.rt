@@ -45,7 +45,7 @@ impl Read for Failing<'_> {
     }
 }
 
-/// A writer that takes so many writes, and then fails.
+/// A writer that takes a number of writes, and then fails.
 #[derive(Drop)]
 pub struct Full {
     /// How many it still takes.

@@ -1,4 +1,4 @@
-//! One call for memory refused, each in turn. A want of memory is told where a call was refused,
+//! One allocation refused, each in turn. A step runs out of memory where an allocation was refused,
 //! and nowhere else; the sites then hold the first observations of the step, and all else is as
 //! before; and the step done again is as if nothing had been.
 
@@ -22,25 +22,25 @@ use std::alloc::{Allocator, Global};
 use std::process::Abort;
 use std::test::Fail;
 
-/// More calls for memory than any of the examples makes.
+/// More allocations than any of the examples makes.
 const MANY: u64 = 65536;
 
 /// A reply with two aliases and a denial, and what is asked of them.
 const DENIAL: &str =
     "a name error behind two aliases denies the last target, for each type but the alias itself";
 
-/// What the examples show that are run with a call refused.
-const REFUSED: [&str; 7] = [
-    "a reply is learnt, and answers ten seconds later with a TTL that is ten less",
-    DENIAL,
-    "sites that took in the same hold the same, whatever came twice or out of order, once both are purged",
-    "all who wait are answered, a question asked again counts once, and a reply from elsewhere matches nothing",
-    "a question goes to the next upstream after two seconds, and fails after the last",
-    "a site takes in all that another holds, and its floor",
-    "a flush withdraws what was stamped by then, whatever the order, and what comes later stays",
-];
+/// What the examples show that are run with a call refused, a line each.
+const REFUSED: &str = "\
+a reply is learnt, and answers ten seconds later with a TTL that is ten less
+a name error behind two aliases denies the last target, for each type but the alias itself
+sites that took in the same hold the same, whatever came twice or out of order, once both are purged
+all who wait are answered, a question asked again counts once, and a reply from elsewhere matches nothing
+a question goes to the next upstream after two seconds, and fails after the last
+a site takes in all that another holds, and its floor
+a flush withdraws what was stamped by then, whatever the order, and what comes later stays
+";
 
-/// How often a call was refused at a line that then told a want of memory: after no observation,
+/// How often an allocation was refused at a line that then ran out of memory: after no observation,
 /// after some, and when all was done but the keeping of frames.
 #[derive(Clone, Copy, Debug)]
 struct Met {
@@ -59,7 +59,7 @@ impl Met {
         }
     }
 
-    /// Counts a line that was stopped after so many observations.
+    /// Counts a line that was stopped after this number of observations.
     fn count(&mut self, taken: usize) {
         if taken == 0 {
             self.short = self.short.saturating_add(1);
@@ -104,15 +104,15 @@ fn check_same<A: Allocator + Copy>(
     Ok(())
 }
 
-/// A fleet that did lines with ample memory, and the first observations of the line behind them: so
-/// many.
+/// A fleet that did lines with ample memory, and the first observations of the line behind them, a
+/// number of them.
 #[derive(Drop)]
 struct Part<A: Allocator> {
     taken: usize,
     fleet: Fleet<A>,
 }
 
-/// What a fleet is like where the last of these lines found no memory after so many observations.
+/// What a fleet is like where the last of these lines ran out of memory after these observations.
 fn part_after<A: Allocator + Copy>(
     alloc: A,
     lines: &[Line<'_>],
@@ -125,7 +125,7 @@ fn part_after<A: Allocator + Copy>(
     Ok(Part { taken, fleet })
 }
 
-/// Checks a fleet after the last of these lines, which found no memory after so many observations.
+/// Checks a fleet after the last of these lines, which ran out of memory after these observations.
 /// The fleet that it is compared with is kept for the next such line.
 fn check_part<A: Allocator + Copy>(
     rt: &impl Abort,
@@ -170,10 +170,10 @@ fn check_text<A: Allocator + Copy>(
     line: &Line<'_>,
     text: &str,
 ) -> Result<(), Fail> {
-    let told = without_frames(alloc, text)?;
+    let shown = without_frames(alloc, text)?;
     let wanted = without_frames(alloc, line.prints)?;
     let shows = line.text;
-    assert_eq!(rt; told.as_str(), wanted.as_str(), "{shows}");
+    assert_eq!(rt; shown.as_str(), wanted.as_str(), "{shows}");
     Ok(())
 }
 
@@ -228,7 +228,7 @@ fn check_last<A: Allocator + Copy>(
     Ok(())
 }
 
-/// Does a line on a fleet whose memory may be refused.
+/// Does a line on a fleet whose allocations may be refused.
 fn run_refused<A: Allocator + Copy>(
     rt: &impl Abort,
     ample: A,
@@ -322,7 +322,7 @@ fn refuse_each(
     refuse_lines(rt, &ample, &refusing, &refusing, &lines, met)
 }
 
-/// A transcript that begins with so many other observations, one for each digit.
+/// A transcript that begins with other observations, one for each digit.
 fn after_others(alloc: Global, count: u8, transcript: &str) -> Result<String, Fail> {
     let mut text = format!(in alloc; "> frame 0 100 44470100{count:02x}")?;
     for digit in 0..count {
@@ -335,19 +335,47 @@ fn after_others(alloc: Global, count: u8, transcript: &str) -> Result<String, Fa
     Ok(text)
 }
 
+/// Does the lines of the example that shows this so.
+fn refuse_example(
+    rt: &impl Abort,
+    alloc: Global,
+    shows: &str,
+    met: &mut Met,
+) -> Result<(), Fail> {
+    let transcript = example_of(alloc, shows)?.spelled(alloc)?;
+    refuse_each(rt, alloc, transcript.as_str(), met)
+}
+
+/// Does the lines of a transcript so, behind a number of other observations.
+fn refuse_after(
+    rt: &impl Abort,
+    alloc: Global,
+    count: u8,
+    transcript: &str,
+    met: &mut Met,
+) -> Result<(), Fail> {
+    let text = after_others(alloc, count, transcript)?;
+    refuse_each(rt, alloc, text.as_str(), met)
+}
+
+/// Does the lines of the denial so, behind one to four other observations.
+fn refuse_denials(rt: &impl Abort, alloc: Global, met: &mut Met) -> Result<(), Fail> {
+    let denial = example_of(alloc, DENIAL)?.spelled(alloc)?;
+    for count in 1..5u8 {
+        refuse_after(rt, alloc, count, denial.as_str(), met)?;
+    }
+    Ok(())
+}
+
 #[test]
 fn a_line_without_memory_is_done_again(rt: HostRuntime) -> Result<(), Fail> {
     let mut met = Met::new();
-    for shows in REFUSED {
-        let example = example_of(rt.alloc(), shows)?;
-        let transcript = example.spelled(rt.alloc())?;
-        refuse_each(&rt, rt.alloc(), transcript.as_str(), &mut met)?;
+    for shows in REFUSED.lines() {
+        refuse_example(&rt, rt.alloc(), shows, &mut met)?;
     }
-    let denial = example_of(rt.alloc(), DENIAL)?.spelled(rt.alloc())?;
-    for count in 1..5u8 {
-        let text = after_others(rt.alloc(), count, denial.as_str())?;
-        refuse_each(&rt, rt.alloc(), text.as_str(), &mut met)?;
-    }
-    assert!(rt; met.short > 0 && met.partly > 0 && met.lost > 0, "{met:?}");
+    refuse_denials(&rt, rt.alloc(), &mut met)?;
+    assert!(rt; met.short > 0, "{met:?}");
+    assert!(rt; met.partly > 0, "{met:?}");
+    assert!(rt; met.lost > 0, "{met:?}");
     Ok(())
 }

@@ -5,7 +5,7 @@ use std::cell::Cell;
 use std::collections::BTreeMap;
 use std::test::Fail;
 
-/// Calls, of which one is refused, or all for a time.
+/// Calls, one of them refused, or all for a time.
 #[derive(Drop)]
 struct Calls {
     made: Cell<u64>,

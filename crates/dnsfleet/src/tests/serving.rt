@@ -3,7 +3,7 @@
 mod staged;
 
 use super::settings::loopback;
-use super::told::Told;
+use super::captured::Captured;
 use crate::serve::{ConfigurationFault, Words, print_report, serve_settings, settings_at};
 use crate::{Settings, SettingsFault, UdpPort, end_run, program, read_settings, run};
 use fleet_site::Report;
@@ -17,24 +17,24 @@ use std::test::Fail;
 const KEY: &str = "000102030405060708090a0b0c0d0e0f101112131415161718191A1B1C1D1E1F";
 
 /// The status that a run ends with, and what was printed on standard output and on standard error.
-fn end(told: Told, ran: io::Result<ExitCode>) -> (ExitCode, String, String) {
-    let code = end_run(&told, ran);
-    (code, told.output.into_inner(), told.errors.into_inner())
+fn end(captured: Captured, ran: io::Result<ExitCode>) -> (ExitCode, String, String) {
+    let code = end_run(&captured, ran);
+    (code, captured.output.into_inner(), captured.errors.into_inner())
 }
 
 /// Runs the program with words, and gives the status with what was printed.
-fn run_told(rt: &HostRuntime, told: Told, words: &str) -> Result<(ExitCode, String, String), Fail> {
+fn run_captured(rt: &HostRuntime, captured: Captured, words: &str) -> Result<(ExitCode, String, String), Fail> {
     let mut list = Vec::new(rt.alloc());
     for word in words.split(' ') {
         list.push(word.to_string(rt.alloc())?)?;
     }
-    let ran = run(rt, &told, list.as_slice());
-    Ok(end(told, ran))
+    let ran = run(rt, &captured, list.as_slice());
+    Ok(end(captured, ran))
 }
 
 /// The same where all can be printed.
 fn run_words(rt: &HostRuntime, words: &str) -> Result<(ExitCode, String, String), Fail> {
-    run_told(rt, Told::new(rt.alloc()), words)
+    run_captured(rt, Captured::new(rt.alloc()), words)
 }
 
 /// Words that the program does not take, a line each.
@@ -101,7 +101,7 @@ fn takes_its_words(rt: HostRuntime) -> Result<(), Fail> {
     check_words(&rt, rt.alloc(), words, ("", "", u32::MAX))
 }
 
-/// The program tells how it is used, with an example.
+/// The program prints how it is used, with an example.
 fn check_help(stop: &impl Abort, rt: &HostRuntime, words: &str, example: &str) -> Result<(), Fail> {
     let (code, output, errors) = run_words(rt, words)?;
     assert!(stop; code == ExitCode::SUCCESS, "{words}");
@@ -131,12 +131,12 @@ fn helps(rt: HostRuntime) -> Result<(), Fail> {
 }
 
 #[test]
-fn tells_its_version(rt: HostRuntime) -> Result<(), Fail> {
+fn prints_its_version(rt: HostRuntime) -> Result<(), Fail> {
     let version = "dnsfleet 1.0.0 (frames: writes 2, reads 1 and 2)\n";
     check_end(&rt, run_words(&rt, "dnsfleet --version")?, 0, version, "");
     check_end(&rt, run_words(&rt, "dnsfleet -V")?, 0, version, "");
-    let failing = Told::failing_after(rt.alloc(), 0);
-    let ended = run_told(&rt, failing, "dnsfleet --version")?;
+    let failing = Captured::failing_after(rt.alloc(), 0);
+    let ended = run_captured(&rt, failing, "dnsfleet --version")?;
     check_run(&rt, ended, 1, "dnsfleet: write\n");
     // The commands have no version of their own.
     check_not_taken(&rt, &rt, "dnsfleet script --version")?;
@@ -149,33 +149,33 @@ fn run_key(rt: &HostRuntime, key: &str) -> Result<(ExitCode, String, String), Fa
     run_words(rt, words.as_str())
 }
 
-/// A run ended with this status, printed this, and told this on standard error.
+/// A run ended with this status, printed this, and wrote this to standard error.
 fn check_end(
     rt: &impl Abort,
     run: (ExitCode, String, String),
     status: u8,
     printed: &str,
-    told: &str,
+    reported: &str,
 ) {
     let (code, output, errors) = run;
-    assert!(rt; code == ExitCode::from(status), "{told}");
-    assert_eq!(rt; output.as_str(), printed, "{told}");
-    assert_eq!(rt; errors.as_str(), told);
+    assert!(rt; code == ExitCode::from(status), "{reported}");
+    assert_eq!(rt; output.as_str(), printed, "{reported}");
+    assert_eq!(rt; errors.as_str(), reported);
 }
 
-/// A run ended with this status, and told this alone, on standard error.
-fn check_run(rt: &impl Abort, run: (ExitCode, String, String), status: u8, told: &str) {
-    check_end(rt, run, status, "", told)
+/// A run ended with this status, and wrote this alone, to standard error.
+fn check_run(rt: &impl Abort, run: (ExitCode, String, String), status: u8, reported: &str) {
+    check_end(rt, run, status, "", reported)
 }
 
-/// A key of so many digits is refused.
+/// A key of this number of digits is refused.
 fn check_key_length(stop: &impl Abort, rt: &HostRuntime, length: usize) -> Result<(), Fail> {
     let mut key = String::new(rt.alloc());
     for _ in 0..length {
         key.push('0')?;
     }
-    let told = "dnsfleet: key: 64 hexadecimal digits wanted\n";
-    check_run(stop, run_key(rt, key.as_str())?, 2, told);
+    let reported = "dnsfleet: key: 64 hexadecimal digits wanted\n";
+    check_run(stop, run_key(rt, key.as_str())?, 2, reported);
     Ok(())
 }
 
@@ -187,8 +187,8 @@ fn looks_at_its_key_before_its_configuration(rt: HostRuntime) -> Result<(), Fail
     check_key_length(&rt, &rt, 63)?;
     check_key_length(&rt, &rt, 65)?;
     check_key_length(&rt, &rt, 66)?;
-    let told = "dnsfleet: config: not readable\n";
-    check_run(&rt, run_key(&rt, KEY)?, 1, told);
+    let reported = "dnsfleet: config: not readable\n";
+    check_run(&rt, run_key(&rt, KEY)?, 1, reported);
     Ok(())
 }
 
@@ -210,41 +210,41 @@ fn reads_a_file(rt: HostRuntime) {
 }
 
 /// Serves three turns with settings, and gives the status with what was printed.
-fn serve_told(
+fn serve_captured(
     rt: &HostRuntime,
-    told: Told,
+    captured: Captured,
     settings: Result<Settings, ConfigurationFault>,
 ) -> (ExitCode, String, String) {
-    let ran = serve_settings(rt, &told, settings, [7; 32], 3);
-    end(told, ran)
+    let ran = serve_settings(rt, &captured, settings, [7; 32], 3);
+    end(captured, ran)
 }
 
-/// A configuration without settings is told so, with status 1.
-fn check_told(
+/// A configuration without settings is reported so, with status 1.
+fn check_configuration(
     stop: &impl Abort,
     rt: &HostRuntime,
     fault: ConfigurationFault,
     text: &str,
 ) -> Result<(), Fail> {
-    let told = format!(in rt.alloc(); "dnsfleet: config: {text}\n")?;
-    let told_in = Told::new(rt.alloc());
-    check_run(stop, serve_told(rt, told_in, Err(fault)), 1, told.as_str());
+    let wanted = format!(in rt.alloc(); "dnsfleet: config: {text}\n")?;
+    let captured = Captured::new(rt.alloc());
+    check_run(stop, serve_captured(rt, captured, Err(fault)), 1, wanted.as_str());
     Ok(())
 }
 
-/// A fault of what a configuration says is told so.
+/// A fault of what a configuration says is reported so.
 fn check_fault(
     stop: &impl Abort,
     rt: &HostRuntime,
     fault: SettingsFault,
     text: &str,
 ) -> Result<(), Fail> {
-    check_told(stop, rt, ConfigurationFault::Settings(fault), text)
+    check_configuration(stop, rt, ConfigurationFault::Settings(fault), text)
 }
 
 #[test]
-fn tells_faults_of_its_configuration(rt: HostRuntime) -> Result<(), Fail> {
-    check_told(&rt, &rt, ConfigurationFault::NotReadable, "not readable")?;
+fn reports_faults_of_its_configuration(rt: HostRuntime) -> Result<(), Fail> {
+    check_configuration(&rt, &rt, ConfigurationFault::NotReadable, "not readable")?;
     check_fault(&rt, &rt, SettingsFault::TooLong, "too long")?;
     check_fault(&rt, &rt, SettingsFault::NotToml, "not TOML")?;
     check_fault(&rt, &rt, SettingsFault::UnknownKey, "unknown key")?;
@@ -254,7 +254,7 @@ fn tells_faults_of_its_configuration(rt: HostRuntime) -> Result<(), Fail> {
 }
 
 #[test]
-fn tells_faults_of_its_addresses(rt: HostRuntime) -> Result<(), Fail> {
+fn reports_faults_of_its_addresses(rt: HostRuntime) -> Result<(), Fail> {
     check_fault(
         &rt,
         &rt,
@@ -287,11 +287,11 @@ fn settings_for(alloc: Global, port: u16) -> Result<Settings, Fail> {
     Ok(read_settings(alloc, text.as_bytes())?)
 }
 
-/// Serves three turns at a port of 127.0.0.1, where the line behind so many can't be printed.
+/// Serves three turns at a port of 127.0.0.1, where the lines behind this number can't be printed.
 fn serve_at(rt: &HostRuntime, port: u16, lines: u32) -> Result<(ExitCode, String, String), Fail> {
-    let told = Told::failing_after(rt.alloc(), lines);
+    let captured = Captured::failing_after(rt.alloc(), lines);
     let settings = settings_for(rt.alloc(), port)?;
-    Ok(serve_told(rt, told, Ok(settings)))
+    Ok(serve_captured(rt, captured, Ok(settings)))
 }
 
 /// A port that is free.
@@ -314,27 +314,27 @@ fn prints_where_it_listens_and_what_it_counted(rt: HostRuntime) -> Result<(), Fa
         "{listens}turns 3 received 0 sent 0 lost 0 faults 0 refused 0 short 0\n"
     )?;
     check_end(&rt, serve_at(&rt, port, 2)?, 0, printed.as_str(), "");
-    // Output that fails is told, at either line.
-    let told = "dnsfleet: write\n";
-    check_end(&rt, serve_at(&rt, port, 1)?, 1, listens.as_str(), told);
-    check_end(&rt, serve_at(&rt, port, 0)?, 1, "", told);
+    // Output that fails is reported, at either line.
+    let reported = "dnsfleet: write\n";
+    check_end(&rt, serve_at(&rt, port, 1)?, 1, listens.as_str(), reported);
+    check_end(&rt, serve_at(&rt, port, 0)?, 1, "", reported);
     Ok(())
 }
 
 #[test]
-fn tells_what_ends_it(rt: HostRuntime) -> Result<(), Fail> {
-    let failing = Told::failing_after(rt.alloc(), 0);
-    let ended = run_told(&rt, failing, "dnsfleet --help")?;
+fn reports_what_ends_it(rt: HostRuntime) -> Result<(), Fail> {
+    let failing = Captured::failing_after(rt.alloc(), 0);
+    let ended = run_captured(&rt, failing, "dnsfleet --help")?;
     check_run(&rt, ended, 1, "dnsfleet: write\n");
-    let ended = end(Told::new(rt.alloc()), Err(io::Error::from(AllocError)));
+    let ended = end(Captured::new(rt.alloc()), Err(io::Error::from(AllocError)));
     check_run(&rt, ended, 1, "dnsfleet: out of memory\n");
     Ok(())
 }
 
 #[test]
-fn serves_so_many_turns(rt: HostRuntime) -> Result<(), Fail> {
+fn serves_a_number_of_turns(rt: HostRuntime) -> Result<(), Fail> {
     let port = free_port(&rt)?;
-    // A pipe stands for the file, which is read to the end of what is written here.
+    // A pipe in place of the file, which is read to the end of what is written here.
     let (reader, mut writer) = io::pipe(&rt)?;
     let file = reader.as_raw_fd();
     writer.write_all(configuration(rt.alloc(), port)?.as_bytes())?;
@@ -357,7 +357,7 @@ fn serves_so_many_turns(rt: HostRuntime) -> Result<(), Fail> {
 
 #[test]
 fn prints_each_count(rt: HostRuntime) -> Result<(), Fail> {
-    let told = Told::new(rt.alloc());
+    let captured = Captured::new(rt.alloc());
     let report = Report {
         turns: 1,
         received: 2,
@@ -367,8 +367,8 @@ fn prints_each_count(rt: HostRuntime) -> Result<(), Fail> {
         refused: 6,
         short: 7,
     };
-    print_report(&told, &report)?;
+    print_report(&captured, &report)?;
     let printed = "turns 1 received 2 sent 3 lost 4 faults 5 refused 6 short 7\n";
-    assert_eq!(rt; told.output.into_inner().as_str(), printed);
+    assert_eq!(rt; captured.output.into_inner().as_str(), printed);
     Ok(())
 }

@@ -23,7 +23,7 @@ fn read(alloc: Global, first: &str, second: &str) -> Result<Result<Settings, Set
     Ok(read_settings(alloc, text.as_bytes()))
 }
 
-/// What is told of two texts, one after the other, which are no configuration.
+/// The report of two texts, one after the other, which are no configuration.
 fn fault_of(alloc: Global, first: &str, second: &str) -> Result<String, Fail> {
     match read(alloc, first, second)? {
         Ok(_) => Err("no fault".into()),
@@ -205,8 +205,8 @@ fn check_faults(rt: &impl Abort, alloc: Global, keys: &str, table: &str) -> Resu
     for row in table.split("! ") {
         if let Some((wanted, text)) = row.split_once('\n') {
             let text = text.strip_suffix('\n').ok_or("no line feed")?;
-            let told = fault_of(alloc, keys, text)?;
-            assert_eq!(rt; told.as_str(), wanted, "{text}");
+            let fault = fault_of(alloc, keys, text)?;
+            assert_eq!(rt; fault.as_str(), wanted, "{text}");
             count = count.saturating_add(1);
         }
     }
@@ -214,13 +214,13 @@ fn check_faults(rt: &impl Abort, alloc: Global, keys: &str, table: &str) -> Resu
 }
 
 #[test]
-fn tells_the_first_fault(rt: HostRuntime) -> Result<(), Fail> {
+fn reports_the_first_fault(rt: HostRuntime) -> Result<(), Fail> {
     assert_eq!(rt; check_faults(&rt, rt.alloc(), LEAST, ADDED)?, 16);
     assert_eq!(rt; check_faults(&rt, rt.alloc(), "", WHOLE)?, 27);
     Ok(())
 }
 
-/// Adds a list of addresses with so many ports.
+/// Adds a list of addresses with a number of ports.
 fn add_list(text: &mut String, key: &str, first: u16, count: u16) -> Result<(), Fail> {
     write!(text, "{key} = [")?;
     for place in 0..count {
@@ -231,8 +231,8 @@ fn add_list(text: &mut String, key: &str, first: u16, count: u16) -> Result<(), 
     Ok(())
 }
 
-/// Reads a configuration with so many upstreams and peers. The ports of the peers begin at 10, so
-/// an eleventh upstream is a peer too.
+/// Reads a configuration with these numbers of upstreams and peers. The ports of the peers begin at
+/// 10, so an eleventh upstream is a peer too.
 fn check_lists(
     rt: &impl Abort,
     alloc: Global,
@@ -259,7 +259,7 @@ fn bounds_its_lists(rt: HostRuntime) -> Result<(), Fail> {
     check_lists(&rt, rt.alloc(), 11, 1, upstreams)
 }
 
-/// Reads a configuration of so many octets, of which line feeds are the last.
+/// Reads a configuration of this number of octets, the last of them line feeds.
 fn check_length(
     rt: &impl Abort,
     alloc: Global,

@@ -7,7 +7,7 @@ use Rattle.fleet_cache.specs.Front.{IsFront}
 use Rattle.fleet_cache.specs.Dominates.{dominates}
 use Rattle.fleet_cache.specs.Cached.{item_order, IsCovered}
 
--- observations of which none dominates another, in order
+-- observations in order, none of them dominated by another
 pub record IsHeld (items : Observations) : Type 0 where
   pub lawful : AreObservations items
   pub front : IsFront item_order dominates items items

@@ -1,4 +1,4 @@
--- Of which lengths there may be names that observations of a kind speak of.
+-- The lengths of names at which there may be observations of a kind.
 -- Serves the way up in `Cache::answer`.
 use Rattle.std.specs.Prelude.{◌≡◌, ℕ, ◌≤◌, Bool, true, false, ◌⊎◌, List, length, get_or}
 use Rattle.fleet_name.specs.Types.{Labels}
@@ -13,7 +13,7 @@ pub record NotedData : Type 0 where
   pub lengths : List Bool
   pub least : ℕ
 
--- so many octets were noted
+-- this length was noted
 pub record IsNoted (noted : NotedData) (size : ℕ) : Type 0 where
   pub marked : get_or noted.lengths size false ≡ true
   pub within : noted.least ≤ size
@@ -23,7 +23,7 @@ abbrev pub AreNoted : Kind → NotedData → Observations → Type 0
 AreNoted kind noted items =
     (o : ObservationData) → Has items o → o.kind ≡ kind → IsNoted noted (length (wire o.name))
 
--- none of the items is of the kind and of a name of so many octets
+-- no item is of the kind and of a name of this many octets
 abbrev pub HasNone : Kind → ℕ → Observations → Type 0
 HasNone kind size items =
     (o : ObservationData) → Has items o → o.kind ≡ kind → length (wire o.name) ≡ size → ⊥

@@ -1,5 +1,5 @@
--- The order of a name, dominance and what has ended keep the laws of a ranked type. This is a proof: it
--- stands in specs/ since the laws of a trait may cite nothing else of their own crate.
+-- The order of a name, dominance and what has ended keep the laws of a ranked type. This is a
+-- proof: it is in specs/ since the laws of a trait may cite nothing else of their own crate.
 -- Serves the fronts below `Cache`.
 use Rattle.std.specs.Prelude.{◌≡◌, true, not, ◌&&◌, nat_le, Option, Some, None}
 use Rattle.std.specs.declared.cmp.Ordering.TheVariants.{Equal, Greater}

@@ -14,7 +14,7 @@ weigh [] octets = 0
 weigh (w ∷ ws) [] = 0
 weigh (w ∷ ws) (x ∷ octets) = x * w + weigh ws octets
 
--- so many words at most
+-- this many words at most
 abbrev pub octet_words_within : ℕ → List ℕ → List ℕ
 octet_words_within zero octets = []
 octet_words_within (suc k) [] = []
@@ -29,7 +29,7 @@ octet_words octets = octet_words_within MOST_WORDS octets
 abbrev pub words_of : ObservationData → List ℕ
 words_of o = octet_words (wire o.name)
 
--- a name that words tell
+-- the name that words spell
 pub record IsPackable (name : Labels) : Type 0 where
   pub bytes : AllByRecursion (λ x. x < 256) (wire name)
   pub named : IsName name

@@ -1,4 +1,4 @@
--- What an entry that was read tells.
+-- The observation of an entry that was read.
 -- Serves the writers of an entry.
 use Rattle.std.specs.Prelude.{◌≡◌}
 use Rattle.fleet_name.specs.Name.{wire}

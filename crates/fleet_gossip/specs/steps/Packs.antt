@@ -9,8 +9,8 @@ use Rattle.fleet_gossip.specs.declared.frame.TheConstants.{VERSION}
 use Rattle.fleet_gossip.specs.declared.packer.Packer.{Packer}
 use Rattle.fleet_gossip.specs.declared.bounds.TheConstants.{LONGEST_FRAME}
 
--- These finished frames, and so many entries of the one in the making, hold what was taken:
--- whatever comes, with its frames behind them they pack it all.
+-- These finished frames, and the `count` entries of the one that is not finished, hold what was
+-- taken: whatever comes, with its frames after them they pack it all.
 pub record Hold (frames : List OctetList) (octets : OctetList) (count : ℕ)
     (taken : Observations)
     : Type 0 where
@@ -24,8 +24,10 @@ pub record Hold (frames : List OctetList) (octets : OctetList) (count : ℕ)
       → IsPacked (part ++ rest) others
       → IsPacked (taken ++ rest) (frames ++ others)
 
+-- the packer holds what was taken
 abbrev pub Packs : {A : Type 0} → Packer A → Observations → Type 0
 Packs packer taken = Hold packer.frames.items packer.entries.items packer.count taken
 
+-- the packer holds some list
 abbrev pub IsPacking : {A : Type 0} → Packer A → Type 0
 IsPacking packer = (taken : Observations) × Packs packer taken

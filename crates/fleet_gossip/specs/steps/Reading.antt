@@ -22,7 +22,7 @@ use Rattle.fleet_gossip.specs.declared.fault.FrameFault.TheVariants.{Truncated}
 use Rattle.fleet_gossip.specs.declared.head.Head.{Head}
 use Rattle.fleet_gossip.specs.declared.bounds.TheConstants.{LONGEST_FRAME}
 
--- a lawful number stands at the front of octets, and the rest behind it
+-- a lawful number is at the front of octets, and the rest follows it
 pub record IsField (spelled : ℕ → OctetList) (Lawful : ℕ → Type 0) (octets : OctetList) (number : ℕ)
     (rest : OctetList) : Type 0 where
   pub whole : octets ≡ spelled number ++ rest
@@ -31,7 +31,7 @@ pub record IsField (spelled : ℕ → OctetList) (Lawful : ℕ → Type 0) (octe
 abbrev pub Nothing : ℕ → OctetList → FrameFault → Type 0
 Nothing number rest f = ⊥
 
--- no such number stands there, by its own fault
+-- no such number is there, by its own fault
 abbrev pub NoField : (ℕ → OctetList) → ℕ → (ℕ → Type 0) → FrameFault → OctetList → FrameFault → Type 0
 NoField spelled size Lawful refusal = FieldFails spelled size Lawful refusal Nothing
 
@@ -39,12 +39,12 @@ NoField spelled size Lawful refusal = FieldFails spelled size Lawful refusal Not
 abbrev pub AreMissing : ℕ → OctetList → FrameFault → Type 0
 AreMissing size octets f = (length octets < size) × (f ≡ Truncated)
 
--- so many octets stand at the front, and the rest behind them
+-- `size` octets are at the front, and the rest follows them
 pub record IsSplitAfter (octets : OctetList) (size : ℕ) (taken rest : OctetList) : Type 0 where
   pub whole : octets ≡ taken ++ rest
   pub counted : length taken ≡ size
 
--- the number of a kind that the version has stands at the front, and the rest behind it
+-- the number of a kind that the version has is at the front, and the rest follows it
 pub record IsKindAt (version : ℕ) (octets : OctetList) (kind : Kind) (rest : OctetList) : Type 0 where
   pub whole : octets ≡ octet (kind_number kind) ++ rest
   pub known : IsKindIn version kind
@@ -56,25 +56,25 @@ pub record IsLawfulHead (version : ℕ) (head : Head) : Type 0 where
   pub stamp : IsMoment head.stamp
   pub life : IsLifeOf head.kind head.life
 
--- the first numbers of an entry stand at the front, and the rest behind them
+-- the first numbers of an entry are at the front, and the rest follows them
 pub record IsHead (version : ℕ) (octets : OctetList) (head : Head) (rest : OctetList) : Type 0 where
   pub whole : octets
       ≡ octet (kind_number head.kind)
       ++ (octet head.rank ++ (u64_octets head.stamp ++ (u32_octets head.life ++ rest)))
   pub lawful : IsLawfulHead version head
 
--- a label stands at the front, or the zero octet that ends a name, and the rest behind it
+-- a label is at the front, or the zero octet that ends a name, and the rest follows it
 pub record IsLabelAt (before : Labels) (octets : OctetList) (label : Label) (rest : OctetList) : Type 0 where
   pub whole : octets ≡ framed label ++ rest
   pub room : 0 < length label → IsRoom before (length label)
   pub low : lower label ≡ label
 
--- lawful octets stand at the front, and the rest behind them
+-- lawful octets are at the front, and the rest follows them
 pub record IsPart (Lawful : OctetList → Type 0) (octets part rest : OctetList) : Type 0 where
   pub whole : octets ≡ part ++ rest
   pub lawful : Lawful part
 
--- so many octets at the front are lawful
+-- `size` octets at the front are lawful
 pub record IsSizeOf (Lawful : OctetList → Type 0) (octets : OctetList) (size : ℕ) : Type 0 where
   pub part : OctetList
   pub rest : OctetList
@@ -91,7 +91,7 @@ pub record IsOwnerOf (name : Labels) (octets : OctetList) : Type 0 where
   pub under : IsUnder name owner
   pub whole : octets ≡ wire owner
 
--- it stands above the last of them, if there is one
+-- it is greater than the last of them, if there is one
 abbrev pub ComesAfterLast : List OctetList → OctetList → Type 0
 ComesAfterLast rdatas rdata = (before : List OctetList) (last : OctetList) → rdatas ≡ before ++ last ∷ []
     → slice_cmp nat_cmp last rdata ≡ Less
@@ -100,7 +100,7 @@ ComesAfterLast rdatas rdata = (before : List OctetList) (last : OctetList) → r
 abbrev pub HasLast : List OctetList → OctetList → Type 0
 HasLast rdatas last = (before : List OctetList) × (rdatas ≡ before ++ last ∷ [])
 
--- so many RDATAs that those of a type may begin with stand at the front, and the rest behind them;
+-- `count` RDATAs that those of a type may begin with are at the front, and the rest follows them;
 -- their body has `long` octets
 pub record AreFirstOf (rtype : RType) (count : ℕ) (octets : OctetList) (long : ℕ) (rest : OctetList) : Type 0 where
   pub rdatas : List OctetList
@@ -121,13 +121,13 @@ pub record IsSoaBody (body : OctetList) : Type 0 where
   pub named : IsName owner
   pub octets : body ≡ negative_body owner rdata
 
--- the opening of a frame, magic, version and count of entries, stands at the front, and the rest
--- behind it
+-- the opening of a frame, magic, version and count of entries, is at the front, and the rest
+-- follows it
 pub record IsOpening (octets : OctetList) (version count : ℕ) (rest : OctetList) : Type 0 where
   pub whole : octets ≡ u16_octets MAGIC ++ (octet version ++ (u16_octets count ++ rest))
   pub read : IsVersion version
 
--- the octets begin with so many entries of the version, and the rest stands behind them
+-- the octets begin with `count` entries of the version, and the rest follows them
 pub record BeginsWithEntries (octets : OctetList) (version count : ℕ) (list : Observations)
     (rest : OctetList)
     : Type 0 where
@@ -135,18 +135,18 @@ pub record BeginsWithEntries (octets : OctetList) (version count : ℕ) (list : 
   pub lawful : AreIn version list
   pub counted : length list ≡ count
 
--- octets that are so many entries of the version, and nothing else
+-- octets that are `count` entries of the version, and nothing else
 pub record AreEntryOctets (octets : OctetList) (version count : ℕ) : Type 0 where
   pub list : Observations
   pub are : BeginsWithEntries octets version count list []
 
--- a frame of so many entries of the version, which are these octets
+-- a frame of `count` entries of the version, which are these octets
 pub record IsFrameOfEntries (frame : OctetList) (version count : ℕ) (octets : OctetList) : Type 0 where
   pub opened : IsOpening frame version count octets
   pub fits : length frame ≤ LONGEST_FRAME
   pub stand : AreEntryOctets octets version count
 
--- the frame of these observations has so many octets, which fit
+-- the frame of these observations has `size` octets, which fit
 pub record FitsFrame (list : Observations) (size : ℕ) : Type 0 where
   pub lawful : AreObservations list
   pub counted : size ≡ length (frame_octets VERSION list)

@@ -1,4 +1,4 @@
-//! The parts of bodies, and their octets.
+//! The bodies of observations, and their octets.
 
 ghost use Rattle.std.specs.Prelude.{◌≡◌, ◌<◌, ◌≤◌, ◌++◌, length, IfOk, OnOk};
 ghost use Rattle.fleet_wire.specs.Number.{u16_octets};
@@ -8,14 +8,14 @@ ghost use Rattle.fleet_observe.specs.declared.bounds.TheConstants.{LONGEST_BODY}
 use fleet_name::{Name, Octets};
 use std::alloc::{AllocError, Allocator};
 
-/// The parts of a body.
+/// The body of an observation, by its parts.
 #[derive(Drop)]
 pub(crate) enum Body<A: Allocator> {
     /// The RDATAs of a positive observation, ascending.
     Records(Vec<Octets<A>, A>),
     /// The SOA of a negative one: its owner and its RDATA.
     Authority(Name<A>, Octets<A>),
-    /// Those of a flush: none.
+    /// The empty body of a flush.
     Nothing,
 }
 
@@ -34,7 +34,7 @@ impl<A: Allocator> Body<A> {
         }
     }
 
-    /// Adds its octets to others.
+    /// Appends its octets. `Err` where an allocation fails; some may then have been appended.
     pub(crate) fn push_to<B: Allocator>(&self, octets: &mut Vec<u8, B>) -> Result<(), AllocError>
         requires { length (body_octets self.now) ≤ LONGEST_BODY }
         ensures { OnOk result (octets.new.items ≡ octets.old.items ++ body_octets self.now) }
@@ -49,7 +49,7 @@ impl<A: Allocator> Body<A> {
         }
     }
 
-    /// A copy.
+    /// A copy of the body. `Err` where an allocation fails.
     pub(crate) fn try_clone(&self) -> Result<Body<A>, AllocError>
     where
         A: Copy,
@@ -70,7 +70,7 @@ impl<A: Allocator> Body<A> {
     }
 }
 
-/// How many octets a positive body has.
+/// How many octets the body of these RDATAs has.
 fn rdatas_len<A: Allocator>(rdatas: &[Octets<A>]) -> usize
     requires { length (positive_body rdatas.now) ≤ LONGEST_BODY }
     ensures { result ≡ length (positive_body rdatas.now) }
@@ -82,7 +82,7 @@ fn rdatas_len<A: Allocator>(rdatas: &[Octets<A>]) -> usize
     len
 }
 
-/// Adds a number of two octets.
+/// Appends a number of two octets, the high one first.
 fn push_u16<B: Allocator>(octets: &mut Vec<u8, B>, number: usize) -> Result<(), AllocError>
     requires { number < 65536 }
     ensures { OnOk result (octets.new.items ≡ octets.old.items ++ u16_octets number) }
@@ -90,7 +90,7 @@ fn push_u16<B: Allocator>(octets: &mut Vec<u8, B>, number: usize) -> Result<(), 
     octets.extend_from_slice(&(number as u16).to_be_bytes())
 }
 
-/// Adds octets behind their number.
+/// Appends octets after their length in two octets.
 fn push_sized<B: Allocator>(octets: &mut Vec<u8, B>, part: &[u8]) -> Result<(), AllocError>
     requires { length part.now < 65536 }
     ensures { OnOk result (octets.new.items ≡ octets.old.items ++ octets_with_length part.now) }
@@ -99,7 +99,7 @@ fn push_sized<B: Allocator>(octets: &mut Vec<u8, B>, part: &[u8]) -> Result<(), 
     octets.extend_from_slice(part)
 }
 
-/// Adds a positive body.
+/// Appends the body of these RDATAs: their count, then each after its length.
 fn push_rdatas<A: Allocator, B: Allocator>(
     octets: &mut Vec<u8, B>,
     rdatas: &[Octets<A>],
@@ -114,7 +114,7 @@ fn push_rdatas<A: Allocator, B: Allocator>(
     Ok(())
 }
 
-/// A copy of RDATAs.
+/// A copy of RDATAs. `Err` where an allocation fails.
 fn copy_of<A: Allocator + Copy>(rdatas: &Vec<Octets<A>, A>) -> Result<Vec<Octets<A>, A>, AllocError>
     ensures { IfOk result (λ v. v.items ≡ rdatas.now.items) }
 {

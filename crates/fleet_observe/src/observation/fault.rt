@@ -2,7 +2,7 @@
 
 use thiserror::Error;
 
-/// Why values make no observation: of several reasons the first one in this order.
+/// Why values make no observation. Where several reasons hold, it is the first one in this order.
 #[derive(Clone, Copy, Debug, PartialEq, Eq, Error)]
 pub enum ObservationFault {
     /// The rank is not one of the kind: 1, 2 or 3 for a positive observation, 1 or 3 for a negative
@@ -12,7 +12,7 @@ pub enum ObservationFault {
     /// The life is zero, or over `LONGEST_LIFE`, of a negative observation over `LONGEST_DENIAL`.
     #[error("bad life")]
     BadLife,
-    /// The type is none that data can have: 0, 41 (OPT), or one of 128 to 255 (RFC 6895 3.1).
+    /// No data can have the type: it is 0, 41 (OPT), or one of 128 to 255 (RFC 6895 3.1).
     #[error("bad kind")]
     BadKind,
     /// Positive: no RDATA, more than one of an alias (CNAME), RDATA that is not of its type's shape

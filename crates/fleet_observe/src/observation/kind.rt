@@ -2,14 +2,14 @@
 
 ghost use Rattle.std.specs.Prelude.{◌≡◌};
 
-/// What an observation tells of its name.
+/// What an observation says of its name.
 #[derive(Clone, Copy, Debug, PartialEq, Eq)]
 pub enum Kind {
     /// 1: there is no such name, nor any below it (RFC 8020 2).
     NameError = 1,
     /// 2: the name has no data of the type (RFC 2308 2.2).
     NoData = 2,
-    /// 3: the name has these data of the type.
+    /// 3: the name has these data of the type, whole as an RRset (RFC 2181 5).
     Positive = 3,
     /// 4: what was observed of the name, and of those below it, up to the moment is withdrawn.
     Flush = 4,

@@ -1,4 +1,4 @@
-//! Moments.
+//! Moments in whole seconds.
 
 ghost use Rattle.std.specs.Prelude.{◌≡◌, ◌≤◌};
 ghost use Rattle.std.specs.Option.{SomeIff};
@@ -7,7 +7,7 @@ ghost use Rattle.fleet_observe.specs.declared.bounds.TheConstants.{LATEST};
 use crate::bounds::LATEST;
 use std::marker::Model;
 
-/// A moment: a whole number of seconds, at most `LATEST`.
+/// A moment: a whole number of seconds, at most `LATEST`, since one that the caller chose.
 #[derive(Clone, Copy, PartialEq, Eq, PartialOrd, Ord, Debug)]
 pub struct Moment {
     seconds: u64,
@@ -27,7 +27,7 @@ impl Model for Moment {
 }
 
 impl Moment {
-    /// The moment of so many seconds, `None` where these are over `LATEST`.
+    /// The moment after this many seconds; `None` where they are more than `LATEST`.
     pub fn new(seconds: u64) -> Option<Moment>
         ensures { SomeIff result (seconds ≤ LATEST) seconds }
     {

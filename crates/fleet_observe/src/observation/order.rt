@@ -13,7 +13,7 @@ use fleet_name::Octets;
 use std::alloc::Allocator;
 use std::cmp::Ordering;
 
-/// How octets behind their number compare.
+/// How octets compare after their length: the shorter come first.
 fn sized_order(octets: &[u8], others: &[u8]) -> Ordering
     ensures { result ≡ octets_cmp (octets_with_length octets.now) (octets_with_length others.now) }
 {

@@ -4,10 +4,10 @@ use fleet_name::{Name, Octets};
 use std::alloc::{Allocator, Global};
 use std::marker::Model;
 
-/// The SOA record that stands for a denial (RFC 2308 5).
+/// The SOA record of a denial (RFC 2308 5).
 #[derive(Drop)]
 pub struct Soa<A: Allocator = Global> {
-    /// The name that owns it.
+    /// Its owner, the zone.
     pub owner: Name<A>,
     /// For how long the denial holds, in seconds.
     pub ttl: u32,

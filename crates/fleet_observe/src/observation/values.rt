@@ -1,4 +1,4 @@
-//! What the values of an observation have to meet.
+//! Tests of the values of an observation.
 
 ghost use Rattle.std.specs.Prelude.{◌≡◌, ◌≢◌, ◌<◌, ◌≤◌, ◌↔◌, [], length, IsTrue, IsFalse};
 ghost use Rattle.fleet_name.specs.Types.{OctetList};
@@ -17,21 +17,21 @@ use fleet_wire::plain_rdata;
 use fleet_wire::rtype::{CNAME, SOA};
 use std::alloc::Allocator;
 
-/// Whether it is a rank.
+/// Whether it is a rank: 1, 2 or 3.
 pub(crate) fn is_rank(rank: u8) -> bool
     ensures { IsTrue result ↔ IsRank rank }
 {
     (OTHER..=ANSWER).contains(&rank)
 }
 
-/// Whether a denial can have the rank.
+/// Whether a denial can have the rank: 1 or 3.
 pub(crate) fn is_denial_rank(rank: u8) -> bool
     ensures { IsTrue result ↔ IsDenialRank rank }
 {
     rank == OTHER || rank == ANSWER
 }
 
-/// Whether it is a life, where `most` is the longest.
+/// Whether it is a life of 1 to `most` seconds.
 pub(crate) fn is_life(most: u32, life: u32) -> bool
     ensures { IsTrue result ↔ IsLife most life }
 {
@@ -45,7 +45,7 @@ pub fn is_data_type(rtype: u16) -> bool
     !matches!(rtype, 0 | 41 | 128..=255)
 }
 
-/// Whether each stands after the one before it.
+/// Whether each is greater than the one before it, as octets.
 fn are_ascending<A: Allocator>(rdatas: &[Octets<A>]) -> bool
     ensures { IsTrue result ↔ IsAscending rdatas.now }
 {
@@ -57,7 +57,7 @@ fn are_ascending<A: Allocator>(rdatas: &[Octets<A>]) -> bool
     true
 }
 
-/// Whether each has its type's shape.
+/// Whether each has its type's shape, with names in full and in lower case.
 fn are_plain<A: Allocator>(rtype: u16, rdatas: &[Octets<A>]) -> bool
     ensures { IsTrue result ↔ ((rdata : OctetList) → Has rdatas.now rdata → IsPlain rtype rdata) }
 {
@@ -69,7 +69,7 @@ fn are_plain<A: Allocator>(rtype: u16, rdatas: &[Octets<A>]) -> bool
     true
 }
 
-/// Whether their body is no longer than one may be.
+/// Whether their body has at most `LONGEST_BODY` octets.
 pub(crate) fn are_short<A: Allocator>(rdatas: &[Octets<A>]) -> bool
     ensures { IsTrue result ↔ (length (positive_body rdatas.now) ≤ LONGEST_BODY) }
 {
@@ -123,7 +123,7 @@ pub fn is_type_of(kind: Kind, rtype: u16) -> bool
     }
 }
 
-/// Whether a positive observation of the type can have so many RDATAs: at least one, and of an
+/// Whether a positive observation of the type can have `count` RDATAs: at least one, and of an
 /// alias (CNAME) one alone (RFC 2181 10.1).
 pub fn is_count_of(rtype: u16, count: usize) -> bool
     ensures { IsTrue result ↔ IsCountOf rtype count }
@@ -134,7 +134,7 @@ pub fn is_count_of(rtype: u16, count: usize) -> bool
     rtype != CNAME || count == 1
 }
 
-/// Whether an observation of the type may hold these RDATAs.
+/// Whether an observation of the type can hold these RDATAs: each test of `BadBody`.
 pub(crate) fn are_rdatas<A: Allocator>(rtype: u16, rdatas: &[Octets<A>]) -> bool
     ensures { IsTrue result ↔ AreRdatas rtype rdatas.now }
 {
@@ -144,7 +144,7 @@ pub(crate) fn are_rdatas<A: Allocator>(rtype: u16, rdatas: &[Octets<A>]) -> bool
     are_short(rdatas) && are_ascending(rdatas) && are_plain(rtype, rdatas)
 }
 
-/// Whether a denial may be of this type, or of none.
+/// Whether a denial can be of this type; `None` is a name error.
 pub(crate) fn is_denied_type(rtype: Option<u16>) -> bool
     ensures { IsTrue result ↔ IsDeniedType rtype }
 {
@@ -154,7 +154,8 @@ pub(crate) fn is_denied_type(rtype: Option<u16>) -> bool
     }
 }
 
-/// Whether an SOA with this owner and RDATA stands for a denial of the name.
+/// Whether an SOA with this owner and RDATA can deny the name: the owner is the name or an
+/// ancestor, and the RDATA has the shape of an SOA.
 pub(crate) fn is_denial<A: Allocator>(name: &Name<A>, owner: &Name<A>, rdata: &[u8]) -> bool
     ensures { IsTrue result ↔ IsDenial name.now owner.now rdata.now }
 {

@@ -1,4 +1,4 @@
-//! Which SOA a denial has (RFC 2308 3, 5).
+//! The SOA of a denial (RFC 2308 3, 5).
 
 ghost use Rattle.std.specs.Prelude.{◌≡◌, ℕ, ◌≤◌, List, length, IfOk, IfErr, MatchOption};
 ghost use Rattle.fleet_wire.specs.Record.{RecordData};
@@ -28,7 +28,7 @@ fn first_soa<A: Allocator>(authority: &[Record<A>]) -> Option<&Record<A>>
     None
 }
 
-/// The last number of an SOA.
+/// MINIMUM, the last number of an SOA's RDATA (RFC 1035 3.3.13).
 fn minimum(rdata: &[u8]) -> u32
     requires { 4 ≤ length rdata.now }
     ensures { result ≡ minimum_of rdata.now }
@@ -37,7 +37,9 @@ fn minimum(rdata: &[u8]) -> u32
     u32::from_be_bytes([rdata[at], rdata[at + 1], rdata[at + 2], rdata[at + 3]])
 }
 
-/// The SOA that counts for a denied name, if any.
+/// The SOA that counts for a denied name: the first of the section, where its owner is the name or
+/// an ancestor. Its TTL is the least of its own, MINIMUM and `LONGEST_DENIAL` (RFC 2308 5). `Err`
+/// where an allocation fails.
 pub(crate) fn soa_for<A: Allocator + Copy>(
     alloc: A,
     authority: &[Record<A>],

@@ -1,4 +1,4 @@
-//! What a reply told, as values.
+//! How a reply ends, and why one has no digest.
 
 ghost use Rattle.std.specs.Prelude.{◌≡◌};
 ghost use Rattle.fleet_observe.specs.declared.reply.ending.DigestFault.TheVariants.{OutOfMemory};
@@ -25,17 +25,17 @@ pub enum End<A: Allocator = Global> {
     Truncated,
 }
 
-/// Why a message has no digest: of several reasons the first one in this order.
+/// Why a message has no digest. Where several reasons hold, it is the first one in this order.
 #[derive(Clone, Copy, Debug, PartialEq, Eq, Error)]
 pub enum DigestFault {
-    /// QR is clear, the Opcode is not 0, or the question has a class other than 1 or a type that
-    /// names no data (0, 41, 128 to 255).
+    /// QR is clear, the Opcode is not 0, or the question has a class other than 1 or a type that no
+    /// data can have (0, 41, 128 to 255).
     #[error("no reply")]
     NotReply,
     /// The aliases fork, loop, or have a ninth link.
     #[error("bad chain")]
     BadChain,
-    /// There was no memory for it.
+    /// An allocation failed.
     #[error("out of memory")]
     OutOfMemory,
 }

@@ -24,7 +24,7 @@ use crate::reply::summary::Digest;
 use fleet_name::{Name, Octets};
 use std::alloc::{AllocError, Allocator};
 
-/// Copies of the RDATAs.
+/// Copies of the RDATAs. `Err` where an allocation fails.
 fn copies<A: Allocator + Copy>(
     alloc: A,
     rdatas: &[Octets<A>],
@@ -117,7 +117,8 @@ fn put_denial<A: Allocator + Copy>(
     Ok(())
 }
 
-/// The rank of an answer RRset.
+/// The rank of an RRset of the answer section: `ANSWER` where the question's name owns it and AA is
+/// set, else `OTHER`.
 fn rank_of<A: Allocator>(aa: bool, name: &Name<A>, owner: &Name<A>) -> u8
     ensures rank { result ≡ answer_rank aa name.now owner.now }
     ensures ranked { IsRank result }
@@ -129,7 +130,7 @@ fn rank_of<A: Allocator>(aa: bool, name: &Name<A>, owner: &Name<A>) -> u8
     }
 }
 
-/// The rank of a denial.
+/// The rank of a denial: `ANSWER` where AA is set and the walk has no link, else `OTHER`.
 fn rank_of_denial<A: Allocator>(aa: bool, chain: &[RrSet<A>]) -> u8
     ensures rank { result ≡ denial_rank aa chain.now }
     ensures ranked { IsDenialRank result }
@@ -230,8 +231,9 @@ fn put_ns<A: Allocator + Copy>(
 }
 
 /// The observations of a reply at a moment, in this order: the links, the records or the denial
-/// with its SOA, the NS RRsets. Left out are those of a TTL of zero, RRsets whose body has more
-/// than `LONGEST_BODY` octets, and a denial without SOA. Only where there are any is memory wanted.
+/// with its SOA, the NS RRsets. Left out are those with a TTL of zero, RRsets whose body has more
+/// than `LONGEST_BODY` octets, and a denial without SOA. Where there are none, this allocates
+/// nothing. `Err` where an allocation fails.
 pub fn observations<A: Allocator + Copy>(
     alloc: A,
     digest: &Digest<A>,

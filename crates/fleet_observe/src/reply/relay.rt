@@ -69,7 +69,7 @@ fn put_end<'a, A: Allocator + Copy>(
     }
 }
 
-/// An outline that says what the digest says.
+/// The outline of the reply that `relay` writes.
 fn outline_of<'a, A: Allocator + Copy>(
     alloc: A,
     digest: &'a Digest<A>,
@@ -91,11 +91,12 @@ fn outline_of<'a, A: Allocator + Copy>(
     Ok(outline)
 }
 
-/// The reply that tells a client with this question, identifier and RD what the digest tells: the
-/// question in its own spelling, the links, and then the records, or the SOA of a denial in the
-/// authority section (RFC 1035 4.1). TTLs are the digest's. A reply of another RCODE has that code
-/// and the question alone, one that was cut off RCODE 0, TC and the question. Where all of it would
-/// have more than 512 octets, it is header and question with TC.
+/// The reply to a client with this question, identifier and RD, made of the digest: the question in
+/// its own spelling, the links, and then the records, or the SOA of a denial in the authority
+/// section (RFC 1035 4.1). TTLs are the digest's. For an RCODE other than 0 and 3 it has that code
+/// and the question alone; for a reply that was cut off RCODE 0, TC and the question. Where all of
+/// it would have more than 512 octets, it is header and question with TC. `Err` where an allocation
+/// fails.
 pub fn relay<A: Allocator + Copy>(
     alloc: A,
     digest: &Digest<A>,

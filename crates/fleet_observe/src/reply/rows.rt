@@ -1,4 +1,4 @@
-//! Records that replies are made of, lent by what holds them.
+//! Borrowed records that replies are made from.
 
 ghost use Rattle.std.specs.Prelude.{◌≡◌, OnOk, OnErr};
 ghost use Rattle.fleet_wire.specs.Outline.{line, with_authority};
@@ -11,22 +11,22 @@ use fleet_wire::Outline;
 use fleet_wire::rtype::SOA;
 use std::alloc::{AllocError, Allocator, Global};
 
-/// Records of the class IN of one owner and type, lent by an RRset or an observation.
+/// Records of the class IN of one owner and type, borrowed from an RRset or an observation.
 #[derive(Clone, Copy)]
 pub struct Rows<'a, A: Allocator = Global> {
     /// The owner of the records.
     pub name: &'a Name<A>,
     /// The type of the records.
     pub rtype: u16,
-    /// The TTL that a reply tells of them, in seconds.
+    /// The TTL that a reply has for them, in seconds.
     pub ttl: u32,
     /// Their RDATAs, with every name in full.
     pub rdatas: &'a [Octets<A>],
 }
 
 /// Adds records at the end of the answer section of a reply, in the order of their RDATAs: a link
-/// of a chain, or the records that it leads to. Where there is no memory for all of them, so many of
-/// the first ones have been added, and nothing else is changed.
+/// of a chain, or the records that it leads to. `Err` where an allocation fails; a number of the
+/// first ones, not all, has then been added, and nothing else is changed.
 pub fn add_rows<'a, A: Allocator + Copy>(
     outline: &mut Outline<'a, A>,
     rows: Rows<'a, A>,
@@ -46,8 +46,8 @@ pub fn add_rows<'a, A: Allocator + Copy>(
 }
 
 /// Adds an SOA record at the end of the authority section of a reply: its owner, its TTL in seconds
-/// and its RDATA, with every name in full (RFC 2308 3). Where there is no memory for it, the
-/// outline stays as it was.
+/// and its RDATA, with every name in full (RFC 2308 3). `Err` where an allocation fails; the
+/// outline is then as it was.
 pub fn add_soa<'a, A: Allocator + Copy>(
     outline: &mut Outline<'a, A>,
     owner: &'a Name<A>,

@@ -7,8 +7,8 @@ ghost use Rattle.fleet_observe.specs.Members.{Has, IsAscending};
 ghost use Rattle.fleet_observe.specs.RrSet.{SpellsName, Belongs, InSet, IsTtl, IsRrSet, read_ttl, rrset_of_rows, count_below};
 
 use crate::bounds::LONGEST_LIFE;
+use crate::items::Items;
 use crate::observation::values::is_data_type;
-use crate::reply::rdatas::Rdatas;
 use crate::reply::rows::Rows;
 use fleet_name::{Name, Octets};
 use fleet_wire::Record;
@@ -26,7 +26,7 @@ pub struct RrSet<A: Allocator = Global> {
     /// The least of their TTLs, in seconds, at most `LONGEST_LIFE` (RFC 2181 5.2, 8).
     pub ttl: u32,
     /// Their RDATAs, ascending as octets, each once.
-    pub rdatas: Rdatas<A>,
+    pub rdatas: Items<Octets<A>, A>,
 }
 
 impl<A: Allocator> Model for RrSet<A> {
@@ -43,7 +43,7 @@ impl<A: Allocator> Model for RrSet<A> {
 }
 
 impl<A: Allocator> RrSet<A> {
-    /// Its records, as they are told in a reply.
+    /// Its records, borrowed, as a reply has them.
     pub fn rows(&self) -> Rows<A>
         ensures { rrset_of_rows result ≡ self.now }
     {
@@ -56,7 +56,7 @@ impl<A: Allocator> RrSet<A> {
     }
 }
 
-/// Whether the record is of the RRset at this name, in full, and type.
+/// Whether the record is of the class IN and of the RRset at this name, in full, and type.
 pub(crate) fn is_of_rrset<A: Allocator>(candidate: &Record<A>, name: &[u8], rtype: u16) -> bool
     requires { SpellsName name.now }
     ensures { IsTrue result ↔ Belongs (labels_of name.now) rtype candidate.now }
@@ -84,7 +84,7 @@ pub(crate) fn bounded_ttl(ttl: u32) -> u32
     }
 }
 
-/// The least TTL of an RRset.
+/// The least TTL of the RRset's records, in seconds (RFC 2181 5.2).
 fn least_ttl<A: Allocator>(section: &[Record<A>], name: &[u8], rtype: u16) -> u32
     requires spelled { SpellsName name.now }
     requires some { (d : OctetList) × InSet section.now (labels_of name.now) rtype d }
@@ -111,7 +111,7 @@ fn holds<A: Allocator>(rdatas: &[Octets<A>], rdata: &[u8]) -> bool
     false
 }
 
-/// How many RDATAs at the front are less.
+/// The index at which an RDATA is inserted: how many at the front are less.
 fn insertion_index<A: Allocator>(rdatas: &[Octets<A>], rdata: &[u8]) -> usize
     ensures count { result ≡ count_below rdata.now rdatas.now }
     ensures within { result ≤ length rdatas.now }
@@ -123,7 +123,7 @@ fn insertion_index<A: Allocator>(rdatas: &[Octets<A>], rdata: &[u8]) -> usize
     at
 }
 
-/// Adds an RDATA at its place, if it is not there.
+/// Inserts an RDATA at its place, unless it is there already. `Err` where an allocation fails.
 fn add<A: Allocator + Copy>(
     alloc: A,
     rdatas: &mut Vec<Octets<A>, A>,
@@ -142,7 +142,8 @@ fn add<A: Allocator + Copy>(
     Ok(())
 }
 
-/// The RRset at this name and type, where there is one.
+/// The RRset of a section at this name and type, which has a record there. `Err` where an
+/// allocation fails.
 pub(crate) fn rrset_at<A: Allocator + Copy>(
     alloc: A,
     section: &[Record<A>],
@@ -163,6 +164,6 @@ pub(crate) fn rrset_at<A: Allocator + Copy>(
         name: owner.try_clone()?,
         rtype,
         ttl: least_ttl(section, name, rtype),
-        rdatas: Rdatas::new(rdatas),
+        rdatas: Items::new(rdatas),
     })
 }

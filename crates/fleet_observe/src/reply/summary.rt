@@ -22,7 +22,7 @@ use fleet_wire::{Message, Record};
 use std::alloc::{AllocError, Allocator, Global};
 use std::marker::Model;
 
-/// What a reply tells: the links of the walk from the question's name along aliases, how it ends,
+/// What a reply means: the links of the walk from the question's name along aliases, how it ends,
 /// and the NS RRsets that it is an authority for. `digest` alone makes one.
 #[derive(Drop)]
 pub struct Digest<A: Allocator = Global> {
@@ -163,8 +163,8 @@ fn end_of<A: Allocator + Copy>(
     Ok(End::NxDomain(soa))
 }
 
-/// What a reply that asks for no walk tells, with a copy of the question's name. This takes no
-/// memory.
+/// The digest of a reply that asks for no walk. It is made of a copy of the question's name, so
+/// this allocates nothing.
 pub(crate) fn digest_without_walk<A: Allocator + Copy>(
     alloc: A,
     message: &Message<A>,
@@ -187,7 +187,7 @@ pub(crate) fn digest_without_walk<A: Allocator + Copy>(
     }
 }
 
-/// What a reply with a walk tells.
+/// The digest of a reply with a walk. `Err` where an allocation fails.
 pub(crate) fn digest_along_walk<A: Allocator + Copy>(
     alloc: A,
     message: &Message<A>,

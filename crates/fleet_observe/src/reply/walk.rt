@@ -12,7 +12,7 @@ use fleet_wire::Record;
 use fleet_wire::rtype::CNAME;
 use std::alloc::Allocator;
 
-/// What an RRset has: its first record, where there is one.
+/// What the walk finds of an RRset: its first record, where there is one.
 #[derive(Drop)]
 pub(crate) enum Found<'a, A: Allocator> {
     Nothing,
@@ -98,7 +98,7 @@ pub(crate) fn has_walk<A: Allocator>(answer: &[Record<A>], name: &[u8], rtype: u
     false
 }
 
-/// A record of those that the walk found where it ended, if any.
+/// A record of the RRset that the walk found where it ended, if any.
 pub(crate) fn found_at<'a, A: Allocator>(
     answer: &'a [Record<A>],
     name: &[u8],

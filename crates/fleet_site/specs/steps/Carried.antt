@@ -11,7 +11,7 @@ use Rattle.fleet_wire.specs.declared.rcode.TheConstants.{FORMAT_ERROR}
 use Rattle.fleet_observe.specs.Observation.{Observations}
 use Rattle.fleet_cache.specs.Cached.{IsCached, CacheData}
 use Rattle.fleet_pending.specs.PendingData.{PendingData}
-use Rattle.fleet_pending.specs.QueryId.{TellsId}
+use Rattle.fleet_pending.specs.QueryId.{IsQueryId}
 use Rattle.fleet_name.specs.Places.{At}
 use Rattle.fleet_pending.specs.declared.answer.PendingFault.{PendingFault}
 use Rattle.fleet_pending.specs.declared.answer.PendingFault.TheVariants.{OutOfMemory as NoRoom}
@@ -79,7 +79,7 @@ SendsFirst upstreams q None e = e ≡ nothing
 -- the same with the id that the table tells
 abbrev pub IsFirstSaid : List Addr → PendingData → ℕ → QuestionData → OutcomeData → Type 0
 IsFirstSaid upstreams o word q e =
-    (told : Option ℕ) × TellsId o q word told × SendsFirst upstreams q told e
+    (told : Option ℕ) × IsQueryId o q word told × SendsFirst upstreams q told e
 
 -- these observations were taken, or without memory the first of them
 abbrev pub TakesOrStops : Observations → Observations

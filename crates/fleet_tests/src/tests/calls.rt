@@ -1,7 +1,7 @@
 //! Worked examples.
 
 use crate::tests::octets::{add_octets, octets, spelt_out};
-use crate::tests::sites::{addr, check_new, check_rows, new_site, number, tell_sweep};
+use crate::tests::sites::{addr, check_new, check_rows, new_site, number, show_sweep};
 use fleet_pending::Addr;
 use fleet_site::{Config, Site, SiteFault};
 use std::alloc::Global;
@@ -263,9 +263,9 @@ fn a_question_is_looked_up(rt: HostRuntime) -> Result<(), Fail> {
 
 /// A sweep gives these frames.
 fn check_sweep(rt: &impl Abort, alloc: Global, site: &Site, wanted: &str) -> Result<(), Fail> {
-    let mut told = String::new(alloc);
-    tell_sweep(&mut told, site)?;
-    assert_eq!(rt; told.as_str(), spelt_out(alloc, wanted)?.as_str());
+    let mut output = String::new(alloc);
+    show_sweep(&mut output, site)?;
+    assert_eq!(rt; output.as_str(), spelt_out(alloc, wanted)?.as_str());
     Ok(())
 }
 

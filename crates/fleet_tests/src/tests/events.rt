@@ -83,7 +83,7 @@ same 0 1 => same
 }
 
 #[test]
-fn a_reply_is_relayed_and_told_to_peers(rt: HostRuntime) -> Result<(), Fail> {
+fn a_reply_is_relayed_and_sent_to_peers(rt: HostRuntime) -> Result<(), Fail> {
     check_new(
         &rt,
         rt.alloc(),
@@ -192,7 +192,7 @@ same 0 1 => same
 }
 
 #[test]
-fn a_site_that_is_not_there_is_told_before_a_frame(rt: HostRuntime) -> Result<(), Fail> {
+fn a_site_that_is_not_there_is_reported_before_a_frame(rt: HostRuntime) -> Result<(), Fail> {
     check_new(
         &rt,
         rt.alloc(),

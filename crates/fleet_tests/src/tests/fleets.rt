@@ -1,7 +1,7 @@
-//! Events of a fleet, and looks at it, as lines of text, each with what it gives.
+//! Events of a fleet, and looks at it, as lines of text, each with its output.
 
-use crate::tests::octets::{octets, spelt_out, tell_octets};
-use crate::tests::sites::{HOST, addr, at, config, name_of, number, tell_looked};
+use crate::tests::octets::{octets, spelt_out, show_octets};
+use crate::tests::sites::{HOST, addr, at, config, name_of, number, show_looked};
 use fleet_observe::Moment;
 use fleet_pending::Addr;
 use fleet_site::{Packet, Site};
@@ -94,76 +94,76 @@ fn event_of(alloc: Global, line: &str) -> Result<Event, Fail> {
 }
 
 /// Adds a word and a number, each behind a space.
-fn tell_number(told: &mut String, word: &str, number: usize) -> Result<(), Fail> {
-    write!(told, " {word} {number}")?;
+fn show_number(output: &mut String, word: &str, number: usize) -> Result<(), Fail> {
+    write!(output, " {word} {number}")?;
     Ok(())
 }
 
 /// Adds where a packet goes, and its octets.
-fn tell_packet(told: &mut String, packet: &Packet) -> Result<(), Fail> {
+fn show_packet(output: &mut String, packet: &Packet) -> Result<(), Fail> {
     let Addr { host, port } = packet.to;
     let word = if host == HOST { "send" } else { "elsewhere" };
-    tell_number(told, word, usize::from(port))?;
-    tell_octets(told, packet.bytes.as_slice())
+    show_number(output, word, usize::from(port))?;
+    show_octets(output, packet.bytes.as_slice())
 }
 
 /// Adds all that an event did: packets, the numbers of frames, how many observations were taken if
 /// any were, a refusal, and whether there is more.
-pub fn tell_stepped(told: &mut String, stepped: &Stepped) -> Result<(), Fail> {
+pub fn show_stepped(output: &mut String, stepped: &Stepped) -> Result<(), Fail> {
     for packet in stepped.packets.as_slice() {
-        tell_packet(told, packet)?;
+        show_packet(output, packet)?;
     }
     for number in stepped.frames.as_slice() {
-        tell_number(told, "frame", *number)?;
+        show_number(output, "frame", *number)?;
     }
     if stepped.taken != 0 {
-        tell_number(told, "taken", stepped.taken)?;
+        show_number(output, "taken", stepped.taken)?;
     }
     if let Some(refusal) = stepped.refused {
-        write!(told, " refused {refusal:?}")?;
+        write!(output, " refused {refusal:?}")?;
     }
     if stepped.more {
-        told.push_str(" more")?;
+        output.push_str(" more")?;
     }
     Ok(())
 }
 
 /// Lets an event happen, and adds what it did, or why it didn't.
-fn tell_event(told: &mut String, world: &mut World, event: &Event) -> Result<(), Fail> {
+fn show_event(output: &mut String, world: &mut World, event: &Event) -> Result<(), Fail> {
     match world.step(event) {
-        Ok(stepped) => tell_stepped(told, &stepped),
-        Err(fault) => Ok(write!(told, " {fault}")?),
+        Ok(stepped) => show_stepped(output, &stepped),
+        Err(fault) => Ok(write!(output, " {fault}")?),
     }
 }
 
 /// Looks a question up at a site, and adds what is answered.
-fn tell_ask(told: &mut String, world: &mut World, words: &str) -> Result<(), Fail> {
+fn show_ask(output: &mut String, world: &mut World, words: &str) -> Result<(), Fail> {
     let (site, words) = first_place(words)?;
     let (now, name) = first_number(words)?;
-    let question = octets(*told.allocator(), name)?;
+    let question = octets(*output.allocator(), name)?;
     match world.ask(site, at(now)?, question.as_slice()) {
-        Ok(looked) => tell_looked(told, &looked),
-        Err(fault) => Ok(write!(told, " {fault}")?),
+        Ok(looked) => show_looked(output, &looked),
+        Err(fault) => Ok(write!(output, " {fault}")?),
     }
 }
 
 /// Adds the kept frame of a number, if there is one.
-fn tell_kept(told: &mut String, world: &World, number: usize) -> Result<(), Fail> {
+fn show_kept(output: &mut String, world: &World, number: usize) -> Result<(), Fail> {
     match world.frame(number) {
-        Some(frame) => tell_octets(told, frame),
-        None => Ok(told.push_str(" none")?),
+        Some(frame) => show_octets(output, frame),
+        None => Ok(output.push_str(" none")?),
     }
 }
 
 /// Adds the clock of a site, its floor, and how many items it has.
-fn tell_site(told: &mut String, site: Option<&Site>) -> Result<(), Fail> {
+fn show_site(output: &mut String, site: Option<&Site>) -> Result<(), Fail> {
     match site {
         Some(site) => {
-            tell_number(told, "clock", site.clock().value() as usize)?;
-            tell_number(told, "floor", site.cache().floor().value() as usize)?;
-            tell_number(told, "items", site.cache().len())
+            show_number(output, "clock", site.clock().value() as usize)?;
+            show_number(output, "floor", site.cache().floor().value() as usize)?;
+            show_number(output, "items", site.cache().len())
         }
-        None => Ok(told.push_str(" none")?),
+        None => Ok(output.push_str(" none")?),
     }
 }
 
@@ -176,33 +176,33 @@ fn hold_same(world: &World, one: usize, other: usize) -> bool {
 }
 
 /// Adds whether two sites hold the same.
-fn tell_same(told: &mut String, world: &World, words: &str) -> Result<(), Fail> {
+fn show_same(output: &mut String, world: &World, words: &str) -> Result<(), Fail> {
     let (one, words) = first_place(words)?;
     let (other, _) = first_place(words)?;
     let same = hold_same(world, one, other);
-    Ok(told.push_str(if same { " same" } else { " different" })?)
+    Ok(output.push_str(if same { " same" } else { " different" })?)
 }
 
 /// Does what a line says, and adds what it gives.
-fn tell_line(told: &mut String, world: &mut World, line: &str) -> Result<(), Fail> {
+fn show_line(output: &mut String, world: &mut World, line: &str) -> Result<(), Fail> {
     let (kind, words) = line.split_once(' ').ok_or("no event")?;
     match kind {
-        "ask" => tell_ask(told, world, words),
-        "kept" => tell_kept(told, world, first_place(words)?.0),
-        "site" => tell_site(told, world.site(first_place(words)?.0)),
-        "same" => tell_same(told, world, words),
+        "ask" => show_ask(output, world, words),
+        "kept" => show_kept(output, world, first_place(words)?.0),
+        "site" => show_site(output, world.site(first_place(words)?.0)),
+        "same" => show_same(output, world, words),
         _ => {
-            let event = event_of(*told.allocator(), line)?;
-            tell_event(told, world, &event)
+            let event = event_of(*output.allocator(), line)?;
+            show_event(output, world, &event)
         }
     }
 }
 
-/// Compares what was told with what its row wants.
-fn check_told(rt: &impl Abort, alloc: Global, told: &str, row: &str) -> Result<(), Fail> {
+/// Compares output with that of its row.
+fn check_output(rt: &impl Abort, alloc: Global, output: &str, row: &str) -> Result<(), Fail> {
     let (_, wanted) = row.split_once(" =>").ok_or("nothing wanted")?;
     let wanted = spelt_out(alloc, wanted)?;
-    assert_eq!(rt; told, wanted.as_str(), "{row}");
+    assert_eq!(rt; output, wanted.as_str(), "{row}");
     Ok(())
 }
 
@@ -214,16 +214,16 @@ fn line_of(row: &str) -> Result<&str, Fail> {
 
 /// Does what a row says, and compares what it gives.
 fn check_row(rt: &impl Abort, alloc: Global, world: &mut World, row: &str) -> Result<(), Fail> {
-    let mut told = String::new(alloc);
-    tell_line(&mut told, world, line_of(row)?)?;
-    check_told(rt, alloc, told.as_str(), row)
+    let mut output = String::new(alloc);
+    show_line(&mut output, world, line_of(row)?)?;
+    check_output(rt, alloc, output.as_str(), row)
 }
 
 /// Does what rows say, one after the other, and compares what each gives.
 ///
-/// A row is an event with its site and its moment, and behind `=>` what `tell_stepped` says of it;
+/// A row is an event with its site and its moment, and behind `=>` what `show_stepped` says of it;
 /// or `ask` with a site, a moment and a question, and the answer; `kept` with a number, and the
-/// frame; `site`, and what `tell_site` says of it; `same`, and whether two sites hold the same.
+/// frame; `site`, and what `show_site` says of it; `same`, and whether two sites hold the same.
 pub fn check_rows(
     rt: &impl Abort,
     alloc: Global,
@@ -236,7 +236,7 @@ pub fn check_rows(
     Ok(())
 }
 
-/// The same, in a world that is new, of so many sites, without peers.
+/// The same, in a new world of this number of sites, without peers.
 pub fn check_new(rt: &impl Abort, alloc: Global, sites: usize, rows: &str) -> Result<(), Fail> {
     let mut world = fleet(alloc, sites, &[])?;
     check_rows(rt, alloc, &mut world, rows)
@@ -253,9 +253,9 @@ pub fn events_of(alloc: Global, rows: &str) -> Result<Vec<Event>, Fail> {
 
 /// Compares what an event did with its row.
 fn check_stepped(rt: &impl Abort, alloc: Global, stepped: &Stepped, row: &str) -> Result<(), Fail> {
-    let mut told = String::new(alloc);
-    tell_stepped(&mut told, stepped)?;
-    check_told(rt, alloc, told.as_str(), row)
+    let mut output = String::new(alloc);
+    show_stepped(&mut output, stepped)?;
+    check_output(rt, alloc, output.as_str(), row)
 }
 
 /// Runs the events of rows in one go, and compares what each did.

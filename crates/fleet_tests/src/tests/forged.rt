@@ -1,6 +1,6 @@
 //! Replies that are forged by one who does not know the id of the query.
 
-use crate::tests::fleets::{check_rows, fleet, tell_stepped};
+use crate::tests::fleets::{check_rows, fleet, show_stepped};
 use crate::tests::octets::octets;
 use crate::tests::sites::{addr, at};
 use fleet_name::Octets;
@@ -31,10 +31,10 @@ fn check_id(
     id: u16,
     rest: &[u8],
 ) -> Result<(), Fail> {
-    let mut told = String::new(alloc);
+    let mut output = String::new(alloc);
     let event = forged_event(alloc, id, rest)?;
-    tell_stepped(&mut told, &world.step(&event)?)?;
-    assert_eq!(rt; told.as_str(), " refused Unmatched", "{id}");
+    show_stepped(&mut output, &world.step(&event)?)?;
+    assert_eq!(rt; output.as_str(), " refused Unmatched", "{id}");
     Ok(())
 }
 

@@ -78,7 +78,7 @@ fn event(way: Way, bytes: Octets) -> Result<Event, Fail> {
 /// The header of a question.
 const HEADER: &[u8] = b"\x00\x07\x01\x00\x00\x01\x00\x00\x00\x00\x00\x00";
 
-/// The question of a message, if it is one: what stands behind its header, behind the header of a
+/// The question of a message, if it is one: what is behind its header, behind the header of a
 /// question.
 fn question_of(alloc: Global, message: &[u8]) -> Result<Octets, Fail> {
     let mut question = HEADER.to_vec(alloc)?;
@@ -115,8 +115,7 @@ fn new_world(alloc: Global, before: &[Event], message: &[u8]) -> Result<World, F
     Ok(world)
 }
 
-/// Whether the site holds the same in both worlds, and both have the same kept frames, of which
-/// there are at most two.
+/// Whether the site holds the same in both worlds, and both have the same kept frames, at most two.
 fn are_alike(one: &World, other: &World) -> bool {
     for number in 0..3usize {
         if one.frame(number) != other.frame(number) {
@@ -180,7 +179,7 @@ fn check_questions(rt: &impl Abort, twins: &mut Twins) -> Result<(), Fail> {
     Err("still asking".into())
 }
 
-/// Two worlds that were the same, of which the other one is spared what is refused.
+/// Two worlds that were the same. The other one is spared what is refused.
 #[derive(Drop)]
 struct Twins {
     world: World,
@@ -509,7 +508,7 @@ fn check_too_long(
     check_refused(rt, twins, Way::Reply, Octets::copy_of(alloc, bytes)?, reply)
 }
 
-/// Octets that are too long, of which each at one of many places is replaced by others.
+/// Octets that are too long. At each of many places others replace the octet.
 fn check_places(
     rt: &impl Abort,
     alloc: Global,

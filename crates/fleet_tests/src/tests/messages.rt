@@ -1,11 +1,11 @@
-//! The messages and frames of the tests, written by hand, each by a name. The tests of other crates have messages of their
-//! own, since what only tests read of a crate is not seen by another.
+//! The messages and frames of the tests, written by hand, each by a name. The tests of other crates
+//! have messages of their own, since a crate does not see the tests of another.
 
-/// Each name, and its octets in hexadecimal digits: those of a field stand together, `example.com`
-/// and `example.org` stand for the names that they are, and `61*63` for 63 times `61`. The line above
-/// says what they are: of a message the id, the flags, the code, the question and the records of each
-/// section; of a frame its version, and of each observation the kind, the rank, the stamp, the life,
-/// the name, the type and the data.
+/// Each name, and its octets in hexadecimal digits: those of a field are one word, `example.com`
+/// and `example.org` are these names in full, and `61*63` is 63 times `61`. The line above says
+/// what they are: of a message the id, the flags, the code, the question and the records of each
+/// section; of a frame its version, and of each observation the kind, the rank, the stamp, the
+/// life, the name, the type and the data.
 pub const MESSAGES: &str = "\
 # no octets
 -:

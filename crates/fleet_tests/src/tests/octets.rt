@@ -47,8 +47,7 @@ fn add_word(text: &mut String, word: &str) -> Result<(), Fail> {
     }
 }
 
-/// A text whose words stand each behind a space, with their digits in the place of the names of
-/// octets.
+/// A text with a space before each word, and with digits in place of the names of octets.
 pub fn spelt_out(alloc: Global, words: &str) -> Result<String, Fail> {
     let mut text = String::new(alloc);
     for word in words.split_whitespace() {
@@ -76,7 +75,7 @@ pub fn add_octets(text: &mut String, octets: &[u8]) -> Result<(), Fail> {
 }
 
 /// Adds octets as a word of digits behind a space.
-pub fn tell_octets(told: &mut String, octets: &[u8]) -> Result<(), Fail> {
-    told.push(' ')?;
-    add_octets(told, octets)
+pub fn show_octets(output: &mut String, octets: &[u8]) -> Result<(), Fail> {
+    output.push(' ')?;
+    add_octets(output, octets)
 }

@@ -3,7 +3,7 @@
 ghost use Rattle.rand_core.specs.Steps.{stream_of, steps_u32};
 
 use crate::tests::octets::{octets, spelt_out};
-use crate::tests::sites::{addr, check_rows, moment, new_site, number, tell_packet};
+use crate::tests::sites::{addr, check_rows, moment, new_site, number, show_packet};
 use fleet_name::Octets;
 use fleet_pending::Addr;
 use fleet_site::{ListClock, MemoryPort, Note, Port, Report, Site, serve};
@@ -42,7 +42,7 @@ impl Rng for OneWord {
     }
 }
 
-/// A clock that tells these moments.
+/// A clock that gives these moments.
 fn clock(alloc: Global, seconds: &str) -> Result<ListClock, Fail> {
     let mut moments = Vec::new(alloc);
     for second in seconds.split(' ') {
@@ -65,7 +65,7 @@ fn port_with(
     Ok(MemoryPort::new(alloc, arrivals, fail_at))
 }
 
-/// So many turns of a site, whose clock tells these moments, with a sweep each so many seconds.
+/// A number of turns of a site, whose clock gives these moments, with a sweep after these seconds.
 fn serve_turns(
     alloc: Global,
     port: &mut MemoryPort,
@@ -79,14 +79,14 @@ fn serve_turns(
     Ok(serve(port, &mut clock, &mut words, site, turns, sweep))
 }
 
-/// So many turns from the moment 100 on, two seconds each, without sweeps.
+/// A number of turns from the moment 100 on, two seconds each, without sweeps.
 fn run(alloc: Global, port: &mut MemoryPort, turns: u32) -> Result<Report, Fail> {
     let mut site = new_site(alloc, &[addr(5401), addr(5402)])?;
     serve_turns(alloc, port, &mut site, "100 102 104", turns, 0)
 }
 
 /// Compares a report with its counts: turns, datagrams received, packets sent, packets lost,
-/// receives that failed, refusals, and steps that found no memory.
+/// receives that failed, refusals, and steps that ran out of memory.
 fn check_report(rt: &impl Abort, alloc: Global, report: Report, counts: &str) -> Result<(), Fail> {
     let Report {
         turns,
@@ -97,25 +97,25 @@ fn check_report(rt: &impl Abort, alloc: Global, report: Report, counts: &str) ->
         refused,
         short,
     } = report;
-    let told = format!(in alloc; "{turns} {received} {sent} {lost} {faults} {refused} {short}")?;
-    assert_eq!(rt; told.as_str(), counts);
+    let output = format!(in alloc; "{turns} {received} {sent} {lost} {faults} {refused} {short}")?;
+    assert_eq!(rt; output.as_str(), counts);
     Ok(())
 }
 
 /// Adds how a call of a port ended, with where a packet came from or went, and its octets.
-fn tell_moved(told: &mut String, end: &str, addr: Addr, octets: &Octets) -> Result<(), Fail> {
-    told.push_str(end)?;
-    tell_packet(told, addr, octets.as_slice())
+fn show_moved(output: &mut String, end: &str, addr: Addr, octets: &Octets) -> Result<(), Fail> {
+    output.push_str(end)?;
+    show_packet(output, addr, octets.as_slice())
 }
 
 /// Adds a call of a port, and how it ended.
-fn tell_note(told: &mut String, note: &Note) -> Result<(), Fail> {
+fn show_note(output: &mut String, note: &Note) -> Result<(), Fail> {
     match note {
-        Note::Received(_, from, octets) => tell_moved(told, " received", *from, octets),
-        Note::NoDatagram(_) => Ok(told.push_str(" nothing")?),
-        Note::Fault(_) => Ok(told.push_str(" fault")?),
-        Note::Sent(to, octets) => tell_moved(told, " sent", *to, octets),
-        Note::Lost(to, octets) => tell_moved(told, " lost", *to, octets),
+        Note::Received(_, from, octets) => show_moved(output, " received", *from, octets),
+        Note::NoDatagram(_) => Ok(output.push_str(" nothing")?),
+        Note::Fault(_) => Ok(output.push_str(" fault")?),
+        Note::Sent(to, octets) => show_moved(output, " sent", *to, octets),
+        Note::Lost(to, octets) => show_moved(output, " lost", *to, octets),
     }
 }
 
@@ -126,15 +126,15 @@ fn check_notes(
     port: &MemoryPort,
     wanted: &str,
 ) -> Result<(), Fail> {
-    let mut told = String::new(alloc);
+    let mut output = String::new(alloc);
     for note in port.notes().unwrap_or(&[]).iter().take(6) {
-        tell_note(&mut told, note)?;
+        show_note(&mut output, note)?;
     }
-    assert_eq!(rt; told.as_str(), spelt_out(alloc, wanted)?.as_str());
+    assert_eq!(rt; output.as_str(), spelt_out(alloc, wanted)?.as_str());
     Ok(())
 }
 
-/// A question goes to each upstream in so many turns, and fails.
+/// A question goes to each upstream in a number of turns, and fails.
 fn check_turns(
     rt: &impl Abort,
     alloc: Global,

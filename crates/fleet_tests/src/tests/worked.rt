@@ -1,7 +1,7 @@
 //! The messages and frames of the worked examples, of up to 512 octets.
 
-/// Each of them once: its name in `MESSAGES`, or its octets as they stand there. A line that begins with
-/// `#` tells of those below it.
+/// Each of them once: its name in `MESSAGES`, or its octets as `MESSAGES` has them. A line that
+/// begins with `#` says what those below it are.
 pub const WORKED: &str = "\
 # Questions. Some have names that point to themselves, one has the longest name, one has a
 # longer one.

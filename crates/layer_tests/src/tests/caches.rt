@@ -1,9 +1,9 @@
 //! Small caches, and what they answer.
 //!
 //! A row that takes an observation says its name, type, rank, stamp and life, and then the RDATA or
-//! the owner of the SOA. An answer is told by how many links lead to its end, the end's TTL, and of
-//! records the last octet of the first. A cache is told by how many items it holds, and the rank
-//! and the life of each.
+//! the owner of the SOA. The output of an answer is how many links lead to its end, the end's TTL,
+//! and of records the last octet of the first. That of a cache is how many items it holds, and the
+//! rank and the life of each.
 
 use crate::tests::calls::check_calls;
 use std::test::Fail;
@@ -67,7 +67,7 @@ answer example.com 1 150 => Miss";
     check_calls(&rt, rt.alloc(), rows)
 }
 
-/// An empty cache keeps no memory but the room for a key that its sweeps want.
+/// An empty cache keeps no memory but the room for a key that its sweeps need.
 #[test]
 fn a_purge_shows_at_once_what_is_left(rt: HostRuntime) -> Result<(), Fail> {
     let rows = "

@@ -3,7 +3,7 @@
 use crate::tests::observations::{
     denial_in, flush_in, moment_of, push_name, push_observation, question_of, record_in,
 };
-use crate::tests::rows::{Row, Words, check_told, is_row, push_octets, read_row};
+use crate::tests::rows::{Row, Words, check_output, is_row, push_octets, read_row};
 use fleet_cache::{Answer, Cache, Chain, Shown};
 use fleet_gossip::{decode, sweep};
 use fleet_observe::{Moment, Observation};
@@ -27,49 +27,49 @@ pub(crate) struct Caches<'a> {
 
 /// Adds how an answer comes about: over how many links, and its TTL behind them.
 fn push_end(
-    told: &mut String,
+    output: &mut String,
     end: &str,
     links: usize,
     shown: &Shown<'_, &LocalHeap>,
 ) -> Result<(), Fail> {
     let ttl = shown.ttl;
-    Ok(write!(told, "{end} {links} {ttl}")?)
+    Ok(write!(output, "{end} {links} {ttl}")?)
 }
 
 /// Adds the last octet of the first record of an answer.
-fn push_last(told: &mut String, shown: &Shown<'_, &LocalHeap>) -> Result<(), Fail> {
+fn push_last(output: &mut String, shown: &Shown<'_, &LocalHeap>) -> Result<(), Fail> {
     let first = shown.observation.rdatas().first().ok_or("no record")?;
     let octet = first.as_slice().last().copied().ok_or("no octet")?;
-    Ok(write!(told, " {octet}")?)
+    Ok(write!(output, " {octet}")?)
 }
 
 /// Adds what an answer is: how many links lead to its end; the end's TTL; and of records the last
 /// octet of the first.
-fn push_answer(told: &mut String, answer: &Answer<'_, &LocalHeap>) -> Result<(), Fail> {
+fn push_answer(output: &mut String, answer: &Answer<'_, &LocalHeap>) -> Result<(), Fail> {
     match answer {
         Answer::Found { chain, set } => {
-            push_end(told, "Found", chain.len(), set)?;
-            push_last(told, set)
+            push_end(output, "Found", chain.len(), set)?;
+            push_last(output, set)
         }
-        Answer::NoData { chain, soa } => push_end(told, "NoData", chain.len(), soa),
-        Answer::NxDomain { chain, soa } => push_end(told, "NxDomain", chain.len(), soa),
-        Answer::Miss => Ok(told.push_str("Miss")?),
+        Answer::NoData { chain, soa } => push_end(output, "NoData", chain.len(), soa),
+        Answer::NxDomain { chain, soa } => push_end(output, "NxDomain", chain.len(), soa),
+        Answer::Miss => Ok(output.push_str("Miss")?),
     }
 }
 
-/// Whether the question, lent, is answered as it is, which was told.
+/// Whether the question, lent, is answered as it is, which the output says.
 fn check_lent(
     caches: &Caches<'_>,
     question: &Question,
     moment: Moment,
-    told: &str,
+    output: &str,
 ) -> Result<(), Fail> {
     let mut other = String::new(caches.global);
     push_answer(
         &mut other,
         &caches.ours.answer_lent(&question.lend(), moment),
     )?;
-    if told.ends_with(other.as_str()) {
+    if output.ends_with(other.as_str()) {
         Ok(())
     } else {
         Err("another answer".into())
@@ -77,36 +77,36 @@ fn check_lent(
 }
 
 /// What the cache answers to a question for a name and a type at a moment.
-fn tell_answer(caches: &Caches<'_>, mut words: Words<'_>, told: &mut String) -> Result<(), Fail> {
+fn show_answer(caches: &Caches<'_>, mut words: Words<'_>, output: &mut String) -> Result<(), Fail> {
     let name = words.word();
     let rtype = words.word().parse()?;
     let moment = moment_of(words.word())?;
     let question = question_of(caches.global, name, rtype, 1)?;
     let answer = caches.ours.answer(&question, moment);
-    push_answer(told, &answer)?;
-    check_lent(caches, &question, moment, told)
+    push_answer(output, &answer)?;
+    check_lent(caches, &question, moment, output)
 }
 
 /// Adds the name, type, rank and TTL that is shown of an observation.
 fn push_shown(
     global: Global,
-    told: &mut String,
+    output: &mut String,
     shown: &Shown<'_, &LocalHeap>,
 ) -> Result<(), Fail> {
     let (rtype, rank) = (shown.observation.rtype(), shown.observation.rank());
     let ttl = shown.ttl;
-    push_name(global, told, shown.observation.name())?;
-    Ok(write!(told, " {rtype} {rank} {ttl};")?)
+    push_name(global, output, shown.observation.name())?;
+    Ok(write!(output, " {rtype} {rank} {ttl};")?)
 }
 
 /// Adds what is shown of each link.
 fn push_links(
     global: Global,
-    told: &mut String,
+    output: &mut String,
     chain: &Chain<'_, &LocalHeap>,
 ) -> Result<(), Fail> {
     for link in chain.as_slice() {
-        push_shown(global, told, link.as_ref().ok_or("no link")?)?;
+        push_shown(global, output, link.as_ref().ok_or("no link")?)?;
     }
     Ok(())
 }
@@ -114,58 +114,58 @@ fn push_links(
 /// Adds what is shown of each link to records, and of them.
 fn push_records(
     global: Global,
-    told: &mut String,
+    output: &mut String,
     answer: &Answer<'_, &LocalHeap>,
 ) -> Result<(), Fail> {
     match answer {
         Answer::Found { chain, set } => {
-            push_links(global, told, chain)?;
-            push_shown(global, told, set)
+            push_links(global, output, chain)?;
+            push_shown(global, output, set)
         }
-        _ => Ok(told.push_str("none")?),
+        _ => Ok(output.push_str("none")?),
     }
 }
 
 /// What is shown of each link to records, and of them.
-fn tell_links(caches: &Caches<'_>, mut words: Words<'_>, told: &mut String) -> Result<(), Fail> {
+fn show_links(caches: &Caches<'_>, mut words: Words<'_>, output: &mut String) -> Result<(), Fail> {
     let name = words.word();
     let rtype = words.word().parse()?;
     let moment = moment_of(words.word())?;
     let question = question_of(caches.global, name, rtype, 1)?;
-    push_records(caches.global, told, &caches.ours.answer(&question, moment))
+    push_records(caches.global, output, &caches.ours.answer(&question, moment))
 }
 
 /// Whether the cache takes a record.
 fn take_record(
     caches: &mut Caches<'_>,
     mut words: Words<'_>,
-    told: &mut String,
+    output: &mut String,
 ) -> Result<(), Fail> {
     let observation = record_in(caches.heap, caches.global, &mut words)?;
     let is_new = caches.ours.take(observation)?;
-    Ok(write!(told, "{is_new}")?)
+    Ok(write!(output, "{is_new}")?)
 }
 
 /// Whether the cache takes a denial.
 fn take_denial(
     caches: &mut Caches<'_>,
     mut words: Words<'_>,
-    told: &mut String,
+    output: &mut String,
 ) -> Result<(), Fail> {
     let observation = denial_in(caches.heap, caches.global, &mut words)?;
     let is_new = caches.ours.take(observation)?;
-    Ok(write!(told, "{is_new}")?)
+    Ok(write!(output, "{is_new}")?)
 }
 
 /// Whether the cache takes a flush.
 fn take_flush(
     caches: &mut Caches<'_>,
     mut words: Words<'_>,
-    told: &mut String,
+    output: &mut String,
 ) -> Result<(), Fail> {
     let flush = flush_in(caches.heap, &mut words)?;
     let is_new = caches.ours.take(flush)?;
-    Ok(write!(told, "{is_new}")?)
+    Ok(write!(output, "{is_new}")?)
 }
 
 /// The records of words, one after the other.
@@ -185,63 +185,63 @@ fn records_in<'a>(
 }
 
 /// How many records the cache takes at once.
-fn take_records(caches: &mut Caches<'_>, words: Words<'_>, told: &mut String) -> Result<(), Fail> {
+fn take_records(caches: &mut Caches<'_>, words: Words<'_>, output: &mut String) -> Result<(), Fail> {
     let list = records_in(caches.heap, caches.global, words)?;
     let count = list.len();
     caches.ours.take_list(list)?;
-    Ok(write!(told, "{count}")?)
+    Ok(write!(output, "{count}")?)
 }
 
 /// How many observations of a frame the cache takes.
 fn take_frame(
     caches: &mut Caches<'_>,
     mut words: Words<'_>,
-    told: &mut String,
+    output: &mut String,
 ) -> Result<(), Fail> {
     let frame = words.octets(caches.global)?;
     let list = decode(caches.heap, frame.as_slice())?;
     let count = list.len();
     caches.ours.take_list(list)?;
-    Ok(write!(told, "{count}")?)
+    Ok(write!(output, "{count}")?)
 }
 
 /// The frames of all that the cache holds.
-fn tell_sweep(caches: &Caches<'_>, told: &mut String) -> Result<(), Fail> {
+fn show_sweep(caches: &Caches<'_>, output: &mut String) -> Result<(), Fail> {
     for frame in &sweep(caches.heap, &caches.ours)? {
-        push_octets(told, frame.as_slice())?;
-        told.push_str(";")?;
+        push_octets(output, frame.as_slice())?;
+        output.push_str(";")?;
     }
     Ok(())
 }
 
 /// Adds the rank and the life of each item.
-fn push_items(told: &mut String, cache: &Cache<&LocalHeap>) -> Result<(), Fail> {
+fn push_items(output: &mut String, cache: &Cache<&LocalHeap>) -> Result<(), Fail> {
     for item in cache.items() {
         let (rank, life) = (item.rank(), item.life());
-        write!(told, " {rank}/{life}")?;
+        write!(output, " {rank}/{life}")?;
     }
     Ok(())
 }
 
 /// How many items the cache holds, and of each the rank and the life.
-fn tell_items(caches: &Caches<'_>, told: &mut String) -> Result<(), Fail> {
+fn show_items(caches: &Caches<'_>, output: &mut String) -> Result<(), Fail> {
     let count = caches.ours.len();
-    write!(told, "{count}")?;
-    told.push_str(if caches.ours.is_empty() { " empty" } else { "" })?;
-    push_items(told, &caches.ours)
+    write!(output, "{count}")?;
+    output.push_str(if caches.ours.is_empty() { " empty" } else { "" })?;
+    push_items(output, &caches.ours)
 }
 
 /// What is left at once after a purge.
-fn purge(caches: &mut Caches<'_>, mut words: Words<'_>, told: &mut String) -> Result<(), Fail> {
+fn purge(caches: &mut Caches<'_>, mut words: Words<'_>, output: &mut String) -> Result<(), Fail> {
     let moment = moment_of(words.word())?;
     caches.ours.purge(moment);
-    tell_items(caches, told)
+    show_items(caches, output)
 }
 
 /// What each item says.
-fn tell_observations(caches: &Caches<'_>, told: &mut String) -> Result<(), Fail> {
+fn show_observations(caches: &Caches<'_>, output: &mut String) -> Result<(), Fail> {
     for item in caches.ours.items() {
-        push_observation(caches.global, told, item)?;
+        push_observation(caches.global, output, item)?;
     }
     Ok(())
 }
@@ -253,67 +253,67 @@ fn turn(caches: &mut Caches<'_>) {
 }
 
 /// How much of the heap is in use: whether any is, or how that compares with the time before.
-fn tell_used(caches: &mut Caches<'_>, call: &str, told: &mut String) -> Result<(), Fail> {
+fn show_used(caches: &mut Caches<'_>, call: &str, output: &mut String) -> Result<(), Fail> {
     let used = caches.heap.used();
     if call == "mark" {
         caches.mark = used;
-        return Ok(told.push_str(if used == 0 { "nothing" } else { "something" })?);
+        return Ok(output.push_str(if used == 0 { "nothing" } else { "something" })?);
     }
     let order = used.cmp(&caches.mark);
-    Ok(write!(told, "{order:?}")?)
+    Ok(write!(output, "{order:?}")?)
 }
 
-/// Adds what a call tells that changes no cache.
-fn tell_more(
+/// Makes a call that changes no cache, and writes its output.
+fn show_more(
     caches: &mut Caches<'_>,
     call: &str,
     words: Words<'_>,
-    told: &mut String,
+    output: &mut String,
 ) -> Result<(), Fail> {
     match call {
-        "answer" => tell_answer(caches, words, told),
-        "links" => tell_links(caches, words, told),
-        "items" => tell_items(caches, told),
-        "observations" => tell_observations(caches, told),
-        "sweep" => tell_sweep(caches, told),
-        "same" => Ok(write!(told, "{}", caches.ours.same(&caches.theirs))?),
-        "floor" => Ok(write!(told, "{}", caches.ours.floor().value())?),
-        "mark" | "used" => tell_used(caches, call, told),
+        "answer" => show_answer(caches, words, output),
+        "links" => show_links(caches, words, output),
+        "items" => show_items(caches, output),
+        "observations" => show_observations(caches, output),
+        "sweep" => show_sweep(caches, output),
+        "same" => Ok(write!(output, "{}", caches.ours.same(&caches.theirs))?),
+        "floor" => Ok(write!(output, "{}", caches.ours.floor().value())?),
+        "mark" | "used" => show_used(caches, call, output),
         _ => Err("no such call".into()),
     }
 }
 
-/// Adds what a call tells.
-fn tell(
+/// Makes a call, and writes its output.
+fn show_result(
     caches: &mut Caches<'_>,
     call: &str,
     words: Words<'_>,
-    told: &mut String,
+    output: &mut String,
 ) -> Result<(), Fail> {
     match call {
-        "take" => take_record(caches, words, told),
-        "deny" => take_denial(caches, words, told),
-        "flush" => take_flush(caches, words, told),
-        "list" => take_records(caches, words, told),
-        "frame" => take_frame(caches, words, told),
-        "purge" => purge(caches, words, told),
+        "take" => take_record(caches, words, output),
+        "deny" => take_denial(caches, words, output),
+        "flush" => take_flush(caches, words, output),
+        "list" => take_records(caches, words, output),
+        "frame" => take_frame(caches, words, output),
+        "purge" => purge(caches, words, output),
         "turn" => {
             turn(caches);
-            tell_items(caches, told)
+            show_items(caches, output)
         }
         "other" => {
             swap(&mut caches.ours, &mut caches.theirs);
-            tell_items(caches, told)
+            show_items(caches, output)
         }
         "merge" => {
             caches.ours.merge(&caches.theirs)?;
-            tell_items(caches, told)
+            show_items(caches, output)
         }
         "clear" => {
             caches.ours.clear();
-            tell_items(caches, told)
+            show_items(caches, output)
         }
-        _ => tell_more(caches, call, words, told),
+        _ => show_more(caches, call, words, output),
     }
 }
 
@@ -324,9 +324,9 @@ fn check_call(rt: &impl Abort, caches: &mut Caches<'_>, row: &str) -> Result<(),
         words,
         wanted,
     } = read_row(row)?;
-    let mut told = String::new(caches.global);
-    tell(caches, call, words, &mut told)?;
-    check_told(rt, caches.global, row, wanted, told.as_str())
+    let mut output = String::new(caches.global);
+    show_result(caches, call, words, &mut output)?;
+    check_output(rt, caches.global, row, wanted, output.as_str())
 }
 
 /// Checks calls of three new caches.

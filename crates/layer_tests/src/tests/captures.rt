@@ -359,26 +359,26 @@ fn add_records<'a>(outline: &mut Outline<'a>, reply: &'a Message) -> Result<(), 
 }
 
 /// Adds the records of a reply, written again.
-fn push_rewritten(alloc: Global, reply: &Message, told: &mut String) -> Result<(), Fail> {
+fn push_rewritten(alloc: Global, reply: &Message, output: &mut String) -> Result<(), Fail> {
     let header = reply.header();
     let question = Some(reply.question());
     let rcode = header.rcode % 16;
     let mut outline = Outline::new(alloc, header.id, 0, header.rd, rcode, false, question);
     add_records(&mut outline, reply)?;
     let octets = written_twice(alloc, &outline)?;
-    push_octets(told, octets.as_slice())
+    push_octets(output, octets.as_slice())
 }
 
 /// The records of a reply, written again, or why it is none.
-pub(crate) fn tell_rewritten(
+pub(crate) fn show_rewritten(
     alloc: Global,
     mut words: Words<'_>,
-    told: &mut String,
+    output: &mut String,
 ) -> Result<(), Fail> {
     let message = words.octets(alloc)?;
     match read_reply(alloc, message.as_slice()) {
-        Ok(reply) => push_rewritten(alloc, &reply, told),
-        Err(fault) => push_fault(told, fault),
+        Ok(reply) => push_rewritten(alloc, &reply, output),
+        Err(fault) => push_fault(output, fault),
     }
 }
 
@@ -404,24 +404,24 @@ fn push_shorter(
     alloc: Global,
     reply: &Message,
     question: &Question,
-    told: &mut String,
+    output: &mut String,
 ) -> Result<(), Fail> {
     let mut outline = Outline::new(alloc, 7, 0, true, 3, false, Some(question));
     add_shorter(&mut outline, reply)?;
     let octets = written_twice(alloc, &outline)?;
-    push_octets(told, octets.as_slice())
+    push_octets(output, octets.as_slice())
 }
 
 /// A reply relayed with 50 and 290 seconds, as a name error with the identifier 7 and RD.
-pub(crate) fn tell_relayed(
+pub(crate) fn show_relayed(
     alloc: Global,
     mut words: Words<'_>,
-    told: &mut String,
+    output: &mut String,
 ) -> Result<(), Fail> {
     let message = words.octets(alloc)?;
     let reply = read_reply(alloc, message.as_slice())?;
     let question = reply.question().try_clone()?;
-    push_shorter(alloc, &reply, &question, told)
+    push_shorter(alloc, &reply, &question, output)
 }
 
 #[test]
@@ -432,24 +432,24 @@ relayed <aliases-reply> => <aliases-relay>";
 }
 
 /// Adds a question as it was spelled, and the query for it.
-fn push_question(alloc: Global, question: &Question, told: &mut String) -> Result<(), Fail> {
-    push_octets(told, question.spelled.as_slice())?;
-    told.push_str(" ")?;
+fn push_question(alloc: Global, question: &Question, output: &mut String) -> Result<(), Fail> {
+    push_octets(output, question.spelled.as_slice())?;
+    output.push_str(" ")?;
     let query = write_query(alloc, 0x1234, question)?;
-    push_octets(told, query.as_slice())
+    push_octets(output, query.as_slice())
 }
 
 /// The identifier of a question, its name as it is spelled, and the query for it under 0x1234.
-pub(crate) fn tell_asked(
+pub(crate) fn show_asked(
     alloc: Global,
     mut words: Words<'_>,
-    told: &mut String,
+    output: &mut String,
 ) -> Result<(), Fail> {
     let message = words.octets(alloc)?;
     check_in_place(alloc, message.as_slice())?;
     let (header, question) = read_query(alloc, message.as_slice())?;
-    write!(told, "{} ", header.id)?;
-    push_question(alloc, &question, told)
+    write!(output, "{} ", header.id)?;
+    push_question(alloc, &question, output)
 }
 
 #[test]
@@ -470,8 +470,8 @@ fn message_with(alloc: Global, message: &[u8], at: usize, octet: u8) -> Result<V
 /// Reads a message with this octet at a place.
 fn read_with(alloc: Global, message: &[u8], at: usize, octet: u8) -> Result<(), Fail> {
     let other = message_with(alloc, message, at, octet)?;
-    let mut told = String::new(alloc);
-    push_both(alloc, other.as_slice(), &mut told)
+    let mut output = String::new(alloc);
+    push_both(alloc, other.as_slice(), &mut output)
 }
 
 /// Reads a message with each octet at each place, and says how often that was.
@@ -510,7 +510,7 @@ fn returns_whatever_an_octet_is(rt: HostRuntime) -> Result<(), Fail> {
 }
 
 /// A reply with one record of a type, whose RDATA begins at its 42nd octet; its question is for
-/// a.example, which stands at the twelfth.
+/// a.example, whose name begins at the twelfth.
 fn reply_with(alloc: Global, rtype: u16, rdata: &str) -> Result<Vec<u8>, Fail> {
     let length = octets_of(alloc, rdata)?.len();
     let text = format!(in alloc;
@@ -520,25 +520,25 @@ fn reply_with(alloc: Global, rtype: u16, rdata: &str) -> Result<Vec<u8>, Fail> {
 }
 
 /// Adds the RDATA of the first record of a message, or why it is none.
-fn push_rdata(alloc: Global, message: &[u8], told: &mut String) -> Result<(), Fail> {
+fn push_rdata(alloc: Global, message: &[u8], output: &mut String) -> Result<(), Fail> {
     match read_reply(alloc, message) {
         Ok(reply) => {
             let record = reply.answer().first().ok_or("no record")?;
-            push_octets(told, record.rdata.as_slice())
+            push_octets(output, record.rdata.as_slice())
         }
-        Err(fault) => push_fault(told, fault),
+        Err(fault) => push_fault(output, fault),
     }
 }
 
 /// What is read of the RDATA of a type.
-pub(crate) fn tell_rdata(
+pub(crate) fn show_rdata(
     alloc: Global,
     mut words: Words<'_>,
-    told: &mut String,
+    output: &mut String,
 ) -> Result<(), Fail> {
     let rtype = words.word().parse()?;
     let message = reply_with(alloc, rtype, words.word())?;
-    push_rdata(alloc, message.as_slice(), told)
+    push_rdata(alloc, message.as_slice(), output)
 }
 
 /// The types with names in their RDATA (RFC 1035 3.3, RFC 2782), each with RDATA whose names are
@@ -558,7 +558,7 @@ rdata 15 {ff*2}c00c => {ff*2}01'a'07'example'00
 rdata 33 {ff*6}c00c => {ff*6}01'a'07'example'00
 ";
 
-/// Whether a type's RDATA has names: a pointer alone is not read as it stands.
+/// Whether a type's RDATA has names: a pointer alone is then expanded or refused.
 fn has_names(alloc: Global, rtype: u16) -> Result<bool, Fail> {
     let pointer = b"\xc0\x0c";
     let message = reply_with(alloc, rtype, "c00c")?;
@@ -594,7 +594,7 @@ fn shapes_of_types(rt: HostRuntime) -> Result<(), Fail> {
 }
 
 #[test]
-fn tells_plain_rdata(rt: HostRuntime) -> Result<(), Fail> {
+fn knows_plain_rdata(rt: HostRuntime) -> Result<(), Fail> {
     let rows = "
 plain 15 000a04'mail'00 => true
 plain 15 000a04'Mail'00 => false

@@ -13,64 +13,64 @@ use std::test::Fail;
 const ALIASES: &str = "<aliases-reply>";
 
 /// Adds why there is no message.
-pub(crate) fn push_fault(told: &mut String, fault: ReadFault) -> Result<(), Fail> {
-    write!(told, "{fault:?}")?;
+pub(crate) fn push_fault(output: &mut String, fault: ReadFault) -> Result<(), Fail> {
+    write!(output, "{fault:?}")?;
     Ok(())
 }
 
 /// Adds whether a reply was cut off, its counts, and how many records its sections have.
-fn push_sections(told: &mut String, reply: &Message) -> Result<(), Fail> {
+fn push_sections(output: &mut String, reply: &Message) -> Result<(), Fail> {
     let header = reply.header();
-    told.push_str(if header.tc { "cut off " } else { "" })?;
+    output.push_str(if header.tc { "cut off " } else { "" })?;
     let counts = header.counts;
     let (answer, authority) = (reply.answer().len(), reply.authority().len());
-    write!(told, "{counts:?} {answer} {authority}")?;
+    write!(output, "{counts:?} {answer} {authority}")?;
     Ok(())
 }
 
 /// Adds what a reply has, or why it is none.
-fn push_reply(alloc: Global, message: &[u8], told: &mut String) -> Result<(), Fail> {
+fn push_reply(alloc: Global, message: &[u8], output: &mut String) -> Result<(), Fail> {
     match read_reply(alloc, message) {
-        Ok(reply) => push_sections(told, &reply),
-        Err(fault) => push_fault(told, fault),
+        Ok(reply) => push_sections(output, &reply),
+        Err(fault) => push_fault(output, fault),
     }
 }
 
 /// Adds the type that is asked for, or why there is no question.
-fn push_query(alloc: Global, message: &[u8], told: &mut String) -> Result<(), Fail> {
+fn push_query(alloc: Global, message: &[u8], output: &mut String) -> Result<(), Fail> {
     match read_query(alloc, message) {
-        Ok((_, question)) => Ok(write!(told, "{}", question.rtype)?),
-        Err(fault) => push_fault(told, fault),
+        Ok((_, question)) => Ok(write!(output, "{}", question.rtype)?),
+        Err(fault) => push_fault(output, fault),
     }
 }
 
 /// Adds what a message asks for, and what it has as a reply.
-pub(crate) fn push_both(alloc: Global, message: &[u8], told: &mut String) -> Result<(), Fail> {
+pub(crate) fn push_both(alloc: Global, message: &[u8], output: &mut String) -> Result<(), Fail> {
     check_in_place(alloc, message)?;
-    push_query(alloc, message, told)?;
-    told.push_str(" ")?;
-    push_reply(alloc, message, told)
+    push_query(alloc, message, output)?;
+    output.push_str(" ")?;
+    push_reply(alloc, message, output)
 }
 
 /// The type that a message asks for.
-pub(crate) fn tell_query(
+pub(crate) fn show_query(
     alloc: Global,
     mut words: Words<'_>,
-    told: &mut String,
+    output: &mut String,
 ) -> Result<(), Fail> {
     let message = words.octets(alloc)?;
-    push_query(alloc, message.as_slice(), told)
+    push_query(alloc, message.as_slice(), output)
 }
 
-/// Checks what a part of a message tells as a question and as a reply.
+/// Checks what a part of a message is as a question and as a reply.
 fn check_prefix(rt: &impl Abort, alloc: Global, prefix: &[u8], wanted: &str) -> Result<(), Fail> {
-    let mut told = String::new(alloc);
-    push_both(alloc, prefix, &mut told)?;
-    assert_eq!(rt; told.as_str(), wanted);
+    let mut output = String::new(alloc);
+    push_both(alloc, prefix, &mut output)?;
+    assert_eq!(rt; output.as_str(), wanted);
     Ok(())
 }
 
-/// What so many octets of `ALIASES` tell: the question, for type 1, ends with the 29th.
+/// The output of the first octets of `ALIASES`: the question, for type 1, ends with the 29th.
 fn wanted_of(count: usize) -> &'static str {
     match count {
         0..=11 => "TooShort TooShort",
@@ -89,7 +89,7 @@ fn a_prefix_is_short_or_cut_off(rt: HostRuntime) -> Result<(), Fail> {
     check_prefix(&rt, rt.alloc(), &message, "1 [1, 2, 1, 0] 2 1")
 }
 
-/// So many octets of `ALIASES`, with others at a place.
+/// The first octets of `ALIASES`, with others at a place.
 fn changed(alloc: Global, count: usize, at: usize, octets: &[u8]) -> Result<Vec<u8>, Fail> {
     let mut message = octets_of(alloc, ALIASES)?;
     message.truncate(count);
@@ -100,20 +100,20 @@ fn changed(alloc: Global, count: usize, at: usize, octets: &[u8]) -> Result<Vec<
 }
 
 /// What the first octets of a message have as a reply, with others at a place of it.
-pub(crate) fn tell_changed(
+pub(crate) fn show_changed(
     alloc: Global,
     mut words: Words<'_>,
-    told: &mut String,
+    output: &mut String,
 ) -> Result<(), Fail> {
     let count = words.word().parse()?;
     let at = words.word().parse()?;
     let octets = words.octets(alloc)?;
     let message = changed(alloc, count, at, octets.as_slice())?;
-    push_reply(alloc, message.as_slice(), told)
+    push_reply(alloc, message.as_slice(), output)
 }
 
-/// How many octets of `ALIASES` there are, what stands at a place of it in place of its own octets,
-/// and the fault that it makes or what is read.
+/// How many octets of `ALIASES` there are, a place, the octets that replace its own there, and the
+/// fault or what is read.
 #[test]
 fn what_is_not_so_is_refused(rt: HostRuntime) -> Result<(), Fail> {
     let rows = "
@@ -154,16 +154,16 @@ changed 29 2 83 => cut off [1, 2, 1, 0] 0 0";
     check_rows(&rt, rt.alloc(), rows)
 }
 
-/// What a message asks for and has, with zero octets behind it, so many octets in all.
-pub(crate) fn tell_padded(
+/// What a message asks for and has, filled up with zero octets to a length.
+pub(crate) fn show_padded(
     alloc: Global,
     mut words: Words<'_>,
-    told: &mut String,
+    output: &mut String,
 ) -> Result<(), Fail> {
     let count = words.word().parse()?;
     let mut message = words.octets(alloc)?;
     message.resize(count, 0)?;
-    push_both(alloc, message.as_slice(), told)
+    push_both(alloc, message.as_slice(), output)
 }
 
 #[test]
@@ -171,7 +171,7 @@ fn a_message_has_at_most_512_octets(rt: HostRuntime) -> Result<(), Fail> {
     let rows = "
 padded 512 <aliases-reply> => 1 [1, 2, 1, 0] 2 1
 padded 513 <aliases-reply> => TooLong TooLong
-# That is told before the number of its questions.
+# That is reported before the number of its questions.
 padded 513 000281830000 => TooLong TooLong
 padded 512 000281830000 => QuestionCount QuestionCount";
     check_rows(&rt, rt.alloc(), rows)
@@ -180,7 +180,7 @@ padded 512 000281830000 => QuestionCount QuestionCount";
 /// Names of three labels of 63 octets, and then a length: with the zero octet a fourth label has
 /// 61 octets at most.
 #[test]
-fn a_long_name_is_told_before_its_end(rt: HostRuntime) -> Result<(), Fail> {
+fn a_long_name_is_reported_before_its_end(rt: HostRuntime) -> Result<(), Fail> {
     let rows = "
 # id 2 qr rd ra NXDOMAIN; name passes the end
 query 0002818300010002000100003f{61*63}3f{61*63}3f{61*63}3e => LongName
@@ -239,17 +239,17 @@ fn written<'a>(
 
 /// A reply without question, by its opcode, its RCODE, and the RDATAs of its two sections, TXT
 /// records of the root.
-pub(crate) fn tell_outline(
+pub(crate) fn show_outline(
     alloc: Global,
     mut words: Words<'_>,
-    told: &mut String,
+    output: &mut String,
 ) -> Result<(), Fail> {
     let codes = [words.word().parse()?, words.word().parse()?];
     let root = Name::root(alloc)?;
     let answer = list_of(alloc, words.word())?;
     let authority = list_of(alloc, words.word())?;
     let octets = written(alloc, &root, codes, &answer, &authority)?;
-    push_octets(told, octets.as_slice())
+    push_octets(output, octets.as_slice())
 }
 
 /// Opcode 2 is not implemented (RFC 1035 4.1.1).
@@ -273,9 +273,9 @@ outline 0 0 {00*489} -, => 000782800000000000000000";
     check_rows(&rt, rt.alloc(), rows)
 }
 
-/// More lines than take no memory.
+/// More lines than an outline holds without an allocation.
 #[test]
-fn lines_stand_in_their_order(rt: HostRuntime) -> Result<(), Fail> {
+fn lines_keep_their_order(rt: HostRuntime) -> Result<(), Fail> {
     let rows = "
 # => id 7 qr ra NOERROR, QDCOUNT 0: . IN TXT; RDATA passes the end
 outline 0 0 61,62,63,64,65,66 => 000780800000000600000000\
@@ -289,14 +289,14 @@ outline 0 0 61,62,63,64,65,66 => 000780800000000600000000\
 }
 
 /// Whether RDATA of a type is plain.
-pub(crate) fn tell_plain(
+pub(crate) fn show_plain(
     alloc: Global,
     mut words: Words<'_>,
-    told: &mut String,
+    output: &mut String,
 ) -> Result<(), Fail> {
     let rtype = words.word().parse()?;
     let rdata = words.octets(alloc)?;
-    write!(told, "{}", plain_rdata(rtype, rdata.as_slice()))?;
+    write!(output, "{}", plain_rdata(rtype, rdata.as_slice()))?;
     Ok(())
 }
 

@@ -1,7 +1,7 @@
 //! What flushes withdraw of a cache, in each order in which observations come in.
 //!
-//! Two addresses of example.com are taken in, of which the second is less preferred, and was stamped
-//! later and ends earlier; and a flush.
+//! Two addresses of example.com are taken in, and a flush. The second address is less preferred,
+//! was stamped later and ends earlier.
 
 use crate::tests::calls::check_calls;
 use std::alloc::Global;
@@ -181,7 +181,7 @@ deny b.example.com 0 3 100 300 example.com => false
 deny b.example.com 0 3 101 300 example.com => true
 answer x.b.example.com 1 210 => NxDomain 0 191
 flush . 90 => false
-# A flush further down withdraws what stands there, and not what stands above it.
+# A flush further down withdraws what is there, and not what is above it.
 flush x.b.example.com 300 => true
 answer x.b.example.com 1 310 => NxDomain 0 91
 flush b.example.com 300 => true

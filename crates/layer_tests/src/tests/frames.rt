@@ -1,10 +1,10 @@
 //! Frames that are read, refused, written and packed.
 //!
-//! In a row `@` stands for the magic and the version that is written. A frame is told by how many observations are
-//! read of it, and whether they are written as it is again; or by why it is refused.
+//! In a row `@` stands for the magic and the version that is written. The output of a frame is how
+//! many observations are read of it, and whether they are written as it is again; or its fault.
 
 use crate::tests::observations::push_observation;
-use crate::tests::rows::{Row, Words, check_told, is_row, octets_of, push_octets, read_row};
+use crate::tests::rows::{Row, Words, check_output, is_row, octets_of, push_octets, read_row};
 use fleet_cache::Cache;
 use fleet_gossip::{FrameFault, decode, encode, pack, sweep};
 use fleet_name::Octets;
@@ -36,24 +36,24 @@ pub(crate) const DENIED: &str =
 /// Adds whether observations are written as a frame.
 fn push_again(
     alloc: Global,
-    told: &mut String,
+    output: &mut String,
     observations: &[Observation],
     frame: &[u8],
 ) -> Result<(), Fail> {
     let octets = encode(alloc, observations)?;
     let is_same = octets.as_slice() == frame;
-    told.push_str(if is_same { " again" } else { " another" })?;
+    output.push_str(if is_same { " again" } else { " another" })?;
     Ok(())
 }
 
 /// Adds how many observations a frame has, and whether they are written so again; or its fault.
-fn push_frame(alloc: Global, told: &mut String, frame: &[u8]) -> Result<(), Fail> {
+fn push_frame(alloc: Global, output: &mut String, frame: &[u8]) -> Result<(), Fail> {
     match decode(alloc, frame) {
         Ok(read) => {
-            write!(told, "{}", read.len())?;
-            push_again(alloc, told, &read, frame)
+            write!(output, "{}", read.len())?;
+            push_again(alloc, output, &read, frame)
         }
-        Err(fault) => Ok(write!(told, "{fault:?}")?),
+        Err(fault) => Ok(write!(output, "{fault:?}")?),
     }
 }
 
@@ -83,43 +83,43 @@ fn changed(alloc: Global, frame: &str, changes: &str) -> Result<Vec<u8>, Fail> {
     Ok(octets)
 }
 
-/// What a frame with changes tells.
-fn tell_changed(
+/// The output of a frame with changes.
+fn show_changed(
     alloc: Global,
     frame: &str,
     mut words: Words<'_>,
-    told: &mut String,
+    output: &mut String,
 ) -> Result<(), Fail> {
     let octets = changed(alloc, frame, words.word())?;
-    push_frame(alloc, told, octets.as_slice())
+    push_frame(alloc, output, octets.as_slice())
 }
 
-/// What a frame tells.
-fn tell_frame(alloc: Global, mut words: Words<'_>, told: &mut String) -> Result<(), Fail> {
+/// The output of a frame.
+fn show_frame(alloc: Global, mut words: Words<'_>, output: &mut String) -> Result<(), Fail> {
     let octets = words.octets(alloc)?;
-    push_frame(alloc, told, octets.as_slice())
+    push_frame(alloc, output, octets.as_slice())
 }
 
 /// What the observations of `ONE` say.
-fn tell_read(alloc: Global, told: &mut String) -> Result<(), Fail> {
+fn show_read(alloc: Global, output: &mut String) -> Result<(), Fail> {
     let frame = octets_of(alloc, ONE)?;
     for observation in &decode(alloc, frame.as_slice())? {
-        push_observation(alloc, told, observation)?;
+        push_observation(alloc, output, observation)?;
     }
     Ok(())
 }
 
-/// Adds what a call tells.
-fn tell(alloc: Global, call: &str, words: Words<'_>, told: &mut String) -> Result<(), Fail> {
+/// Makes a call, and writes its output.
+fn show_result(alloc: Global, call: &str, words: Words<'_>, output: &mut String) -> Result<(), Fail> {
     match call {
-        "one" => tell_changed(alloc, ONE, words, told),
-        "denial" => tell_changed(alloc, DENIAL, words, told),
-        "two" => tell_changed(alloc, TWO, words, told),
-        "denied" => tell_changed(alloc, DENIED, words, told),
-        "frame" => tell_frame(alloc, words, told),
-        "read" => tell_read(alloc, told),
-        "packed" => tell_packed(alloc, words, told),
-        "swept" => tell_swept(alloc, words, told),
+        "one" => show_changed(alloc, ONE, words, output),
+        "denial" => show_changed(alloc, DENIAL, words, output),
+        "two" => show_changed(alloc, TWO, words, output),
+        "denied" => show_changed(alloc, DENIED, words, output),
+        "frame" => show_frame(alloc, words, output),
+        "read" => show_read(alloc, output),
+        "packed" => show_packed(alloc, words, output),
+        "swept" => show_swept(alloc, words, output),
         _ => Err("no such call".into()),
     }
 }
@@ -131,9 +131,9 @@ fn check_frame(rt: &impl Abort, alloc: Global, row: &str) -> Result<(), Fail> {
         words,
         wanted,
     } = read_row(row)?;
-    let mut told = String::new(alloc);
-    tell(alloc, call, words, &mut told)?;
-    check_told(rt, alloc, row, wanted, told.as_str())
+    let mut output = String::new(alloc);
+    show_result(alloc, call, words, &mut output)?;
+    check_output(rt, alloc, row, wanted, output.as_str())
 }
 
 /// Checks each row of a table.
@@ -146,7 +146,7 @@ pub(crate) fn check_frames(rt: &impl Abort, alloc: Global, rows: &str) -> Result
     Ok(())
 }
 
-/// Checks that a frame of so many octets is truncated wherever it ends early.
+/// Checks the size of a frame, and that it is truncated wherever it ends early.
 pub(crate) fn check_prefixes(
     rt: &impl Abort,
     alloc: Global,
@@ -240,9 +240,9 @@ denial 43=c0 => BadBody";
 /// Whether `ONE` with this octet at a place is refused, or read and written again.
 fn returns_with(alloc: Global, at: usize, octet: &str) -> Result<bool, Fail> {
     let changes = format!(in alloc; "{at}={octet}")?;
-    let mut told = String::new(alloc);
-    tell_changed(alloc, ONE, Words::new(changes.as_str()), &mut told)?;
-    Ok(!told.as_str().ends_with(" another"))
+    let mut output = String::new(alloc);
+    show_changed(alloc, ONE, Words::new(changes.as_str()), &mut output)?;
+    Ok(!output.as_str().ends_with(" another"))
 }
 
 #[test]
@@ -294,32 +294,32 @@ fn numbered(alloc: Global, count: u32) -> Result<Vec<Observation>, Fail> {
 }
 
 /// Adds how long each frame is, and its octets, of a long one the first five.
-fn push_frames(told: &mut String, frames: &[Octets]) -> Result<(), Fail> {
+fn push_frames(output: &mut String, frames: &[Octets]) -> Result<(), Fail> {
     for frame in frames {
         let octets = frame.as_slice();
-        write!(told, "{} ", octets.len())?;
+        write!(output, "{} ", octets.len())?;
         push_octets(
-            told,
+            output,
             if octets.len() > 100 {
                 &octets[..5]
             } else {
                 octets
             },
         )?;
-        told.push_str(";")?;
+        output.push_str(";")?;
     }
     Ok(())
 }
 
-/// The frames of so many observations, and whether one frame holds them all.
-fn tell_packed(alloc: Global, mut words: Words<'_>, told: &mut String) -> Result<(), Fail> {
+/// The frames of a number of observations, and whether one frame holds them all.
+fn show_packed(alloc: Global, mut words: Words<'_>, output: &mut String) -> Result<(), Fail> {
     let all = numbered(alloc, words.word().parse()?)?;
     match encode(alloc, &all) {
-        Ok(_) => told.push_str("one;")?,
-        Err(fault) => write!(told, "{fault:?};")?,
+        Ok(_) => output.push_str("one;")?,
+        Err(fault) => write!(output, "{fault:?};")?,
     }
     let frames = pack(alloc, &all)?;
-    push_frames(told, frames.as_slice())
+    push_frames(output, frames.as_slice())
 }
 
 #[test]
@@ -330,26 +330,26 @@ packed 0 => one;";
     check_frames(&rt, rt.alloc(), rows)
 }
 
-/// The frames of a cache of so many observations.
+/// The frames of a cache of a number of observations.
 fn swept(alloc: Global, count: u32) -> Result<Vec<Octets>, Fail> {
     let mut cache = Cache::new(alloc);
     cache.take_list(numbered(alloc, count)?)?;
     Ok(sweep(alloc, &cache)?)
 }
 
-/// Whether the frames of a cache of so many observations are those of the list.
-fn tell_swept(alloc: Global, mut words: Words<'_>, told: &mut String) -> Result<(), Fail> {
+/// The frames of a cache of a number of observations, and whether they are those of the list.
+fn show_swept(alloc: Global, mut words: Words<'_>, output: &mut String) -> Result<(), Fail> {
     let count = words.word().parse()?;
     let frames = swept(alloc, count)?;
-    push_frames(told, frames.as_slice())?;
+    push_frames(output, frames.as_slice())?;
     let all = numbered(alloc, count)?;
-    push_same(alloc, told, &all, frames.as_slice())
+    push_same(alloc, output, &all, frames.as_slice())
 }
 
 /// Adds whether observations are packed as these frames.
 fn push_same(
     alloc: Global,
-    told: &mut String,
+    output: &mut String,
     all: &[Observation],
     frames: &[Octets],
 ) -> Result<(), Fail> {
@@ -358,7 +358,7 @@ fn push_same(
         .iter()
         .map(|frame| frame.as_slice())
         .eq(packed.iter().map(|frame| frame.as_slice()));
-    told.push_str(if is_same { "packed" } else { "another" })?;
+    output.push_str(if is_same { "packed" } else { "another" })?;
     Ok(())
 }
 

@@ -1,7 +1,7 @@
-//! Observations of one key, of which some are hidden or needless.
+//! Observations of one key, some of them hidden or needless.
 
 use crate::tests::observations::{moment_of, record_in};
-use crate::tests::rows::{Row, Words, check_told, is_row, read_row};
+use crate::tests::rows::{Row, Words, check_output, is_row, read_row};
 use fleet_cache::{Cut, Item};
 use fleet_front::Front;
 use std::alloc::Global;
@@ -9,42 +9,42 @@ use std::process::Abort;
 use std::test::Fail;
 
 /// Adds the rank of an observation, if there is one.
-fn push_rank(told: &mut String, item: Option<&Item>) -> Result<(), Fail> {
+fn push_rank(output: &mut String, item: Option<&Item>) -> Result<(), Fail> {
     let Some(item) = item else {
-        return Ok(told.push_str("none")?);
+        return Ok(output.push_str("none")?);
     };
     let rank = item.observation().rank();
-    Ok(write!(told, "{rank} ")?)
+    Ok(write!(output, "{rank} ")?)
 }
 
 /// Adds the ranks of a front's observations.
-fn push_ranks(told: &mut String, front: &Front<Item>) -> Result<(), Fail> {
+fn push_ranks(output: &mut String, front: &Front<Item>) -> Result<(), Fail> {
     for item in front.items() {
-        push_rank(told, Some(item))?;
+        push_rank(output, Some(item))?;
     }
     Ok(())
 }
 
-/// Adds what a call tells.
-fn tell(
+/// Makes a call, and writes its output.
+fn show_result(
     alloc: Global,
     front: &mut Front<Item>,
     call: &str,
     mut words: Words<'_>,
-    told: &mut String,
+    output: &mut String,
 ) -> Result<(), Fail> {
     match call {
         "take" => {
             let item = Item::new(record_in(alloc, alloc, &mut words)?);
             let is_new = front.take(item)?;
-            Ok(write!(told, "{is_new}")?)
+            Ok(write!(output, "{is_new}")?)
         }
-        "first" => push_rank(told, front.first_shown(&Cut::at(moment_of(words.word())?))),
+        "first" => push_rank(output, front.first_shown(&Cut::at(moment_of(words.word())?))),
         "drop" => {
             front.drop_hidden(&Cut::at(moment_of(words.word())?));
-            push_ranks(told, front)
+            push_ranks(output, front)
         }
-        "ranks" => push_ranks(told, front),
+        "ranks" => push_ranks(output, front),
         _ => Err("no such call".into()),
     }
 }
@@ -61,9 +61,9 @@ fn check_call(
         words,
         wanted,
     } = read_row(row)?;
-    let mut told = String::new(alloc);
-    tell(alloc, front, call, words, &mut told)?;
-    check_told(rt, alloc, row, wanted, told.as_str().trim_end())
+    let mut output = String::new(alloc);
+    show_result(alloc, front, call, words, &mut output)?;
+    check_output(rt, alloc, row, wanted, output.as_str().trim_end())
 }
 
 /// Checks calls of a new front.

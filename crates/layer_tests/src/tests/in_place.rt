@@ -10,7 +10,7 @@ use std::process::Abort;
 use std::test::Fail;
 
 /// Whether a question that is read in place is the one that is read otherwise: the message has one,
-/// whose name stands in full and in lower case behind the header.
+/// whose name is in full and in lower case behind the header.
 pub(crate) fn check_in_place(alloc: Global, message: &[u8]) -> Result<(), Fail> {
     match (read_plain_query(message), read_query(alloc, message)) {
         (None, Err(_)) => Ok(()),
@@ -59,26 +59,26 @@ fn is_copy(question: &LentQuestion<'_>, copy: &Question) -> bool {
 }
 
 /// The identifier, the type, the class and the name of a question that is read in place, if it is.
-pub(crate) fn tell_in_place(
+pub(crate) fn show_in_place(
     alloc: Global,
     mut words: Words<'_>,
-    told: &mut String,
+    output: &mut String,
 ) -> Result<(), Fail> {
     let message = words.octets(alloc)?;
     let Some((header, question)) = read_plain_query(message.as_slice()) else {
-        return Ok(told.push_str("none")?);
+        return Ok(output.push_str("none")?);
     };
     if !is_copy(&question, &question.try_copy(alloc)?) {
         return Err("another copy".into());
     }
     write!(
-        told,
+        output,
         "{} {} {} ",
         header.id,
         question.rtype(),
         question.class()
     )?;
-    push_octets(told, question.name())
+    push_octets(output, question.name())
 }
 
 /// The last but one has a capital letter, and the last a pointer.

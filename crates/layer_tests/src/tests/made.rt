@@ -8,38 +8,38 @@ use std::alloc::Global;
 use std::test::Fail;
 
 /// Adds what a copy of an observation says, and whether it is equal.
-fn push_copy(alloc: Global, told: &mut String, made: &Observation) -> Result<(), Fail> {
+fn push_copy(alloc: Global, output: &mut String, made: &Observation) -> Result<(), Fail> {
     let copy = made.try_clone()?;
-    push_observation(alloc, told, &copy)?;
-    Ok(told.push_str(if copy == *made { "equal" } else { "another" })?)
+    push_observation(alloc, output, &copy)?;
+    Ok(output.push_str(if copy == *made { "equal" } else { "another" })?)
 }
 
 /// A copy of an observation of one record: its name, type, rank, stamp, life and RDATA.
-pub(crate) fn tell_records(
+pub(crate) fn show_records(
     alloc: Global,
     mut words: Words<'_>,
-    told: &mut String,
+    output: &mut String,
 ) -> Result<(), Fail> {
-    push_copy(alloc, told, &record_in(alloc, alloc, &mut words)?)
+    push_copy(alloc, output, &record_in(alloc, alloc, &mut words)?)
 }
 
 /// A copy of a flush: its name and stamp.
-pub(crate) fn tell_flush(
+pub(crate) fn show_flush(
     alloc: Global,
     mut words: Words<'_>,
-    told: &mut String,
+    output: &mut String,
 ) -> Result<(), Fail> {
-    push_copy(alloc, told, &flush_in(alloc, &mut words)?)
+    push_copy(alloc, output, &flush_in(alloc, &mut words)?)
 }
 
 /// A copy of a denial: its name, type or 0, rank, stamp, life, and the owner, TTL and RDATA of its
 /// SOA.
-pub(crate) fn tell_denial(
+pub(crate) fn show_denial(
     alloc: Global,
     mut words: Words<'_>,
-    told: &mut String,
+    output: &mut String,
 ) -> Result<(), Fail> {
-    push_copy(alloc, told, &denial_in(alloc, alloc, &mut words)?)
+    push_copy(alloc, output, &denial_in(alloc, alloc, &mut words)?)
 }
 
 #[test]

@@ -1,10 +1,10 @@
-//! The messages and frames that more than one row is about, each by a name. The tests of other crates have messages of
-//! their own, since what only tests read of a crate is not seen by another.
+//! The messages and frames that more than one row is about, each by a name. The tests of other
+//! crates have messages of their own, since a crate does not see the tests of another.
 
-/// Each name, and behind it the octets as `spelled` reads them. The line above says what they are: of a
-/// message the id, the flags, the code, the question and the records of each section; of a frame its
-/// version, and of each observation the kind, the rank, the stamp, the life, the name, the type and the
-/// data. So say the lines above a row, with `=>` what the row wants.
+/// Each name, and behind it the octets as `spelled` reads them. The line above says what they are:
+/// of a message the id, the flags, the code, the question and the records of each section; of a
+/// frame its version, and of each observation the kind, the rank, the stamp, the life, the name, the type
+/// and the data. The lines above a row say the same, behind `=>` of its output.
 pub(crate) const MESSAGES: &str = "\
 # id 9 rd ad: wWw. IN AAAA
 mixed-question 00090120000100000000000003'wWw'00001c0001

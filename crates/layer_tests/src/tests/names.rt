@@ -34,123 +34,123 @@ fn copy_of(alloc: Global, name: &Name) -> Result<Name, Fail> {
 }
 
 /// Adds how a name compares with another one.
-fn push_order(told: &mut String, one: &Name, other: &Name) -> Result<(), Fail> {
+fn push_order(output: &mut String, one: &Name, other: &Name) -> Result<(), Fail> {
     let order = one.cmp(other);
-    write!(told, "{order:?}")?;
-    told.push_str(if one < other { " before" } else { "" })?;
-    told.push_str(if one.same(other) { " same" } else { "" })?;
-    told.push_str(if one == other { " equal" } else { "" })?;
+    write!(output, "{order:?}")?;
+    output.push_str(if one < other { " before" } else { "" })?;
+    output.push_str(if one.same(other) { " same" } else { "" })?;
+    output.push_str(if one == other { " equal" } else { "" })?;
     Ok(())
 }
 
 /// A name's octets, its text, how many labels a copy has, and how that compares with it.
-pub(crate) fn tell_name(
+pub(crate) fn show_name(
     alloc: Global,
     mut words: Words<'_>,
-    told: &mut String,
+    output: &mut String,
 ) -> Result<(), Fail> {
     let name = name_of(alloc, words.word())?;
-    push_octets(told, name.octets())?;
-    told.push_str(" ")?;
-    push_name(alloc, told, &name)?;
+    push_octets(output, name.octets())?;
+    output.push_str(" ")?;
+    push_name(alloc, output, &name)?;
     let copy = copy_of(alloc, &name)?;
     let labels = copy.labels();
-    write!(told, " {labels} ")?;
-    push_order(told, &copy, &name)
+    write!(output, " {labels} ")?;
+    push_order(output, &copy, &name)
 }
 
 /// How a name compares with another one.
-pub(crate) fn tell_pair(
+pub(crate) fn show_pair(
     alloc: Global,
     mut words: Words<'_>,
-    told: &mut String,
+    output: &mut String,
 ) -> Result<(), Fail> {
     let one = name_of(alloc, words.word())?;
     let other = name_of(alloc, words.word())?;
-    push_order(told, &one, &other)
+    push_order(output, &one, &other)
 }
 
 /// Whether a name is another one or below it.
-pub(crate) fn tell_under(
+pub(crate) fn show_under(
     alloc: Global,
     mut words: Words<'_>,
-    told: &mut String,
+    output: &mut String,
 ) -> Result<(), Fail> {
     let one = name_of(alloc, words.word())?;
     let other = name_of(alloc, words.word())?;
-    write!(told, "{}", one.is_under(&other))?;
+    write!(output, "{}", one.is_under(&other))?;
     Ok(())
 }
 
 /// How many octets a name has after each label is added, or why it is refused.
-pub(crate) fn tell_pushes(
+pub(crate) fn show_pushes(
     alloc: Global,
     mut words: Words<'_>,
-    told: &mut String,
+    output: &mut String,
 ) -> Result<(), Fail> {
     let mut name = Name::root(alloc)?;
     for label in words.word().split('.') {
         match push_label(alloc, &mut name, label)? {
-            Ok(()) => write!(told, "{};", name.octets().len())?,
-            Err(fault) => write!(told, "{fault:?};")?,
+            Ok(()) => write!(output, "{};", name.octets().len())?,
+            Err(fault) => write!(output, "{fault:?};")?,
         }
     }
     Ok(())
 }
 
 /// A copy of a copy of octets, and how many it gives back.
-pub(crate) fn tell_octets(
+pub(crate) fn show_octets(
     alloc: Global,
     mut words: Words<'_>,
-    told: &mut String,
+    output: &mut String,
 ) -> Result<(), Fail> {
     let octets = words.octets(alloc)?;
     let copy = Octets::copy_of(alloc, octets.as_slice())?.try_clone()?;
-    push_octets(told, copy.as_slice())?;
-    write!(told, " {}", copy.into_vec().len())?;
+    push_octets(output, copy.as_slice())?;
+    write!(output, " {}", copy.into_vec().len())?;
     Ok(())
 }
 
 /// Adds a name in full, or that there is none.
-fn push_suffix(told: &mut String, suffix: Option<&[u8]>) -> Result<(), Fail> {
+fn push_suffix(output: &mut String, suffix: Option<&[u8]>) -> Result<(), Fail> {
     match suffix {
-        Some(octets) => push_octets(told, octets),
-        None => Ok(told.push_str("none")?),
+        Some(octets) => push_octets(output, octets),
+        None => Ok(output.push_str("none")?),
     }
 }
 
-/// What is left of a name without so many labels, and of its octets.
-pub(crate) fn tell_ancestor(
+/// What is left of a name without its first labels, a number of them, and of its octets.
+pub(crate) fn show_ancestor(
     alloc: Global,
     mut words: Words<'_>,
-    told: &mut String,
+    output: &mut String,
 ) -> Result<(), Fail> {
     let count = words.word().parse()?;
     let name = name_of(alloc, words.word())?;
-    push_suffix(told, name.suffix(count))?;
-    told.push_str(" ")?;
-    push_suffix(told, suffix_in(name.octets(), count))
+    push_suffix(output, name.suffix(count))?;
+    output.push_str(" ")?;
+    push_suffix(output, suffix_in(name.octets(), count))
 }
 
-/// What is left of octets without so many labels.
-pub(crate) fn tell_suffix(
+/// What is left of octets without their first labels, a number of them.
+pub(crate) fn show_suffix(
     alloc: Global,
     mut words: Words<'_>,
-    told: &mut String,
+    output: &mut String,
 ) -> Result<(), Fail> {
     let count = words.word().parse()?;
     let octets = words.octets(alloc)?;
-    push_suffix(told, suffix_in(octets.as_slice(), count))
+    push_suffix(output, suffix_in(octets.as_slice(), count))
 }
 
 /// Whether octets are in lower case.
-pub(crate) fn tell_lower(
+pub(crate) fn show_lower(
     alloc: Global,
     mut words: Words<'_>,
-    told: &mut String,
+    output: &mut String,
 ) -> Result<(), Fail> {
     let octets = words.octets(alloc)?;
-    write!(told, "{}", is_lower(octets.as_slice()))?;
+    write!(output, "{}", is_lower(octets.as_slice()))?;
     Ok(())
 }
 

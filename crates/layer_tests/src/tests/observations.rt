@@ -165,9 +165,9 @@ pub(crate) fn flush_in<A: Allocator + Copy>(
 }
 
 /// Adds numbers, each behind a space.
-fn push_numbers(told: &mut String, numbers: &[u64]) -> Result<(), Fail> {
+fn push_numbers(output: &mut String, numbers: &[u64]) -> Result<(), Fail> {
     for number in numbers {
-        write!(told, " {number}")?;
+        write!(output, " {number}")?;
     }
     Ok(())
 }
@@ -175,38 +175,38 @@ fn push_numbers(told: &mut String, numbers: &[u64]) -> Result<(), Fail> {
 /// Adds the text of a name.
 pub(crate) fn push_name<A: Allocator>(
     global: Global,
-    told: &mut String,
+    output: &mut String,
     name: &Name<A>,
 ) -> Result<(), Fail> {
     let text = name.write_text(global)?;
-    Ok(told.push_str(text.as_str())?)
+    Ok(output.push_str(text.as_str())?)
 }
 
 /// Adds an observation's kind and name.
 fn push_kind<A: Allocator>(
     global: Global,
-    told: &mut String,
+    output: &mut String,
     observation: &Observation<A>,
 ) -> Result<(), Fail> {
-    write!(told, "{:?} ", observation.kind())?;
-    push_name(global, told, observation.name())
+    write!(output, "{:?} ", observation.kind())?;
+    push_name(global, output, observation.name())
 }
 
 /// Adds an observation's body.
 fn push_body<A: Allocator>(
     global: Global,
-    told: &mut String,
+    output: &mut String,
     observation: &Observation<A>,
 ) -> Result<(), Fail> {
     let body = observation.write_body(global)?;
-    told.push_str(" ")?;
-    push_octets(told, body.as_slice())
+    output.push_str(" ")?;
+    push_octets(output, body.as_slice())
 }
 
 /// Adds what an observation says: its kind, name, type, rank, stamp, life and body.
 pub(crate) fn push_observation<A: Allocator>(
     global: Global,
-    told: &mut String,
+    output: &mut String,
     observation: &Observation<A>,
 ) -> Result<(), Fail> {
     let numbers = [
@@ -215,8 +215,8 @@ pub(crate) fn push_observation<A: Allocator>(
         observation.stamp().value(),
         u64::from(observation.life()),
     ];
-    push_kind(global, told, observation)?;
-    push_numbers(told, numbers.as_slice())?;
-    push_body(global, told, observation)?;
-    Ok(told.push_str(";")?)
+    push_kind(global, output, observation)?;
+    push_numbers(output, numbers.as_slice())?;
+    push_body(global, output, observation)?;
+    Ok(output.push_str(";")?)
 }

@@ -25,7 +25,7 @@ fn take(held: &mut Held<'_>, number: u16, life: u16) -> Result<(), Fail> {
     Ok(())
 }
 
-/// Takes addresses of 5000 names, of which each other one ends at 110, and the rest at 400.
+/// Takes addresses of 5000 names. Every other one ends at 110, the rest at 400.
 fn take_all(held: &mut Held<'_>) -> Result<(), Fail> {
     for number in 0..5000u16 {
         take(held, number, if number % 2 == 0 { 10 } else { 300 })?;

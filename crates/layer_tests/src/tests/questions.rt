@@ -4,7 +4,7 @@
 //! 127.0.0.1, and is spelled by a port and an identifier.
 
 use crate::tests::observations::{moment_of, push_name, question_of};
-use crate::tests::rows::{Row, Words, check_told, is_row, read_row};
+use crate::tests::rows::{Row, Words, check_output, is_row, read_row};
 use fleet_pending::{Addr, Asked, Due, Entry, Pending, PendingFault, Waiter, Waiters};
 use fleet_wire::Question;
 use std::alloc::Global;
@@ -19,12 +19,12 @@ fn question_in(alloc: Global, words: &mut Words<'_>) -> Result<Question, Fail> {
 }
 
 /// Adds how a question is asked, or why not.
-fn push_asked(told: &mut String, asked: Result<Asked, PendingFault>) -> Result<(), Fail> {
+fn push_asked(output: &mut String, asked: Result<Asked, PendingFault>) -> Result<(), Fail> {
     match asked {
-        Ok(Asked::Send { upstream, id }) => Ok(write!(told, "send {upstream} {id}")?),
-        Ok(Asked::Joined) => Ok(told.push_str("joined")?),
-        Ok(Asked::Again) => Ok(told.push_str("again")?),
-        Err(fault) => Ok(write!(told, "{fault:?}")?),
+        Ok(Asked::Send { upstream, id }) => Ok(write!(output, "send {upstream} {id}")?),
+        Ok(Asked::Joined) => Ok(output.push_str("joined")?),
+        Ok(Asked::Again) => Ok(output.push_str("again")?),
+        Err(fault) => Ok(write!(output, "{fault:?}")?),
     }
 }
 
@@ -50,69 +50,69 @@ fn ask(
 }
 
 /// The identifier of the query that asking would send: the question, and a word.
-fn tell_query_id(
+fn show_query_id(
     alloc: Global,
     table: &Pending,
     mut words: Words<'_>,
-    told: &mut String,
+    output: &mut String,
 ) -> Result<(), Fail> {
     let question = question_in(alloc, &mut words)?;
     let word = words.word().parse()?;
     match table.query_id(&question, word) {
-        Some(id) => Ok(write!(told, "{id}")?),
-        None => Ok(told.push_str("none")?),
+        Some(id) => Ok(write!(output, "{id}")?),
+        None => Ok(output.push_str("none")?),
     }
 }
 
 /// Whether an entry waits for this reply: its upstream, identifier and question.
-fn tell_found(
+fn show_found(
     alloc: Global,
     table: &Pending,
     mut words: Words<'_>,
-    told: &mut String,
+    output: &mut String,
 ) -> Result<(), Fail> {
     let upstream = words.word().parse()?;
     let id = words.word().parse()?;
     let question = question_in(alloc, &mut words)?;
     let is_found = table.find(upstream, id, &question).is_some();
-    Ok(write!(told, "{is_found}")?)
+    Ok(write!(output, "{is_found}")?)
 }
 
 /// Adds the port and the identifier of each who waits.
-fn push_waiters(told: &mut String, waiters: &Waiters) -> Result<(), Fail> {
+fn push_waiters(output: &mut String, waiters: &Waiters) -> Result<(), Fail> {
     for waiter in waiters.as_slice() {
         let (port, id) = (waiter.from.port, waiter.id);
-        write!(told, "{port}/{id};")?;
+        write!(output, "{port}/{id};")?;
     }
     Ok(())
 }
 
 /// Who waited for the reply with an identifier.
-fn settle(table: &mut Pending, mut words: Words<'_>, told: &mut String) -> Result<(), Fail> {
+fn settle(table: &mut Pending, mut words: Words<'_>, output: &mut String) -> Result<(), Fail> {
     match table.settle(words.word().parse()?) {
-        Some(entry) => push_waiters(told, &entry.waiters),
-        None => Ok(told.push_str("none")?),
+        Some(entry) => push_waiters(output, &entry.waiters),
+        None => Ok(output.push_str("none")?),
     }
 }
 
 /// Adds a retry.
 fn push_retry(
     alloc: Global,
-    told: &mut String,
+    output: &mut String,
     upstream: u8,
     id: u16,
     entry: &Entry,
 ) -> Result<(), Fail> {
-    write!(told, "retry {upstream} {id} ")?;
-    push_name(alloc, told, &entry.name)
+    write!(output, "retry {upstream} {id} ")?;
+    push_name(alloc, output, &entry.name)
 }
 
 /// What is due first at a moment.
-fn tell_due(
+fn show_due(
     alloc: Global,
     table: &Pending,
     mut words: Words<'_>,
-    told: &mut String,
+    output: &mut String,
 ) -> Result<(), Fail> {
     match table.due(moment_of(words.word())?) {
         Some(
@@ -121,42 +121,42 @@ fn tell_due(
                 id,
                 entry,
             },
-        ) => push_retry(alloc, told, upstream, id, entry),
-        Some(Due::Failed { id, .. }) => Ok(write!(told, "failed {id}")?),
-        None => Ok(told.push_str("none")?),
+        ) => push_retry(alloc, output, upstream, id, entry),
+        Some(Due::Failed { id, .. }) => Ok(write!(output, "failed {id}")?),
+        None => Ok(output.push_str("none")?),
     }
 }
 
 /// Whether an entry goes on to its next upstream.
-fn advance(table: &mut Pending, mut words: Words<'_>, told: &mut String) -> Result<(), Fail> {
+fn advance(table: &mut Pending, mut words: Words<'_>, output: &mut String) -> Result<(), Fail> {
     let id = words.word().parse()?;
     let moment = moment_of(words.word())?;
     let is_next = table.advance(id, moment);
-    Ok(write!(told, "{is_next}")?)
+    Ok(write!(output, "{is_next}")?)
 }
 
 /// Whether there is an entry with an identifier.
-fn tell_entry(table: &Pending, mut words: Words<'_>, told: &mut String) -> Result<(), Fail> {
+fn show_entry(table: &Pending, mut words: Words<'_>, output: &mut String) -> Result<(), Fail> {
     let is_there = table.entry(words.word().parse()?).is_some();
-    Ok(write!(told, "{is_there}")?)
+    Ok(write!(output, "{is_there}")?)
 }
 
-/// Adds what a call tells.
-fn tell(
+/// Makes a call, and writes its output.
+fn show_result(
     alloc: Global,
     table: &mut Pending,
     call: &str,
     words: Words<'_>,
-    told: &mut String,
+    output: &mut String,
 ) -> Result<(), Fail> {
     match call {
-        "ask" => push_asked(told, ask(alloc, table, words)?),
-        "query_id" => tell_query_id(alloc, table, words, told),
-        "find" => tell_found(alloc, table, words, told),
-        "settle" => settle(table, words, told),
-        "due" => tell_due(alloc, table, words, told),
-        "advance" => advance(table, words, told),
-        "entry" => tell_entry(table, words, told),
+        "ask" => push_asked(output, ask(alloc, table, words)?),
+        "query_id" => show_query_id(alloc, table, words, output),
+        "find" => show_found(alloc, table, words, output),
+        "settle" => settle(table, words, output),
+        "due" => show_due(alloc, table, words, output),
+        "advance" => advance(table, words, output),
+        "entry" => show_entry(table, words, output),
         _ => Err("no such call".into()),
     }
 }
@@ -168,9 +168,9 @@ fn check_call(rt: &impl Abort, alloc: Global, table: &mut Pending, row: &str) ->
         words,
         wanted,
     } = read_row(row)?;
-    let mut told = String::new(alloc);
-    tell(alloc, table, call, words, &mut told)?;
-    check_told(rt, alloc, row, wanted, told.as_str())
+    let mut output = String::new(alloc);
+    show_result(alloc, table, call, words, &mut output)?;
+    check_output(rt, alloc, row, wanted, output.as_str())
 }
 
 /// Checks calls of a table.
@@ -224,7 +224,7 @@ query_id 0000 1 4660 => 4660";
     check_calls(&rt, rt.alloc(), &mut table, rows)
 }
 
-/// Asks so many questions, with the greatest word: the identifiers go on behind it from zero.
+/// Asks a number of questions, with the greatest word: the identifiers go on behind it from zero.
 fn check_questions(
     rt: &impl Abort,
     alloc: Global,
@@ -256,7 +256,7 @@ due 103 => retry 1 1 0002.";
     check_calls(&rt, rt.alloc(), &mut table, rows)
 }
 
-/// Joins a question from so many ports behind 6001.
+/// Joins a question from a number of ports behind 6001.
 fn check_joins(
     rt: &impl Abort,
     alloc: Global,
@@ -328,10 +328,10 @@ fn waiters_of(alloc: Global, ids: &[u16]) -> Result<Waiters, Fail> {
 }
 
 #[test]
-fn waiters_stand_in_order(rt: HostRuntime) -> Result<(), Fail> {
+fn waiters_keep_their_order(rt: HostRuntime) -> Result<(), Fail> {
     let waiters = waiters_of(rt.alloc(), &[9, 7, 8])?;
-    let mut told = String::new(rt.alloc());
-    push_waiters(&mut told, &waiters)?;
-    assert_eq!(rt; told.as_str(), "53/9;53/7;53/8;");
+    let mut output = String::new(rt.alloc());
+    push_waiters(&mut output, &waiters)?;
+    assert_eq!(rt; output.as_str(), "53/9;53/7;53/8;");
     Ok(())
 }

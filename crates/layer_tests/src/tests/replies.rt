@@ -1,4 +1,4 @@
-//! Replies as octets, and what they tell.
+//! Replies as octets, and what they say.
 
 use crate::tests::observations::{push_name, push_observation};
 use crate::tests::rows::{Words, push_octets};
@@ -9,12 +9,12 @@ use std::alloc::Global;
 use std::test::Fail;
 
 /// Adds the observations of a digest at second 100.
-fn push_seen(alloc: Global, told: &mut String, digest: &Digest) -> Result<(), Fail> {
+fn push_seen(alloc: Global, output: &mut String, digest: &Digest) -> Result<(), Fail> {
     let stamp = Moment::new(100).ok_or("a moment")?;
     let all = observations(alloc, digest, stamp)?;
-    told.push_str(if all.is_empty() { "none" } else { "" })?;
+    output.push_str(if all.is_empty() { "none" } else { "" })?;
     for observation in &all {
-        push_observation(alloc, told, observation)?;
+        push_observation(alloc, output, observation)?;
     }
     Ok(())
 }
@@ -26,38 +26,38 @@ fn digest_of(alloc: Global, message: &[u8]) -> Result<Digest, Fail> {
 }
 
 /// The observations of a message at second 100.
-pub(crate) fn tell_seen(
+pub(crate) fn show_seen(
     alloc: Global,
     mut words: Words<'_>,
-    told: &mut String,
+    output: &mut String,
 ) -> Result<(), Fail> {
     let message = words.octets(alloc)?;
     let digest = digest_of(alloc, message.as_slice())?;
-    push_seen(alloc, told, &digest)
+    push_seen(alloc, output, &digest)
 }
 
 /// Adds what is relayed of a message to one who asked so.
 fn push_relayed(
     alloc: Global,
-    told: &mut String,
+    output: &mut String,
     digest: &Digest,
     query: &[u8],
 ) -> Result<(), Fail> {
     let (header, question) = read_query(alloc, query)?;
     let octets = relay(alloc, digest, &question, header.id, header.rd)?;
-    push_octets(told, octets.as_slice())
+    push_octets(output, octets.as_slice())
 }
 
-/// What a client that asked so is told of a message.
-pub(crate) fn tell_relay(
+/// What is relayed of a message to a client that asked so.
+pub(crate) fn show_relay(
     alloc: Global,
     mut words: Words<'_>,
-    told: &mut String,
+    output: &mut String,
 ) -> Result<(), Fail> {
     let query = words.octets(alloc)?;
     let message = words.octets(alloc)?;
     let digest = digest_of(alloc, message.as_slice())?;
-    push_relayed(alloc, told, &digest, query.as_slice())
+    push_relayed(alloc, output, &digest, query.as_slice())
 }
 
 /// The word for how a reply ends.
@@ -72,37 +72,37 @@ fn end_text(end: &End) -> &'static str {
 }
 
 /// Adds how a reply ends.
-fn push_end(told: &mut String, end: &End) -> Result<(), Fail> {
-    told.push_str(end_text(end))?;
+fn push_end(output: &mut String, end: &End) -> Result<(), Fail> {
+    output.push_str(end_text(end))?;
     if let End::Code(code) = end {
-        write!(told, " {code}")?;
+        write!(output, " {code}")?;
     }
     Ok(())
 }
 
 /// Adds what a digest holds: how it ends, its question, whether AA was set, and how many links and
 /// RRsets of name servers there are.
-fn push_digest(alloc: Global, told: &mut String, digest: &Digest) -> Result<(), Fail> {
-    push_end(told, digest.end())?;
-    told.push_str(" ")?;
-    push_name(alloc, told, digest.name())?;
+fn push_digest(alloc: Global, output: &mut String, digest: &Digest) -> Result<(), Fail> {
+    push_end(output, digest.end())?;
+    output.push_str(" ")?;
+    push_name(alloc, output, digest.name())?;
     let aa = if digest.aa() { "aa " } else { "" };
     let (links, sets) = (digest.chain().len(), digest.ns().len());
-    write!(told, " {} {aa}{links} {sets}", digest.rtype())?;
+    write!(output, " {} {aa}{links} {sets}", digest.rtype())?;
     Ok(())
 }
 
 /// What the digest of a message holds, or why there is none.
-pub(crate) fn tell_digest(
+pub(crate) fn show_digest(
     alloc: Global,
     mut words: Words<'_>,
-    told: &mut String,
+    output: &mut String,
 ) -> Result<(), Fail> {
     let message = words.octets(alloc)?;
     let reply = read_reply(alloc, message.as_slice())?;
     match digest(alloc, &reply) {
-        Ok(digest) => push_digest(alloc, told, &digest),
-        Err(fault) => Ok(write!(told, "{fault:?}")?),
+        Ok(digest) => push_digest(alloc, output, &digest),
+        Err(fault) => Ok(write!(output, "{fault:?}")?),
     }
 }
 
@@ -192,8 +192,8 @@ relay <question> <no-soa> => 00078183000100000000000007'example'03'com'000001000
     check_rows(&rt, rt.alloc(), rows)
 }
 
-/// The flags of a reply with an NS record, and those of what its client is told: RCODE 0 and TC
-/// where TC is set, else its own RCODE.
+/// The flags of a reply with an NS record, and those of what is relayed to its client: RCODE 0 and
+/// TC where TC is set, else its own RCODE.
 #[test]
 fn relays_what_was_cut_off_and_other_codes(rt: HostRuntime) -> Result<(), Fail> {
     let rows = "\

@@ -1,11 +1,11 @@
-//! Rows of tables: what is asked of the libraries, ` => `, and what it tells.
+//! Rows of tables: a call of the libraries, ` => `, and its output.
 
 use crate::tests::messages::MESSAGES;
 use std::alloc::Global;
 use std::process::Abort;
 use std::test::Fail;
 
-/// The first word of a text, and what stands behind it.
+/// The first word of a text, and what comes behind it.
 fn first_of(text: &str) -> (&str, &str) {
     text.split_once(' ').unwrap_or((text, ""))
 }
@@ -40,14 +40,14 @@ impl<'a> Words<'a> {
     }
 }
 
-/// A row: a call, its words, and behind ` => ` what it tells.
+/// A row: a call, its words, and behind ` => ` its output.
 #[derive(Clone, Copy)]
 pub(crate) struct Row<'a> {
     /// The call.
     pub(crate) call: &'a str,
     /// Its words.
     pub(crate) words: Words<'a>,
-    /// What is told.
+    /// Its output.
     pub(crate) wanted: &'a str,
 }
 
@@ -68,16 +68,16 @@ pub(crate) fn is_row(line: &str) -> bool {
     !line.is_empty() && !line.starts_with('#')
 }
 
-/// Checks what was told at a row.
-pub(crate) fn check_told(
+/// Checks the output of a row's call.
+pub(crate) fn check_output(
     rt: &impl Abort,
     alloc: Global,
     row: &str,
     wanted: &str,
-    told: &str,
+    output: &str,
 ) -> Result<(), Fail> {
     let wanted = spelled(alloc, wanted)?;
-    assert_eq!(rt; told, wanted.as_str(), "{row}");
+    assert_eq!(rt; output, wanted.as_str(), "{row}");
     Ok(())
 }
 
@@ -102,9 +102,9 @@ fn message_of(name: &str) -> Result<&'static str, Fail> {
     Err("no such message".into())
 }
 
-/// A text with the digits of octets where they stand as letters between two `'`, with those that
-/// a frame begins with in place of `@`, with what stands between braces as often as is said
-/// there: `{61*460}` is 460 times `61`; and with a message in place of its name between `<` and `>`.
+/// A text with digits of octets in place of letters between two `'`, with those that a frame begins
+/// with in place of `@`, with what is between braces as often as is said there (`{61*460}` is 460
+/// times `61`), and with a message in place of its name between `<` and `>`.
 pub(crate) fn spelled(alloc: Global, text: &str) -> Result<String, Fail> {
     let mut digits = String::new(alloc);
     let mut pieces = text.split('<');
@@ -117,7 +117,7 @@ pub(crate) fn spelled(alloc: Global, text: &str) -> Result<String, Fail> {
     Ok(digits)
 }
 
-/// Adds digits, with those of octets where they stand as letters between two `'`.
+/// Adds digits, with those of octets in place of letters between two `'`.
 fn push_spelled(digits: &mut String, text: &str) -> Result<(), Fail> {
     let mut is_letters = false;
     for piece in text.split('\'') {
@@ -169,10 +169,10 @@ fn push_times(digits: &mut String, repeated: &str) -> Result<(), Fail> {
 }
 
 /// Adds the digits of octets, `-` where there are none.
-pub(crate) fn push_octets(told: &mut String, octets: &[u8]) -> Result<(), Fail> {
+pub(crate) fn push_octets(output: &mut String, octets: &[u8]) -> Result<(), Fail> {
     if octets.is_empty() {
-        return Ok(told.push_str("-")?);
+        return Ok(output.push_str("-")?);
     }
-    let digits = hex::encode(*told.allocator(), octets)?;
-    Ok(told.push_str(digits.as_str())?)
+    let digits = hex::encode(*output.allocator(), octets)?;
+    Ok(output.push_str(digits.as_str())?)
 }

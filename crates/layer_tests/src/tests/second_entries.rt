@@ -4,7 +4,7 @@ use crate::tests::frames::{DENIED, TWO, check_frames, check_prefixes};
 use std::test::Fail;
 
 #[test]
-fn tells_the_faults_of_a_second_entry(rt: HostRuntime) -> Result<(), Fail> {
+fn reports_the_faults_of_a_second_entry(rt: HostRuntime) -> Result<(), Fail> {
     check_prefixes(&rt, rt.alloc(), TWO, 79)?;
     let fields = "
 two - => 2 again
@@ -43,7 +43,7 @@ frame @00020303{00*7}640000012c07'example'03'com'00000100010004c00002010303{00*7
 }
 
 #[test]
-fn tells_the_faults_of_a_second_entry_that_denies(rt: HostRuntime) -> Result<(), Fail> {
+fn reports_the_faults_of_a_second_entry_that_denies(rt: HostRuntime) -> Result<(), Fail> {
     check_prefixes(&rt, rt.alloc(), DENIED, 102)?;
     let rows = "
 denied - => 2 again
@@ -63,7 +63,7 @@ denied 80=c0 => BadBody";
 
 /// Behind the first entry of `TWO`.
 #[test]
-fn tells_long_names_and_bodies_of_a_second_entry(rt: HostRuntime) -> Result<(), Fail> {
+fn reports_long_names_and_bodies_of_a_second_entry(rt: HostRuntime) -> Result<(), Fail> {
     let rows = "
 # 127 labels of one octet make a name of 255 octets with its zero; one more is too many.
 # frame 2: positive rank 3 at 100 for 300: example.com. A 192.0.2.1; positive rank 3 at 100 for 300:

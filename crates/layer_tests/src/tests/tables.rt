@@ -1,46 +1,46 @@
-//! Tables of what is asked of names, messages and replies, and what they tell.
+//! Tables of calls on names, messages and replies, and their output.
 
-use crate::tests::captures::{tell_asked, tell_rdata, tell_relayed, tell_rewritten};
-use crate::tests::faults::{tell_changed, tell_outline, tell_padded, tell_plain, tell_query};
-use crate::tests::in_place::tell_in_place;
-use crate::tests::made::{tell_denial, tell_flush, tell_records};
+use crate::tests::captures::{show_asked, show_rdata, show_relayed, show_rewritten};
+use crate::tests::faults::{show_changed, show_outline, show_padded, show_plain, show_query};
+use crate::tests::in_place::show_in_place;
+use crate::tests::made::{show_denial, show_flush, show_records};
 use crate::tests::names::{
-    tell_ancestor, tell_lower, tell_name, tell_octets, tell_pair, tell_pushes, tell_suffix,
-    tell_under,
+    show_ancestor, show_lower, show_name, show_octets, show_pair, show_pushes, show_suffix,
+    show_under,
 };
-use crate::tests::replies::{tell_digest, tell_relay, tell_seen};
-use crate::tests::rows::{Row, Words, check_told, is_row, read_row};
+use crate::tests::replies::{show_digest, show_relay, show_seen};
+use crate::tests::rows::{Row, Words, check_output, is_row, read_row};
 use std::alloc::Global;
 use std::process::Abort;
 use std::test::Fail;
 
-/// Adds what a call tells that is asked with these words.
-fn tell(alloc: Global, call: &str, words: Words<'_>, told: &mut String) -> Result<(), Fail> {
+/// Makes a call with these words, and writes its output.
+fn show_result(alloc: Global, call: &str, words: Words<'_>, output: &mut String) -> Result<(), Fail> {
     match call {
-        "name" => tell_name(alloc, words, told),
-        "pair" => tell_pair(alloc, words, told),
-        "under" => tell_under(alloc, words, told),
-        "pushes" => tell_pushes(alloc, words, told),
-        "octets" => tell_octets(alloc, words, told),
-        "ancestor" => tell_ancestor(alloc, words, told),
-        "suffix" => tell_suffix(alloc, words, told),
-        "lower" => tell_lower(alloc, words, told),
-        "query" => tell_query(alloc, words, told),
-        "changed" => tell_changed(alloc, words, told),
-        "padded" => tell_padded(alloc, words, told),
-        "outline" => tell_outline(alloc, words, told),
-        "plain" => tell_plain(alloc, words, told),
-        "place" => tell_in_place(alloc, words, told),
-        "reply" => tell_rewritten(alloc, words, told),
-        "relayed" => tell_relayed(alloc, words, told),
-        "asked" => tell_asked(alloc, words, told),
-        "rdata" => tell_rdata(alloc, words, told),
-        "records" => tell_records(alloc, words, told),
-        "denial" => tell_denial(alloc, words, told),
-        "flush" => tell_flush(alloc, words, told),
-        "seen" => tell_seen(alloc, words, told),
-        "digest" => tell_digest(alloc, words, told),
-        "relay" => tell_relay(alloc, words, told),
+        "name" => show_name(alloc, words, output),
+        "pair" => show_pair(alloc, words, output),
+        "under" => show_under(alloc, words, output),
+        "pushes" => show_pushes(alloc, words, output),
+        "octets" => show_octets(alloc, words, output),
+        "ancestor" => show_ancestor(alloc, words, output),
+        "suffix" => show_suffix(alloc, words, output),
+        "lower" => show_lower(alloc, words, output),
+        "query" => show_query(alloc, words, output),
+        "changed" => show_changed(alloc, words, output),
+        "padded" => show_padded(alloc, words, output),
+        "outline" => show_outline(alloc, words, output),
+        "plain" => show_plain(alloc, words, output),
+        "place" => show_in_place(alloc, words, output),
+        "reply" => show_rewritten(alloc, words, output),
+        "relayed" => show_relayed(alloc, words, output),
+        "asked" => show_asked(alloc, words, output),
+        "rdata" => show_rdata(alloc, words, output),
+        "records" => show_records(alloc, words, output),
+        "denial" => show_denial(alloc, words, output),
+        "flush" => show_flush(alloc, words, output),
+        "seen" => show_seen(alloc, words, output),
+        "digest" => show_digest(alloc, words, output),
+        "relay" => show_relay(alloc, words, output),
         _ => Err("no such call".into()),
     }
 }
@@ -52,9 +52,9 @@ fn check_row(rt: &impl Abort, alloc: Global, row: &str) -> Result<(), Fail> {
         words,
         wanted,
     } = read_row(row)?;
-    let mut told = String::new(alloc);
-    tell(alloc, call, words, &mut told)?;
-    check_told(rt, alloc, row, wanted, told.as_str())
+    let mut output = String::new(alloc);
+    show_result(alloc, call, words, &mut output)?;
+    check_output(rt, alloc, row, wanted, output.as_str())
 }
 
 /// How many rows a table has.

@@ -1,4 +1,4 @@
-//! Answers are lent: a cache gives them while every call for memory is refused.
+//! Answers are lent: a cache gives them while every allocation is refused.
 
 ghost use Rattle.std.specs.Prelude.{◌<◌};
 
@@ -29,8 +29,8 @@ const LENT: &str = "\
 1 eight aliases are followed
 1 a ninth is a miss
 1 so are aliases of one another
-1 a denial holds for three hours at most, and is told with the SOA of an ancestor
-1 no data behind an alias is told with the alias and the SOA
+1 a denial holds for three hours at most, and is shown with the SOA of an ancestor
+1 no data behind an alias is shown with the alias and the SOA
 2 an alias whose target is not known is a miss, and answers where it is asked for
 ";
 
@@ -57,7 +57,7 @@ fn add_links<'a, A: Allocator + Copy>(
     Ok(())
 }
 
-/// The reply that tells links and the records that they lead to.
+/// The reply with links and the records that they lead to.
 fn found_reply<A: Allocator + Copy>(
     alloc: A,
     header: Header,
@@ -71,7 +71,7 @@ fn found_reply<A: Allocator + Copy>(
     Ok(write_reply(alloc, &outline)?)
 }
 
-/// The reply that tells links and the denial that they lead to, with its SOA.
+/// The reply with links and the denial that they lead to, with its SOA.
 fn denial_reply<A: Allocator + Copy>(
     alloc: A,
     header: Header,
@@ -105,7 +105,7 @@ fn look_at<A: Allocator + Copy>(
     Ok(Looked::Reply(Octets::new(reply)))
 }
 
-/// The reply to a question, looked up while every call for memory is refused, as it is printed.
+/// The reply to a question, looked up while every allocation is refused, as it is printed.
 fn print_answer<A: Allocator + Copy>(
     alloc: A,
     refusing: &Refusing<Global>,

@@ -1,4 +1,4 @@
-//! Lines of examples, done one by one on a fleet, and what a want of memory leaves of each.
+//! Lines of examples, done one by one on a fleet, and what is done of each where memory runs out.
 
 use crate::LineFault;
 use crate::command::{Command, Step, read_command};
@@ -36,7 +36,7 @@ pub fn lines_of<'a>(alloc: Global, transcript: &'a str) -> Result<Vec<Line<'a>>,
 pub enum Ended<A: Allocator> {
     /// It was done, and prints this.
     Done(String<A>),
-    /// It found no memory, after so many observations.
+    /// It ran out of memory, after this number of observations.
     Short(usize),
     /// It was done, and prints this, but its frames were not kept.
     Lost(String<A>),
@@ -140,8 +140,8 @@ fn end_of<A: Allocator + Copy>(
     }
 }
 
-/// What a want of memory leaves of an event: a frame of the first observations comes to its site,
-/// at its moment. A tick has purged all the same, and a merge has no moment.
+/// What is done of an event that runs out of memory: a frame of the first observations comes to its
+/// site, at its moment. A tick has purged all the same, and a merge has no moment.
 fn part_of_step<A: Allocator>(step: Step<'_>, bytes: Octets<A>) -> Option<Event<A>> {
     match step {
         Step::Learn { site, now, .. } => Some(Event::Frame { site, now, bytes }),
@@ -159,7 +159,7 @@ fn part_of_step<A: Allocator>(step: Step<'_>, bytes: Octets<A>) -> Option<Event<
     }
 }
 
-/// What a want of memory leaves of a line, if anything.
+/// What is done of a line that runs out of memory, if anything.
 fn part_of_command<A: Allocator>(command: Command<'_>, bytes: Octets<A>) -> Option<Event<A>> {
     match command {
         Command::Ask { site, now, .. } => Some(Event::Frame { site, now, bytes }),
@@ -168,14 +168,14 @@ fn part_of_command<A: Allocator>(command: Command<'_>, bytes: Octets<A>) -> Opti
     }
 }
 
-/// Does what a want of memory after so many observations leaves of a line.
+/// Does what is done of a line that runs out of memory after this number of observations.
 pub fn run_part<A: Allocator + Copy>(
     world: &mut World<A>,
     alloc: A,
     line: &str,
     taken: usize,
 ) -> Result<(), Fail> {
-    let bytes = Octets::copy_of(alloc, part_of(line, taken).ok_or("more than it brings")?)?;
+    let bytes = Octets::new(hex::decode(alloc, part_of(line, taken)?)?);
     if let Some(event) = part_of_command(read_command(line)?, bytes) {
         world.step(&event)?;
     }
@@ -239,7 +239,7 @@ pub fn keeps_same_frames<A: Allocator + Copy>(one: &World<A>, other: &World<A>) 
     true
 }
 
-/// The lines of a text that tell no frame.
+/// The lines of a text that show no frame.
 pub fn without_frames<A: Allocator>(alloc: A, text: &str) -> Result<String<A>, AllocError> {
     let mut rest = String::new(alloc);
     for line in text.lines() {

@@ -1,96 +1,38 @@
 //! The first observations of lines that bring several, as frames.
 
-use crate::tests::messages::FIRST_NEWER;
+use crate::tests::messages::digits_of;
+use std::test::Fail;
 
-/// A line that brings several observations, and a frame of the first of them: so many.
-struct Part {
-    line: &'static str,
-    taken: usize,
-    frame: &'static [u8],
+/// How many observations, how a line begins that brings more, and a frame of the first ones: frames
+/// of up to four other observations, the reply with two aliases and a denial, and what comes of
+/// frames and sites that have two observations.
+const PARTS: &str = "\
+0 => empty
+1 frame 0 100 44470100 => one-other
+2 frame 0 100 44470100 => two-others
+3 frame 0 100 44470100 => three-others
+1 learn 0 100 0002 => one-alias
+2 learn 0 100 0002 => two-aliases
+1 deliver 1 200 1 => first-newer
+1 deliver 2 200 2 => first-newer
+1 merge 1 0 => first-newer
+1 merge 0 1 => first-newer
+";
+
+/// Whether a part is that of a line, with a number of observations.
+fn is_part_of(part: &str, line: &str, taken: usize) -> bool {
+    let (count, begin) = part.split_once(' ').unwrap_or((part, ""));
+    line.starts_with(begin) && count.parse() == Ok(taken)
 }
 
-/// Frames of up to four other observations, the reply that tells of two aliases and a denial, and
-/// what comes of frames and sites that have two observations.
-const PARTS: [Part; 9] = [
-    Part {
-        line: "frame 0 100 44470100",
-        taken: 1,
-        frame: ONE_OTHER,
-    },
-    Part {
-        line: "frame 0 100 44470100",
-        taken: 2,
-        frame: TWO_OTHERS,
-    },
-    Part {
-        line: "frame 0 100 44470100",
-        taken: 3,
-        frame: THREE_OTHERS,
-    },
-    Part {
-        line: "learn 0 100 0002",
-        taken: 1,
-        frame: ONE_ALIAS,
-    },
-    Part {
-        line: "learn 0 100 0002",
-        taken: 2,
-        frame: TWO_ALIASES,
-    },
-    Part {
-        line: "deliver 1 200 1",
-        taken: 1,
-        frame: FIRST_NEWER,
-    },
-    Part {
-        line: "deliver 2 200 2",
-        taken: 1,
-        frame: FIRST_NEWER,
-    },
-    Part {
-        line: "merge 1 0",
-        taken: 1,
-        frame: FIRST_NEWER,
-    },
-    Part {
-        line: "merge 0 1",
-        taken: 1,
-        frame: FIRST_NEWER,
-    },
-];
-
-/// No observation.
-const EMPTY: &[u8] = b"\x44\x47\x01\x00\x00";
-
-/// 0. has the address 192.0.2.1, with rank 1, stamp 100 and life 300.
-const ONE_OTHER: &[u8] =
-    b"\x44\x47\x01\x00\x01\x03\x01\x00\x00\x00\x00\x00\x00\x00\x64\x00\x00\x01\x2c\x010\x00\x00\x01\x00\x01\x00\x04\xc0\x00\x02\x01";
-
-/// The same, and so has 1.
-const TWO_OTHERS: &[u8] =
-    b"\x44\x47\x01\x00\x02\x03\x01\x00\x00\x00\x00\x00\x00\x00\x64\x00\x00\x01\x2c\x010\x00\x00\x01\x00\x01\x00\x04\xc0\x00\x02\x01\x03\x01\x00\x00\x00\x00\x00\x00\x00\x64\x00\x00\x01\x2c\x011\x00\x00\x01\x00\x01\x00\x04\xc0\x00\x02\x01";
-
-/// The same, and so has 2.
-const THREE_OTHERS: &[u8] =
-    b"\x44\x47\x01\x00\x03\x03\x01\x00\x00\x00\x00\x00\x00\x00\x64\x00\x00\x01\x2c\x010\x00\x00\x01\x00\x01\x00\x04\xc0\x00\x02\x01\x03\x01\x00\x00\x00\x00\x00\x00\x00\x64\x00\x00\x01\x2c\x011\x00\x00\x01\x00\x01\x00\x04\xc0\x00\x02\x01\x03\x01\x00\x00\x00\x00\x00\x00\x00\x64\x00\x00\x01\x2c\x012\x00\x00\x01\x00\x01\x00\x04\xc0\x00\x02\x01";
-
-/// www.example. is an alias of a.example., with rank 1, stamp 100 and life 60.
-const ONE_ALIAS: &[u8] =
-    b"\x44\x47\x01\x00\x01\x03\x01\x00\x00\x00\x00\x00\x00\x00\x64\x00\x00\x00\x3c\x03www\x07example\x00\x00\x05\x00\x01\x00\x0b\x01a\x07example\x00";
-
-/// The same, and a.example. is one of b.example.
-const TWO_ALIASES: &[u8] =
-    b"\x44\x47\x01\x00\x02\x03\x01\x00\x00\x00\x00\x00\x00\x00\x64\x00\x00\x00\x3c\x03www\x07example\x00\x00\x05\x00\x01\x00\x0b\x01a\x07example\x00\x03\x01\x00\x00\x00\x00\x00\x00\x00\x64\x00\x00\x00\x3c\x01a\x07example\x00\x00\x05\x00\x01\x00\x0b\x01b\x07example\x00";
-
-/// A frame of the first observations that a line brings: so many.
-pub fn part_of(line: &str, taken: usize) -> Option<&'static [u8]> {
-    if taken == 0 {
-        return Some(EMPTY);
-    }
-    for part in &PARTS {
-        if line.starts_with(part.line) && part.taken == taken {
-            return Some(part.frame);
+/// A frame of the first observations that a line brings, a number of them, in hexadecimal digits.
+pub fn part_of(line: &str, taken: usize) -> Result<&'static str, Fail> {
+    for row in PARTS.lines() {
+        if let Some((part, frame)) = row.split_once(" => ") {
+            if is_part_of(part, line, taken) {
+                return digits_of(frame);
+            }
         }
     }
-    None
+    Err("more than it brings".into())
 }

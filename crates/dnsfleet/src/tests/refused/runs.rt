@@ -1,4 +1,4 @@
-//! Lists of events run at once, with one call for memory refused.
+//! Lists of events run at once, with one allocation refused.
 
 use crate::command::{Command, read_command};
 use crate::fleet::Fleet;
@@ -52,7 +52,7 @@ fn check_run<A: Allocator + Copy>(
     Ok(())
 }
 
-/// Whether a line that found no memory had begun: it took something, or a clock has risen.
+/// Whether a line that ran out of memory had begun: it took something, or a clock has risen.
 fn has_begun<A: Allocator + Copy>(
     fleet: &mut Fleet<A>,
     before: &mut Fleet<A>,
@@ -64,7 +64,7 @@ fn has_begun<A: Allocator + Copy>(
     Ok(!has_same_sites(fleet.world()?, before.world()?))
 }
 
-/// Checks a fleet whose run was halted at a line that found no memory, which may not have begun.
+/// Checks a fleet whose run was halted at a line that ran out of memory, which may not have begun.
 fn check_halted<A: Allocator + Copy>(
     rt: &impl Abort,
     alloc: A,
@@ -79,8 +79,85 @@ fn check_halted<A: Allocator + Copy>(
     check_same(rt, fleet, before, line.text)
 }
 
-/// Checks a fleet whose run was halted, and runs the events that are left, but where frames were
-/// not kept.
+/// Where a run was halted.
+#[derive(Clone, Copy)]
+struct Left<'a, A: Allocator + Copy> {
+    /// The lines before that.
+    done: &'a [Line<'a>],
+    /// The line at which it was halted.
+    line: &'a Line<'a>,
+    /// The lines from there on.
+    steps: &'a [Line<'a>],
+    /// Their events.
+    events: &'a [Event<A>],
+}
+
+/// Where lines and their events are halted at a place.
+fn left_at<'a, A: Allocator + Copy>(
+    steps: &'a [Line<'a>],
+    events: &'a [Event<A>],
+    at: usize,
+) -> Result<Left<'a, A>, Fail> {
+    let (done, steps) = steps.split_at_checked(at).ok_or("no line")?;
+    let (_, events) = events.split_at_checked(at).ok_or("no event")?;
+    let line = steps.first().ok_or("no line")?;
+    Ok(Left {
+        done,
+        line,
+        steps,
+        events,
+    })
+}
+
+/// Runs the events that are left.
+fn run_left<A: Allocator + Copy>(
+    rt: &impl Abort,
+    alloc: A,
+    fleet: &mut Fleet<A>,
+    left: Left<'_, A>,
+) -> Result<(), Fail> {
+    let world = fleet.world()?;
+    let all = world.run(left.events)?;
+    check_run(rt, alloc, world, left.events, &all, left.steps)
+}
+
+/// Checks a fleet whose run was halted since frames were not kept.
+fn check_frames_lost<A: Allocator + Copy>(
+    rt: &impl Abort,
+    alloc: A,
+    fleet: &mut Fleet<A>,
+    before: &mut Fleet<A>,
+    left: Left<'_, A>,
+    stepped: &Stepped<A>,
+) -> Result<(), Fail> {
+    let event = left.events.first().ok_or("no event")?;
+    let text = print_event(fleet.world()?, alloc, event, stepped)?;
+    check_lost(rt, alloc, fleet, before, left.line, text.as_str())
+}
+
+/// Checks a fleet whose run was halted by a fault, and runs the events that are left, but where
+/// frames were not kept.
+fn go_on_after<A: Allocator + Copy>(
+    rt: &impl Abort,
+    alloc: A,
+    fleet: &mut Fleet<A>,
+    before: &mut Fleet<A>,
+    left: Left<'_, A>,
+    fault: WorldFault<A>,
+) -> Result<(), Fail> {
+    match fault {
+        WorldFault::Memory { taken } => {
+            check_halted(rt, alloc, fleet, before, left.line, taken)?;
+            run_left(rt, alloc, fleet, left)
+        }
+        WorldFault::FramesLost(stepped) => {
+            check_frames_lost(rt, alloc, fleet, before, left, &stepped)
+        }
+        fault => Err(fault.into()),
+    }
+}
+
+/// Checks a fleet whose run was halted, and goes on.
 fn go_on<A: Allocator + Copy>(
     rt: &impl Abort,
     ample: A,
@@ -90,27 +167,12 @@ fn go_on<A: Allocator + Copy>(
     events: &[Event<A>],
     halted: Halted<A>,
 ) -> Result<(), Fail> {
-    let at = halted.at;
-    let line = steps.get(at).ok_or("no line")?;
-    let mut before = fleet_after(ample, first, steps.get(..at).ok_or("no line")?)?;
-    match halted.fault {
-        WorldFault::Memory { taken } => {
-            check_halted(rt, ample, fleet, &mut before, line, taken)?;
-            let rest = events.get(at..).ok_or("no event")?;
-            let steps = steps.get(at..).ok_or("no line")?;
-            let all = fleet.world()?.run(rest)?;
-            check_run(rt, ample, fleet.world()?, rest, &all, steps)
-        }
-        WorldFault::FramesLost(stepped) => {
-            let event = events.get(at).ok_or("no event")?;
-            let text = print_event(fleet.world()?, ample, event, &stepped)?;
-            check_lost(rt, ample, fleet, &mut before, line, text.as_str())
-        }
-        fault => Err(fault.into()),
-    }
+    let left = left_at(steps, events, halted.at)?;
+    let mut before = fleet_after(ample, first, left.done)?;
+    go_on_after(rt, ample, fleet, &mut before, left, halted.fault)
 }
 
-/// Runs events at once on a fleet that has begun, and whose memory may be refused.
+/// Runs events at once on a fleet that has begun, and whose allocations may be refused.
 fn run_events<A: Allocator + Copy>(
     rt: &impl Abort,
     ample: A,
@@ -129,7 +191,7 @@ fn run_events<A: Allocator + Copy>(
     }
 }
 
-/// Makes the sites of a fleet whose memory may be refused, and runs events at once.
+/// Makes the sites of a fleet whose allocations may be refused, and runs events at once.
 fn run_steps<A: Allocator + Copy>(
     rt: &impl Abort,
     ample: A,
@@ -168,12 +230,17 @@ fn refuse_each(rt: &impl Abort, alloc: Global, lines: &[Line<'_>]) -> Result<(),
     Err("refused each time".into())
 }
 
+/// Runs the events of the example that shows this so.
+fn refuse_example(rt: &impl Abort, alloc: Global, shows: &str) -> Result<(), Fail> {
+    let transcript = example_of(alloc, shows)?.spelled(alloc)?;
+    let lines = lines_of(alloc, transcript.as_str())?;
+    refuse_each(rt, alloc, &lines)
+}
+
 #[test]
 fn a_run_without_memory_goes_on_where_it_halted(rt: HostRuntime) -> Result<(), Fail> {
-    for shows in REFUSED {
-        let transcript = example_of(rt.alloc(), shows)?.spelled(rt.alloc())?;
-        let lines = lines_of(rt.alloc(), transcript.as_str())?;
-        refuse_each(&rt, rt.alloc(), &lines)?;
+    for shows in REFUSED.lines() {
+        refuse_example(&rt, rt.alloc(), shows)?;
     }
     Ok(())
 }

@@ -1,4 +1,4 @@
-//! Scripts with one call for memory refused.
+//! Scripts with one allocation refused.
 
 use crate::tests::examples::{all_examples, parts_of};
 use crate::tests::refused::MANY;
@@ -9,7 +9,7 @@ use std::alloc::Global;
 use std::process::Abort;
 use std::test::Fail;
 
-/// How many octets of a transcript stand before the line with this number.
+/// How many octets of a transcript come before the line with this number.
 fn end_before(lines: &[Line<'_>], number: u64) -> usize {
     let mut end = 0usize;
     let mut next = 1;

@@ -1,4 +1,4 @@
-//! A server with one call for memory refused.
+//! A server with one allocation refused.
 
 ghost use Rattle.rand_core.specs.Steps.{stream_of, steps_u32};
 
@@ -43,8 +43,15 @@ impl Rng for OneWord {
     }
 }
 
-/// What is sent, in order.
-const SENDS: [(u16, &[u8]); 3] = [(5301, QUERY), (5302, QUERY), (6001, FAILURE)];
+/// What is sent, in order: the port that it goes to, and the octets.
+fn sent_at(place: usize) -> Option<(u16, &'static [u8])> {
+    match place {
+        0 => Some((5301, QUERY)),
+        1 => Some((5302, QUERY)),
+        2 => Some((6001, FAILURE)),
+        _ => None,
+    }
+}
 
 fn addr(port: u16) -> Addr {
     Addr {
@@ -102,26 +109,34 @@ fn short_reports() -> [Report; 5] {
     ]
 }
 
-/// Whether a port sent these first ones, if it still tells.
-fn has_sent<A: Allocator + Copy>(port: &MemoryPort<A>, count: u64) -> bool {
-    let Some(notes) = port.notes() else {
-        return true;
-    };
-    let mut sent = 0;
+/// Whether octets went to an address as the packet at a place.
+fn is_sent(place: usize, to: Addr, octets: &[u8]) -> bool {
+    match sent_at(place) {
+        Some((port, wanted)) => to == addr(port) && octets == wanted,
+        None => false,
+    }
+}
+
+/// How many packets were sent, if these are the first ones.
+fn count_sent<A: Allocator + Copy>(notes: &[Note<A>]) -> Option<usize> {
+    let mut sent = 0usize;
     for note in notes {
         if let Note::Sent(to, octets) = note {
-            match SENDS.get(sent) {
-                Some((port, wanted)) => {
-                    if *to != addr(*port) || octets.as_slice() != *wanted {
-                        return false;
-                    }
-                }
-                None => return false,
+            if !is_sent(sent, *to, octets.as_slice()) {
+                return None;
             }
-            sent += 1;
+            sent = sent.saturating_add(1);
         }
     }
-    sent as u64 == count
+    Some(sent)
+}
+
+/// Whether a port sent these first ones, if it still has its record.
+fn has_sent<A: Allocator + Copy>(port: &MemoryPort<A>, count: u64) -> bool {
+    match port.notes() {
+        Some(notes) => count_sent(notes) == Some(count as usize),
+        None => true,
+    }
 }
 
 /// Whether one packet goes out, this one.
@@ -140,12 +155,12 @@ fn check_tick<A: Allocator + Copy>(
     late: Moment,
     sent: u64,
 ) -> Result<(), Fail> {
-    let told = site.tick(late)?;
-    assert!(rt; !told.more);
+    let outcome = site.tick(late)?;
+    assert!(rt; !outcome.more);
     if sent == 2 {
-        assert!(rt; is_sending(&told, 6001, FAILURE));
+        assert!(rt; is_sending(&outcome, 6001, FAILURE));
     } else {
-        assert!(rt; told.packets.as_slice().is_empty());
+        assert!(rt; outcome.packets.as_slice().is_empty());
     }
     Ok(())
 }
@@ -159,9 +174,81 @@ fn check_table<A: Allocator + Copy>(
 ) -> Result<(), Fail> {
     let late = Moment::new(106).ok_or("no moment")?;
     check_tick(rt, site, late, sent)?;
-    let told = site.datagram(late, addr(6001), QUESTION, 0x1234)?;
-    assert!(rt; is_sending(&told, 5301, QUERY));
+    let outcome = site.datagram(late, addr(6001), QUESTION, 0x1234)?;
+    assert!(rt; is_sending(&outcome, 5301, QUERY));
     Ok(())
+}
+
+/// How many calls of a port failed.
+fn failed_in(report: &Report) -> u64 {
+    report.lost.saturating_add(report.faults)
+}
+
+/// Checks that a report has one failure, or none.
+fn check_report(rt: &impl Abort, report: &Report) {
+    let refused = failed_in(report).saturating_add(report.short);
+    let wanted = u64::from(*report != report_of(3, 0, 0, 0));
+    assert_eq!(rt; refused, wanted, "{report:?}");
+}
+
+/// Checks what a port counted and noted.
+fn check_port<A: Allocator + Copy>(rt: &impl Abort, port: &MemoryPort<A>, report: &Report) {
+    let failed = failed_in(report);
+    assert_eq!(rt; port.failures(), failed);
+    assert_eq!(rt; port.notes().is_none(), failed > 0);
+    assert!(rt; has_sent(port, report.sent));
+}
+
+/// Checks what a site holds, and its clock.
+fn check_site<A: Allocator + Copy>(rt: &impl Abort, site: &Site<A>) {
+    assert!(rt; site.cache().is_empty());
+    assert_eq!(rt; site.cache().floor(), site.clock());
+    assert_eq!(rt; site.clock().value(), 104);
+}
+
+/// Serves three turns of a site at a port.
+fn serve_turns<A: Allocator + Copy>(
+    ample: A,
+    port: &mut MemoryPort<A>,
+    site: &mut Site<A>,
+) -> Result<Report, Fail> {
+    let mut clock = clock(ample)?;
+    let mut words = OneWord(0xabcd_1234);
+    Ok(serve(port, &mut clock, &mut words, site, 3, 0))
+}
+
+/// Serves three turns of a site at a port, and says what was counted.
+fn serve_site<A: Allocator + Copy>(
+    rt: &impl Abort,
+    ample: A,
+    port: &mut MemoryPort<A>,
+    site: &mut Site<A>,
+) -> Result<Report, Fail> {
+    let report = serve_turns(ample, port, site)?;
+    check_report(rt, &report);
+    check_port(rt, port, &report);
+    check_site(rt, site);
+    if report.short > 0 {
+        check_table(rt, site, report.sent)?;
+    }
+    Ok(report)
+}
+
+/// The same, of a new site.
+fn serve_port<A: Allocator + Copy>(
+    rt: &impl Abort,
+    alloc: A,
+    ample: A,
+    port: &mut MemoryPort<A>,
+) -> Result<Report, Fail> {
+    let mut site = site(alloc, ample)?;
+    serve_site(rt, ample, port, &mut site)
+}
+
+/// The same, at a new port.
+fn serve_new<A: Allocator + Copy>(rt: &impl Abort, alloc: A, ample: A) -> Result<Report, Fail> {
+    let mut port = port(alloc, ample)?;
+    serve_port(rt, alloc, ample, &mut port)
 }
 
 /// Serves three turns with a call refused, and says what was counted, and whether there was such a
@@ -169,24 +256,7 @@ fn check_table<A: Allocator + Copy>(
 fn serve_refused(rt: &impl Abort, alloc: Global, call: u64) -> Result<(Report, bool), Fail> {
     let ample = Refusing::after(alloc, 0);
     let refusing = Refusing::after(alloc, call);
-    let mut port = port(&refusing, &ample)?;
-    let mut clock = clock(&ample)?;
-    let mut site = site(&refusing, &ample)?;
-    let mut words = OneWord(0xabcd_1234);
-    let report = serve(&mut port, &mut clock, &mut words, &mut site, 3, 0);
-    let failed = report.lost.saturating_add(report.faults);
-    let refused = failed.saturating_add(report.short);
-    let is_whole = report == report_of(3, 0, 0, 0);
-    assert!(rt; is_whole || refused == 1, "{report:?}");
-    assert_eq!(rt; port.failures(), failed, "{report:?}");
-    assert_eq!(rt; port.notes().is_none(), failed > 0, "{report:?}");
-    assert!(rt; has_sent(&port, report.sent), "{report:?}");
-    assert!(rt; site.cache().is_empty(), "{report:?}");
-    assert_eq!(rt; site.cache().floor(), site.clock(), "{report:?}");
-    assert_eq!(rt; site.clock().value(), 104, "{report:?}");
-    if report.short > 0 {
-        check_table(rt, &mut site, report.sent)?;
-    }
+    let report = serve_new(rt, &refusing, &ample)?;
     Ok((report, refusing.has_refused()))
 }
 

@@ -1,4 +1,4 @@
-//! What a site holds where one call for memory was refused.
+//! What a site holds where one allocation was refused.
 
 use crate::tests::messages::ALIASES_REPLY;
 use crate::tests::refused::MANY;
@@ -18,7 +18,8 @@ fn site<A: Allocator + Copy>(alloc: A, ample: A) -> Result<Site<A>, Fail> {
     Ok(Site::new(alloc, Config::new(upstreams, Vec::new(ample))?))
 }
 
-/// The site learns the reply with two aliases and a denial: how many observations it took, and whether that was all.
+/// The site learns the reply with two aliases and a denial: how many observations it took, and
+/// whether that was all.
 fn learn<A: Allocator + Copy>(site: &mut Site<A>, now: Moment) -> (usize, bool) {
     match site.learn(now, ALIASES_REPLY) {
         Ok(outcome) => (outcome.taken, true),
@@ -26,8 +27,8 @@ fn learn<A: Allocator + Copy>(site: &mut Site<A>, now: Moment) -> (usize, bool) 
     }
 }
 
-/// A site whose memory may be refused learns the reply, a second time where it was; says whether it
-/// was.
+/// A site whose allocations may be refused learns the reply, a second time where one was; says
+/// whether one was.
 fn check_learning<A: Allocator + Copy>(
     rt: &impl Abort,
     refusing: &Refusing<Global>,

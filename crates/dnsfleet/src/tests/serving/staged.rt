@@ -4,7 +4,7 @@
 use super::{check_end, end, free_port, settings_for};
 use crate::serve::serve_settings;
 use crate::tests::messages::QUESTION;
-use crate::tests::told::Told;
+use crate::tests::captured::Captured;
 use std::alloc::Global;
 use std::cell::Cell;
 use std::net::{Ipv4Addr, Net, SocketAddr, SocketAddrV4, TcpListener, TcpStream, UdpSocket};
@@ -77,8 +77,8 @@ impl Net for Staged<'_> {
     }
 }
 
-/// The first upstream does not answer, to the second nothing can be sent, and then the client is
-/// told that it failed, each two seconds later.
+/// The first upstream does not answer, to the second nothing can be sent, and then the client gets
+/// a failure, each two seconds later.
 #[test]
 fn serves_what_comes_as_time_goes_on(rt: HostRuntime) -> Result<(), Fail> {
     let staged = Staged {
@@ -88,12 +88,12 @@ fn serves_what_comes_as_time_goes_on(rt: HostRuntime) -> Result<(), Fail> {
         second: Cell::new(0),
     };
     let port = staged.port;
-    let told = Told::new(rt.alloc());
+    let captured = Captured::new(rt.alloc());
     let settings = settings_for(rt.alloc(), port)?;
-    let ran = serve_settings(&staged, &told, Ok(settings), [7; 32], 6);
+    let ran = serve_settings(&staged, &captured, Ok(settings), [7; 32], 6);
     let printed = format!(in rt.alloc();
         "listening 127.0.0.1:{port}\nturns 6 received 5 sent 2 lost 1 faults 0 refused 4 short 0\n"
     )?;
-    check_end(&rt, end(told, ran), 0, printed.as_str(), "");
+    check_end(&rt, end(captured, ran), 0, printed.as_str(), "");
     Ok(())
 }

@@ -1,7 +1,7 @@
 use Rattle.std.proofs.Common.{◌+◌, ◌++◌, length, List, ℕ, sym, ap, ◌∙◌, arith}
 use Rattle.fleet_name.specs.Name.{wire}
 use Rattle.fleet_name.proofs.Lemmas.{labels_of-spelled}
-use Rattle.fleet_wire.proofs.PlainQueries.{front_is, name_lent, question_stands, plain_behind}
+use Rattle.fleet_wire.proofs.PlainQueries.{front_is, name_lent, question_lies, plain_behind}
 use Rattle.fleet_wire.proofs.query.read_plain_query.Goals as goal
 
 pub returns-then-is_cut-clause-only : goal.returns-then-is_cut-clause-only
@@ -36,7 +36,7 @@ returns-clause-found c =
         header = c.in-Ok.ensures.1;
         question =
             rw is
-            (question_stands c.args.message.now found.0 c.in_ok-others.others.now
+            (question_lies c.args.message.now found.0 c.in_ok-others.others.now
             c.in-Ok.ensures.0.long found.1 in_full c.split_at-2.result.0.now c.read_u16.result
             c.read_u16-2.result name enough c.read_u16.ensures c.read_u16-2.ensures);
       };

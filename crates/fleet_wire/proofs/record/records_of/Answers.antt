@@ -1,11 +1,11 @@
 use Rattle.std.proofs.Common.{◌≡◌, ◌∙◌, ap, ◌++◌, ◌∷◌, [], arith, length-append}
 use Rattle.fleet_wire.specs.Record.{RecordData, spelled_record_data}
-use Rattle.fleet_wire.proofs.Records.{records_more, first_stands, others_stand}
+use Rattle.fleet_wire.proofs.Records.{records_more, first_lies, others_lie}
 use Rattle.fleet_wire.proofs.record.records_of.Goals as goal
 
 pub unreachable-requires : goal.unreachable-requires
 unreachable-requires g c =
-    first_stands _ _ _ _ c.loop.invariant.rest (omega arith) c.in_default.ensures.fault
+    first_lies _ _ _ _ c.loop.invariant.rest (omega arith) c.in_default.ensures.fault
 
 pub loop-preserved : goal.loop-preserved
 loop-preserved g c =
@@ -18,5 +18,5 @@ loop-preserved g c =
     record {
       found = rw is (records_more _ _ _ _ before one i.found c.in-Ok.ensures.found);
       counted = rw (is, length-append before (one ∷ [])) (omega (arith, i.counted));
-      rest = others_stand _ _ _ _ one _ i.rest (omega arith) c.in-Ok.ensures.found;
+      rest = others_lie _ _ _ _ one _ i.rest (omega arith) c.in-Ok.ensures.found;
     }

@@ -1,6 +1,6 @@
 use Rattle.std.proofs.Common.{refl}
 use Rattle.fleet_wire.proofs.Lawful.{cut_read, cut_reply, whole_read, whole_reply}
-use Rattle.fleet_wire.proofs.Records.{answer_stands, authority_stands}
+use Rattle.fleet_wire.proofs.Records.{answer_lies, authority_lies}
 use Rattle.fleet_wire.proofs.reply.message_of.Goals as goal
 
 pub of_parts-requires : goal.of_parts-requires
@@ -16,14 +16,14 @@ returns-then-header g c =
     (cut_reply _ _ _ _ is c.if-header.true _ _ c.new-answer.ensures.items
     c.new-authority.ensures.items)
 
-pub records_of-requires-clause-stand : goal.records_of-requires-clause-stand
-records_of-requires-clause-stand g c =
-    answer_stands _ _ _ _ c.requires.query c.if-header.false _ refl c.requires.whole
+pub records_of-requires-clause-found : goal.records_of-requires-clause-found
+records_of-requires-clause-found g c =
+    answer_lies _ _ _ _ c.requires.query c.if-header.false _ refl c.requires.whole
 
-pub records_of-requires-2-clause-stand : goal.records_of-requires-2-clause-stand
-records_of-requires-2-clause-stand g c =
+pub records_of-requires-2-clause-found : goal.records_of-requires-2-clause-found
+records_of-requires-2-clause-found g c =
     let a = c.in_ok-answer.ensures in
-    authority_stands _ _ _ _ c.requires.query c.if-header.false _ _ _ _ refl refl a.found a.counted
+    authority_lies _ _ _ _ c.requires.query c.if-header.false _ _ _ _ refl refl a.found a.counted
     c.requires.whole
 
 pub of_parts-requires-2 : goal.of_parts-requires-2

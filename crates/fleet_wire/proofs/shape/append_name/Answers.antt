@@ -13,7 +13,7 @@ returns-clause-found c =
       lower_all (labels_of octets),
       record {
         spelled = labels_of octets;
-        stands = s.found;
+        name_at = s.found;
         lowered = refl;
         named =
             s.spelled.lawful;

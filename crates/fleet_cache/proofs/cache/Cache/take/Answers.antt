@@ -12,7 +12,7 @@ returns-then-is_past-clause-taken g c s cached = cached_needless s c.args.self.n
     c.args.self.now.floor c.args.observation c.is_past.ensures.lawful cached
     (inl (c.is_past.ensures.past.0 c.if-is_past.true))
 
--- what the test does not tell of
+-- what the test does not find does not hold
 not_told : {P Q : Type 0} (b : Bool) → IsTrue b ↔ P → b ≡ false → (Q → P) → ¬ Q
 not_told b test e into q = false≢true (sym e ∙ test.1 (into q))
 
@@ -40,7 +40,7 @@ returns-clause-kept g c =
 pub invariant_of-self-2 : goal.invariant_of-self-2
 invariant_of-self-2 g c = omega (arith, c.in_ok-kept.ensures.taken.size, c.self.invariant)
 
--- what is told of a value holds where there is one
+-- what is said of a value holds where there is one
 on_ok_from : {E P Q : Type 0} (r : Result Bool E) → IfOk r (λ kept. (kept ≡ false) × P) → (P → Q)
     → OnOk r Q
 on_ok_from (Ok kept) p f = f p.1

@@ -22,7 +22,7 @@ loop-link-preserved g c =
     let within : i < length xs = omega arith in
     let inv = c.loop-link.invariant in
     let link = c.requires item (has_at xs i item within c.link-item.is) in
-    rw (c.first_of-at.ensures, c.as_slice.ensures, ap (λ (x : RrSetData). x.rdatas) c.link.view_is)
+    rw (c.first_of-at.ensures, c.as_slice.ensures.value, ap (λ (x : RrSetData). x.rdatas) c.link.view_is)
     (record {
       name = rw (
         take_more xs i item within,

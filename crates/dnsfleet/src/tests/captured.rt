@@ -6,10 +6,10 @@ use std::fmt::Display;
 use std::io;
 use std::io::ErrorKind;
 
-/// What is written on standard output and on standard error, and nothing else. Behind so many
-/// writes on standard output one fails.
+/// What is written to standard output and to standard error, and nothing else. One write to
+/// standard output may fail.
 #[derive(Drop)]
-pub struct Told {
+pub struct Captured {
     /// Standard output.
     pub output: RefCell<String>,
     /// Standard error.
@@ -17,15 +17,15 @@ pub struct Told {
     left: Cell<u32>,
 }
 
-impl Told {
+impl Captured {
     /// Nothing was written.
-    pub fn new(alloc: Global) -> Told {
-        Told::failing_after(alloc, u32::MAX)
+    pub fn new(alloc: Global) -> Captured {
+        Captured::failing_after(alloc, u32::MAX)
     }
 
-    /// Nothing was written; after so many writes on standard output one fails.
-    pub fn failing_after(alloc: Global, left: u32) -> Told {
-        Told {
+    /// Nothing was written; behind this number of writes to standard output one fails.
+    pub fn failing_after(alloc: Global, left: u32) -> Captured {
+        Captured {
             output: RefCell::new(String::new(alloc)),
             errors: RefCell::new(String::new(alloc)),
             left: Cell::new(left),
@@ -52,7 +52,7 @@ fn add<D: Display + Drop>(text: &RefCell<String>, value: D) -> io::Result<()> {
     Ok(())
 }
 
-impl Print for Told {
+impl Print for Captured {
     fn print<D: Display + Drop>(&self, value: D) -> io::Result<()> {
         self.add_output(value)
     }
@@ -69,7 +69,7 @@ impl Print for Told {
     }
 }
 
-impl Eprint for Told {
+impl Eprint for Captured {
     fn eprint<D: Display + Drop>(&self, value: D) -> io::Result<()> {
         add(&self.errors, value)
     }

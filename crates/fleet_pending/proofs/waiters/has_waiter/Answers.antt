@@ -1,6 +1,6 @@
 use Rattle.std.proofs.Common.{◌↔◌, IsTrue, subst}
 use Rattle.fleet_pending.specs.Waiter.{Waits}
-use Rattle.fleet_pending.proofs.waiters.Waiters.has.Goals as goal
+use Rattle.fleet_pending.proofs.waiters.has_waiter.Goals as goal
 
 pub returns : goal.returns
 returns g c =
