@@ -20,6 +20,7 @@ from unproved_tests import copy_of_sources, fails
 # What a call answers that finds no memory, by the fault of its signature.
 FAULTS = {
     "AllocError": "AllocError",
+    "AllocFailed": "std::alloc::AllocFailed { value: item }",
     "NameFault": "NameFault::OutOfMemory",
     "ReadFault": "ReadFault::OutOfMemory",
     "DigestFault": "DigestFault::OutOfMemory",

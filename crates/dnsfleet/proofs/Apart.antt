@@ -1,7 +1,7 @@
 -- No address of a script appears twice.
 use Rattle.std.proofs.Common.{◌≡◌, ℕ, zero, suc, ◌+◌, ◌<◌, ◌≤◌, List, [], ◌∷◌, ◌++◌, Some, None, length, true, false, nat_eq, refl, sym, ap, ◌∙◌, arith, lit≤, cond, length-append, subst}
 use Rattle.std.proofs.lemmas.Option.{same_Some}
-use Rattle.fleet_pending.specs.declared.waiter.Addr.{Addr}
+use Rattle.fleet_pending.specs.declared.addr.Addr.{Addr}
 use Rattle.fleet_name.specs.Places.{At, NoTwo}
 use Rattle.fleet_site.specs.Config.{ConfigFails, no_upstream, many_upstreams, many_peers, same_address}
 use Rattle.fleet_site.specs.declared.config.ConfigFault.{ConfigFault}

@@ -10,7 +10,7 @@ use Rattle.toml.specs.Data.{Data, Items, no_items, item, Members, as_str, get_me
 use Rattle.toml.specs.View.{view, items_view, members_view}
 use Rattle.toml.specs.declared.value.Value.{Value}
 use Rattle.toml.proofs.Views.{Entry, items_view-drop, table_get}
-use Rattle.fleet_pending.specs.declared.waiter.Addr.{Addr}
+use Rattle.fleet_pending.specs.declared.addr.Addr.{Addr}
 use Rattle.fleet_site.specs.ConfigData.{ConfigData}
 use Rattle.dnsfleet.specs.Configuration.{Reading, ReadsText, ReadsAddress, ReadsTexts, ReadsListen, ReadsUpstreams, ReadsPeers, ReadsSweep, TableSays, SpellAddresses, AreTexts, listen_in, upstreams_in, peers_in, sweep_in}
 use Rattle.dnsfleet.specs.declared.settings.SettingsFault.{SettingsFault}

@@ -4,7 +4,7 @@ use Rattle.std.proofs.Math.Nat.{min-eq_left}
 use Rattle.std.proofs.lemmas.Bool.{cases_lt}
 use Rattle.std.proofs.lemmas.List.{append-nil, append_assoc, length-take-le, take_all}
 use Rattle.fleet_wire.specs.declared.bounds.TheConstants.{LONGEST_MESSAGE}
-use Rattle.fleet_pending.specs.declared.waiter.Addr.{Addr}
+use Rattle.fleet_pending.specs.declared.addr.Addr.{Addr}
 use Rattle.fleet_site.specs.declared.port.PortFault.{PortFault}
 use Rattle.dnsfleet.specs.declared.inbox.Inbox.{Inbox}
 use Rattle.dnsfleet.specs.Queue.{Datagram, Fills, HandsOn, Extends, TakesIn, Receives, Leaves, Queues, Pushes}

@@ -7,7 +7,7 @@ use Rattle.std.specs.declared.net.socket_addr.SocketAddr.TheVariants.{V4}
 use Rattle.std.specs.Net.Addr.{ipv4_bits, IsIpv4OfBits}
 use Rattle.std.specs.Net.Socket.{v4_ip, v4_port}
 use Rattle.std.proofs.lemmas.Nat.{from_be_bytes-to_be_bytes_4}
-use Rattle.fleet_pending.specs.declared.waiter.Addr.{Addr}
+use Rattle.fleet_pending.specs.declared.addr.Addr.{Addr}
 use Rattle.dnsfleet.specs.Socket.{address_in}
 
 -- an address made of a number has that number

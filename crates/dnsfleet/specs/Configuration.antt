@@ -6,7 +6,7 @@ use Rattle.fleet_name.specs.Types.{OctetList}
 use Rattle.fleet_wire.specs.Types.{Seconds}
 use Rattle.toml.specs.Data.{Data, Items, no_items, item, Members, no_members, member, get_member, as_str, as_array, as_integer}
 use Rattle.toml.specs.Parse.{parse_document}
-use Rattle.fleet_pending.specs.declared.waiter.Addr.{Addr}
+use Rattle.fleet_pending.specs.declared.addr.Addr.{Addr}
 use Rattle.fleet_site.specs.Config.{ConfigFails}
 use Rattle.fleet_site.specs.declared.config.ConfigFault.{ConfigFault}
 use Rattle.fleet_site.specs.declared.config.ConfigFault.TheVariants as pair

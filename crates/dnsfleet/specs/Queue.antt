@@ -2,7 +2,7 @@
 -- Serves the socket of `dnsfleet serve`.
 use Rattle.std.specs.Prelude.{◌≡◌, ◌⊎◌, ℕ, ◌≤◌, ◌<◌, min, Bool, true, false, List, [], ◌∷◌, ◌++◌, length, take, Option, Some, None, Result, Ok, Err}
 use Rattle.fleet_name.specs.Types.{OctetList}
-use Rattle.fleet_pending.specs.declared.waiter.Addr.{Addr}
+use Rattle.fleet_pending.specs.declared.addr.Addr.{Addr}
 use Rattle.fleet_wire.specs.declared.bounds.TheConstants.{LONGEST_MESSAGE}
 use Rattle.fleet_site.specs.declared.port.PortFault.{PortFault}
 use Rattle.dnsfleet.specs.declared.queue.TheConstants.{MOST_WAITING}

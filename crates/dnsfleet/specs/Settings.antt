@@ -1,7 +1,7 @@
 -- The sites of a script, and their addresses.
 -- Serves the fleet of `dnsfleet script`.
 use Rattle.std.specs.Prelude.{ℕ, ◌+◌, List, [], ◌∷◌, ◌++◌, zero, suc, nat_eq, if◌then◌else◌}
-use Rattle.fleet_pending.specs.declared.waiter.Addr.{Addr}
+use Rattle.fleet_pending.specs.declared.addr.Addr.{Addr}
 use Rattle.fleet_site.specs.ConfigData.{ConfigData}
 use Rattle.dnsfleet.specs.declared.fleet.TheConstants.{LOOPBACK, FIRST_UPSTREAM_PORT, SECOND_UPSTREAM_PORT, FIRST_SITE_PORT}
 

@@ -7,7 +7,7 @@ use Rattle.std.specs.declared.net.socket_addr.SocketAddr.{SocketAddr}
 use Rattle.std.specs.declared.net.socket_addr.SocketAddr.TheVariants.{V4, V6}
 use Rattle.std.specs.Net.Addr.{ipv4_bits}
 use Rattle.std.specs.Net.Socket.{v4_ip, v4_port}
-use Rattle.fleet_pending.specs.declared.waiter.Addr.{Addr}
+use Rattle.fleet_pending.specs.declared.addr.Addr.{Addr}
 
 -- an address of IPv4; there is no other
 abbrev pub address_in : SocketAddr → Option Addr

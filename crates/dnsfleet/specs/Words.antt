@@ -8,7 +8,7 @@ use Rattle.std.specs.Net.Grammar.{IsDotted}
 use Rattle.std.specs.Str.Parse.{digits_value}
 use Rattle.fleet_name.specs.Types.{Labels, OctetList}
 use Rattle.fleet_name.specs.Name.{wire, lower, IsName}
-use Rattle.fleet_pending.specs.declared.waiter.Addr.{Addr}
+use Rattle.fleet_pending.specs.declared.addr.Addr.{Addr}
 use Rattle.hex.specs.Hex.{decode_of}
 use Rattle.dnsfleet.specs.declared.words.TheConstants.{MOST_DIGITS, LARGEST_16_BITS}
 

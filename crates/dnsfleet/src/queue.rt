@@ -22,7 +22,7 @@ pub struct Queue<A: Allocator = Global> {
 
 impl<A: Allocator> Model for Queue<A> {
     ghost use Rattle.std.specs.Prelude.{ℕ, ◌≤◌, List, length};
-    ghost use Rattle.fleet_pending.specs.declared.waiter.Addr.{Addr};
+    ghost use Rattle.fleet_pending.specs.declared.addr.Addr.{Addr};
     ghost use Rattle.dnsfleet.specs.declared.queue.TheConstants.{MOST_WAITING};
 
     ghost Value = { List (Addr × List ℕ) };

@@ -10,7 +10,7 @@ ghost use Rattle.dnsfleet.specs.Words.{IsNumber, number_of, IsPort, SpellsAddres
 ghost use Rattle.dnsfleet.specs.declared.words.TheConstants.{MOST_SITES, LARGEST_16_BITS};
 ghost use Rattle.fleet_name.specs.Name.{lower, IsWire};
 ghost use Rattle.fleet_observe.specs.declared.bounds.TheConstants.{LATEST};
-ghost use Rattle.fleet_pending.specs.declared.waiter.Addr.{Addr};
+ghost use Rattle.fleet_pending.specs.declared.addr.Addr.{Addr};
 
 use fleet_name::bounds::LONGEST_NAME;
 use fleet_name::{Name, Octets, suffix_in};

@@ -152,10 +152,10 @@ module _ (items new : List ObservationData) (x : ObservationData) (held : IsHeld
       (last_first s x)
 
 -- what is past is what is not live
-pub past_tells : (items : List ObservationData) (f : ℕ) (x : ObservationData)
+pub past_test : (items : List ObservationData) (f : ℕ) (x : ObservationData)
     → AreObservations items → IsObservation x
     → (not (is_live items f x) ≡ true) ↔ IsPast f (live_of items f) x
-past_tells items f x lawful one = (
+past_test items f x lawful one = (
   (λ e. elim (cases_Bool (has_ended f x)) [
     | inl end ↦ inl (grind (arith, nat_tests, end))
     | inr lasts ↦ elim (cases_Bool (is_void items x)) [
@@ -185,10 +185,10 @@ past_tells items f x lawful one = (
         )
 
 -- what is not past need not be held just where what is held covers it
-pub needless_tells : (items : List ObservationData) (f : ℕ) (x : ObservationData)
+pub needless_test : (items : List ObservationData) (f : ℕ) (x : ObservationData)
     → AreObservations items → IsObservation x → ¬ IsPast f (live_of items f) x
     → IsCovered items x ↔ IsNeedless f (live_of items f) x
-needless_tells items f x lawful one current = (
+needless_test items f x lawful one current = (
   (λ c. inr (
     c.0,
     Has-in_filter (is_live items f) items c.0 c.1 (elim c.2 [
@@ -206,7 +206,7 @@ needless_tells items f x lawful one current = (
     live : is_live items f x ≡ true
     live = elim (cases_Bool (is_live items f x)) [
       | inl yea ↦ yea
-      | inr nay ↦ absurd (current ((past_tells items f x lawful one).0 (ap not nay)))
+      | inr nay ↦ absurd (current ((past_test items f x lawful one).0 (ap not nay)))
     ]
 
 -- what is live is no more than what is there

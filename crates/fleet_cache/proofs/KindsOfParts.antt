@@ -58,7 +58,7 @@ module _ (s : List ObservationData) (t rtype : ℕ) where
   has_kinds-answer_of n = has_kinds-within MOST_LINKS n
 
 -- an answer has the kinds
-pub kinds_told : {A : Type 0} (a : Answer A) (s : List ObservationData) (t rtype : ℕ)
+pub kinds_of_answer : {A : Type 0} (a : Answer A) (s : List ObservationData) (t rtype : ℕ)
     (n : List (List ℕ)) → answer_data a ≡ answer_of s t n rtype → HasKinds (answer_data a)
-kinds_told a s t rtype n e = let P : AnswerData → Type 0 = HasKinds
+kinds_of_answer a s t rtype n e = let P : AnswerData → Type 0 = HasKinds
     in subst P (sym e) (has_kinds-answer_of s t rtype n)

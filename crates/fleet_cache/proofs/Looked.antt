@@ -171,22 +171,22 @@ rows_first : (kind : Kind) (rtype : ℕ) (xs : List ObservationData) (x : Observ
     → ((o : ObservationData) → test o ≡ true → (o.kind ≡ kind) × (o.rtype ≡ rtype))
     → IsDescending row xs → filter test xs ≡ x ∷ rest
     → (y : ObservationData) → Has xs y → test y ≡ true → (preference x y ≡ Greater) ⊎ (x ≡ y)
-rows_first kind rtype [] x rest test tells d e y h k = absurd h
-rows_first kind rtype (z ∷ xs) x rest test tells d e y h k = elim (cases_Bool (test z)) [
+rows_first kind rtype [] x rest test decides d e y h k = absurd h
+rows_first kind rtype (z ∷ xs) x rest test decides d e y h k = elim (cases_Bool (test z)) [
   | inl yea ↦
       let f : z ∷ filter test xs ≡ x ∷ rest = rw yea at e in
       let same : z ≡ x = cc in
       elim h [
         | inl here ↦ inr (sym same ∙ here)
         | inr far ↦
-            let a = tells z yea in
-            let b = tells y k in
+            let a = decides z yea in
+            let b = decides y k in
             inl (ap (λ v. preference v y) (sym same)
             ∙ (sym (row_of_key z y (a.0 ∙ sym b.0) (a.1 ∙ sym b.1)) ∙ d.0 y far))
       ]
   | inr nay ↦ elim h [
     | inl here ↦ absurd (false≢true (sym nay ∙ (ap test here ∙ k)))
-    | inr far ↦ rows_first kind rtype xs x rest test tells d.1 (rw nay at e) y far k
+    | inr far ↦ rows_first kind rtype xs x rest test decides d.1 (rw nay at e) y far k
   ]
 ]
 
@@ -262,9 +262,9 @@ first_has [] x e = absurd (cc)
 first_has (y ∷ xs) x e = let same : y ≡ x = cc in inl same
 
 -- a cut at the name of one observation of a key is a cut of all of the key
-pub key_told : (items : List ObservationData) (words : List ℕ) (front : List ObservationData)
+pub key_cut : (items : List ObservationData) (words : List ℕ) (front : List ObservationData)
     → IsOfKey items words front → AreObservations items → (x : ObservationData) → Has front x
     → (t : ℕ) (cut : CutData) → IsCutAt items t x.name cut → (o : ObservationData) → Has items o
     → words_of o ≡ words → is_hidden cut o ≡ not (is_live items t o)
-key_told items words front is lawful x first t cut told o there key =
-    told o (lawful o there) (key_named items words front is x first o there key)
+key_cut items words front is lawful x first t cut known o there key =
+    known o (lawful o there) (key_named items words front is x first o there key)

@@ -84,9 +84,9 @@ module _ (t : ℕ) (items : List ObservationData) (n : List (List ℕ))
           and_from (not (is_flush o.kind)) (nat_le o.stamp x.stamp) (other_to o.kind v.2.other)
           (grind (arith, nat_tests, after, later))
 
-  cut_tells : (best : Option ObservationData) → IsBest (IsAbove (lasts t) Flush n) items best
+  cut_decides : (best : Option ObservationData) → IsBest (IsAbove (lasts t) Flush n) items best
       → is_hidden (record { moment = t; flushed = stamp_of best }) o ≡ not (is_live items t o)
-  cut_tells best is = elim (cases_Bool (has_ended t o)) [
+  cut_decides best is = elim (cases_Bool (has_ended t o)) [
     | inl end ↦ or_right (is_flushed (stamp_of best) o) (has_ended t o) end
         ∙ sym (ap not (gone_ended items t o end))
     | inr still ↦ elim (cases_Bool (is_flushed (stamp_of best) o)) [
@@ -106,7 +106,7 @@ pub cut_of_flush : (t : ℕ) (items : List ObservationData) (n : List (List ℕ)
     (best : Option ObservationData) → AreObservations items
     → IsBest (IsAbove (lasts t) Flush n) items best
     → IsCutAt items t n (record { moment = t; flushed = stamp_of best })
-cut_of_flush t items n best lawful is o one named = cut_tells t items n lawful o one named best is
+cut_of_flush t items n best lawful is o one named = cut_decides t items n lawful o one named best is
 
 -- what is not shown
 twice : (b : Bool) → b ≡ not (not b)
@@ -126,4 +126,4 @@ pub flush_shows : (t : ℕ) (items : List ObservationData) (n : List (List ℕ))
     → IsBest (IsAbove (lasts t) Flush n) items best → ShowsLiving (is_live items t) items n cut
 flush_shows t items n best cut lawful is top o there named =
     ap (λ (k : CutData). is_hidden k o) is
-    ∙ cut_tells t items n lawful o (lawful o there) named best top
+    ∙ cut_decides t items n lawful o (lawful o there) named best top

@@ -26,12 +26,12 @@ thinned_none lives items = record { live_still = refl; of_items = λ x h. h; siz
 shown_live : (lives hid : ObservationData → Bool) (s : List ObservationData)
     → ((x : ObservationData) → Has s x → hid x ≡ not (lives x))
     → filter lives (filter (λ x. not (hid x)) s) ≡ filter lives s
-shown_live lives hid [] told = refl
-shown_live lives hid (x ∷ s) told = elim (cases_Bool (lives x)) [
-  | inl e ↦ let f : hid x ≡ false = told x (inl refl) ∙ ap not e in
-      rw (f, e) (ap (λ v. x ∷ v) (shown_live lives hid s (λ y h. told y (inr h))))
-  | inr e ↦ let f : hid x ≡ true = told x (inl refl) ∙ ap not e in
-      rw (f, e) (shown_live lives hid s (λ y h. told y (inr h)))
+shown_live lives hid [] known = refl
+shown_live lives hid (x ∷ s) known = elim (cases_Bool (lives x)) [
+  | inl e ↦ let f : hid x ≡ false = known x (inl refl) ∙ ap not e in
+      rw (f, e) (ap (λ v. x ∷ v) (shown_live lives hid s (λ y h. known y (inr h))))
+  | inr e ↦ let f : hid x ≡ true = known x (inl refl) ∙ ap not e in
+      rw (f, e) (shown_live lives hid s (λ y h. known y (inr h)))
 ]
 
 module _ {K : Type 0} (octets : K → List ℕ) (words : List ℕ) (cut : CutData) where
@@ -42,14 +42,14 @@ module _ {K : Type 0} (octets : K → List ℕ) (words : List ℕ) (cut : CutDat
   Shows o = not (is_hidden cut o)
 
   -- what lives of a front of the key is what the cut shows
-  abbrev Tells : (ObservationData → Bool) → List ObservationData → Type 0
-  Tells lives items = (o : ObservationData) → Has items o → words_of o ≡ words
+  abbrev Decides : (ObservationData → Bool) → List ObservationData → Type 0
+  Decides lives items = (o : ObservationData) → Has items o → words_of o ≡ words
       → is_hidden cut o ≡ not (lives o)
 
   -- the slot d is e, or what is left of it
   pub record IsRest (e d : Slot) : Type 0 where
     pub key : d.0 ≡ e.0
-    pub thinned : (lives : ObservationData → Bool) → Tells lives e.1 → IsThinned lives e.1 d.1
+    pub thinned : (lives : ObservationData → Bool) → Decides lives e.1 → IsThinned lives e.1 d.1
     pub slot : IsSlot (octets e.0) e.1 → IsSlot (octets d.0) d.1
 
   -- slots, some of which have lost observations, without those that lost all
@@ -60,13 +60,13 @@ module _ {K : Type 0} (octets : K → List ℕ) (words : List ℕ) (cut : CutDat
       ⊎ ((new ≡ n) × (filter Shows e.1 ≡ []) × ((o : ObservationData) → Has e.1 o → words_of o ≡ words)))
 
   same : (e : Slot) → IsRest e e
-  same e = record { key = refl; thinned = λ lives told. thinned_none lives e.1; slot = λ s. s }
+  same e = record { key = refl; thinned = λ lives known. thinned_none lives e.1; slot = λ s. s }
 
   part_thinned : (f : List ObservationData)
       → ((o : ObservationData) → Has f o → words_of o ≡ words) → (lives : ObservationData → Bool)
-      → Tells lives f → IsThinned lives f (filter Shows f)
-  part_thinned f keyed lives told = record {
-    live_still = shown_live lives (is_hidden cut) f (λ x h. told x h (keyed x h));
+      → Decides lives f → IsThinned lives f (filter Shows f)
+  part_thinned f keyed lives known = record {
+    live_still = shown_live lives (is_hidden cut) f (λ x h. known x h (keyed x h));
     of_items = λ x h. (Has-filter Shows f x h).0;
     size = live_shorter Shows f;
   }
@@ -190,12 +190,12 @@ module _ {K : Type 0} (octets : K → List ℕ) (words : List ℕ) (cut : CutDat
   }
 
   pub trim_thinned : (es new : List Slot) → IsTrim es new → (lives : ObservationData → Bool)
-      → Tells lives (items_of es) → IsThinned lives (items_of es) (items_of new)
-  trim_thinned [] new t lives told = subst (λ v. IsThinned lives [] (items_of v)) (sym t)
+      → Decides lives (items_of es) → IsThinned lives (items_of es) (items_of new)
+  trim_thinned [] new t lives known = subst (λ v. IsThinned lives [] (items_of v)) (sym t)
       (thinned_none lives [])
-  trim_thinned (e ∷ es) new t lives told =
-      let first : Tells lives e.1 = λ o h. told o (has_left e.1 (items_of es) o h) in
-      let after : Tells lives (items_of es) = λ o h. told o (has_right e.1 (items_of es) o h) in
+  trim_thinned (e ∷ es) new t lives known =
+      let first : Decides lives e.1 = λ o h. known o (has_left e.1 (items_of es) o h) in
+      let after : Decides lives (items_of es) = λ o h. known o (has_right e.1 (items_of es) o h) in
       elim t.2 [
         | inl kept ↦ subst (λ v. IsThinned lives (e.1 ++ items_of es) (items_of v)) (sym kept.1)
             (both_thinned lives e.1 kept.0.1 (items_of es) (items_of t.0)

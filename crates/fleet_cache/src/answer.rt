@@ -94,7 +94,7 @@ fn target<A: Allocator>(observation: &Observation<A>) -> &[u8]
 /// The answer that ends with an observation.
 fn finish<'a, A: Allocator>(chain: Chain<'a, A>, last: Shown<'a, A>) -> Answer<'a, A>
     requires { AllSome chain.items }
-    ensures told { answer_data result
+    ensures answer { answer_data result
         ≡ add_links (shown_parts chain.entry.items) (by_kind last.entry) }
     ensures filled { AllSome (chain_of result) }
 {
@@ -115,7 +115,7 @@ pub(crate) fn follow<'a, A: Allocator>(
 ) -> Answer<'a, A>
     requires named { IsWire name.now }
     ensures filled { AllSome (chain_of result) }
-    ensures told { (n : Labels) → name.now ≡ wire n
+    ensures answer { (n : Labels) → name.now ≡ wire n
         → answer_data result ≡ answer_of held.now moment n rtype }
     ensures own { IsHeld held.now }
 {

@@ -239,7 +239,7 @@ impl<A: Allocator> Cache<A> {
     pub fn answer<B: Allocator>(&self, question: &Question<B>, moment: Moment) -> Answer<'_, A>
         ensures filled { AllSome (chain_of result) }
         ensures kinds { HasKinds (answer_data result) }
-        ensures told { (s : Observations) → IsCached s self.now.floor self.now.items
+        ensures answer { (s : Observations) → IsCached s self.now.floor self.now.items
             → answer_data result
             ≡ answer_of s (max self.now.floor moment) question.now.name question.now.rtype }
     {
@@ -250,7 +250,7 @@ impl<A: Allocator> Cache<A> {
     pub fn answer_lent(&self, question: &LentQuestion<'_>, moment: Moment) -> Answer<'_, A>
         ensures filled { AllSome (chain_of result) }
         ensures kinds { HasKinds (answer_data result) }
-        ensures told { (s : Observations) → IsCached s self.now.floor self.now.items
+        ensures answer { (s : Observations) → IsCached s self.now.floor self.now.items
             → answer_data result
             ≡ answer_of s (max self.now.floor moment) question.now.name question.now.rtype }
     {
@@ -262,11 +262,11 @@ impl<A: Allocator> Cache<A> {
         requires { IsWire name.now }
         ensures filled { AllSome (chain_of result) }
         ensures kinds { HasKinds (answer_data result) }
-        ensures told { (s : Observations) → IsCached s self.now.floor self.now.items
+        ensures answer { (s : Observations) → IsCached s self.now.floor self.now.items
             → (n : Labels) → name.now ≡ wire n
             → answer_data result ≡ answer_of s (max self.now.floor moment) n rtype }
     {
-        let at = later_of(self.floor, moment);
+        let at = self.floor.later(moment);
         follow(&self.held, name, rtype, at)
     }
 
@@ -315,16 +315,6 @@ impl<A: Allocator> Cache<A> {
     {
         is_past(&self.held, observation, self.floor)
     }
-}
-
-/// The later of two moments.
-fn later_of(one: Moment, other: Moment) -> Moment
-    ensures { result ≡ max one other }
-{
-    if one.value() < other.value() {
-        return other;
-    }
-    one
 }
 
 /// Whether both give the same items.

@@ -11,7 +11,9 @@ use std::marker::Model;
 /// the flushes of the name and of those above it, if there are any.
 #[derive(Drop)]
 pub struct Cut {
+    /// What ends by this moment is hidden.
     pub(crate) moment: Moment,
+    /// What is stamped by this moment is hidden, but for flushes.
     pub(crate) flushed: Option<Moment>,
 }
 

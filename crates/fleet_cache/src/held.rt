@@ -177,7 +177,7 @@ impl<A: Allocator> Held<A> {
         requires { IsWire name.now }
         ensures { result ≡ false → HasNone NameError (length name.now) self.now }
     {
-        self.denied.may_stand(name)
+        self.denied.has_length_of(name)
     }
 
     /// Whether a flush may be held of a name of as many octets.
@@ -186,14 +186,14 @@ impl<A: Allocator> Held<A> {
         ensures none { result ≡ false → HasNone Flush (length name.now) self.now }
         ensures own { IsHeld self.now }
     {
-        self.flushed.may_stand(name)
+        self.flushed.has_length_of(name)
     }
     /// Whether a name error may be held of a name of fewer octets.
     pub(crate) fn may_deny_above(&self, name: &[u8]) -> bool
         ensures none { result ≡ false → HasNoneShorter NameError (length name.now) self.now }
         ensures own { IsHeld self.now }
     {
-        self.denied.may_stand_above(name)
+        self.denied.has_shorter_than(name)
     }
 
     /// Whether a flush may be held of a name of fewer octets.
@@ -201,6 +201,6 @@ impl<A: Allocator> Held<A> {
         ensures none { result ≡ false → HasNoneShorter Flush (length name.now) self.now }
         ensures own { IsHeld self.now }
     {
-        self.flushed.may_stand_above(name)
+        self.flushed.has_shorter_than(name)
     }
 }

@@ -19,7 +19,9 @@ const LENGTHS: usize = LONGEST_NAME + 1;
 /// shorter length is noted. A length stays noted when its observations are gone.
 #[derive(Drop)]
 pub(crate) struct Noted {
+    /// Whether each length is noted.
     lengths: [bool; LENGTHS],
+    /// At most the least length that is noted.
     least: usize,
 }
 
@@ -56,7 +58,7 @@ impl Noted {
     }
 
     /// Whether an observation of a name with as many octets as this one was noted.
-    pub(crate) fn may_stand(&self, name: &[u8]) -> bool
+    pub(crate) fn has_length_of(&self, name: &[u8]) -> bool
         requires { length name.now ≤ LONGEST_NAME }
         ensures { result ≡ get_or self.now.lengths (length name.now) false }
     {
@@ -64,7 +66,7 @@ impl Noted {
     }
 
     /// Whether an observation of a name with fewer octets than this one was noted.
-    pub(crate) fn may_stand_above(&self, name: &[u8]) -> bool
+    pub(crate) fn has_shorter_than(&self, name: &[u8]) -> bool
         ensures { result ≡ nat_lt self.now.least (length name.now) }
     {
         self.least < name.len()

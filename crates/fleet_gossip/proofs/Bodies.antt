@@ -74,16 +74,16 @@ module _ (rtype : ℕ) where
   one_next_fault before octets f g h h' = one_sized_fault
       (λ rdata. AreFirstRdatas rtype (before ++ rdata ∷ [])) octets f g h h'
 
-  tells : (before : List (List ℕ)) (x y r s : List ℕ) → AreFirstRdatas rtype (before ++ x ∷ [])
+  exact : (before : List (List ℕ)) (x y r s : List ℕ) → AreFirstRdatas rtype (before ++ x ∷ [])
       → AreFirstRdatas rtype (before ++ y ∷ []) → octets_with_length x ++ r ≡ octets_with_length y
       ++ s → (x ≡ y) × (r ≡ s)
-  tells before x y r s l l' e = sized_exact x y r s e
+  exact before x y r s l l' e = sized_exact x y r s e
 
   rdatas_or_fault : (rdatas : List (List ℕ)) (rest octets : List ℕ) (f : FrameFault)
       → AreFirstRdatas rtype rdatas → octets ≡ flat_map octets_with_length rdatas ++ rest
       → RdatasFail rtype (length rdatas) octets f → ⊥
   rdatas_or_fault rdatas rest octets f l is (rdata_fails before r e l' few h) =
-      row_or_fault (List ℕ) octets_with_length (AreFirstRdatas rtype) (rdatas_front rtype) tells
+      row_or_fault (List ℕ) octets_with_length (AreFirstRdatas rtype) (rdatas_front rtype) exact
       (λ b. SizedFails (λ rdata. AreFirstRdatas rtype (b ++ rdata ∷ []))) next_or_fault before
       rdatas r rest f l' l (sym e ∙ is) few h
 
@@ -91,7 +91,7 @@ module _ (rtype : ℕ) where
       → RdatasFail rtype count octets f → RdatasFail rtype count octets g → f ≡ g
   one_rdatas_fault count octets f g (rdata_fails before r e l few h)
       (rdata_fails before' r' e' l' few' h') =
-      one_row_fault (List ℕ) octets_with_length (AreFirstRdatas rtype) (rdatas_front rtype) tells
+      one_row_fault (List ℕ) octets_with_length (AreFirstRdatas rtype) (rdatas_front rtype) exact
       (λ b. SizedFails (λ rdata. AreFirstRdatas rtype (b ++ rdata ∷ []))) next_or_fault
       one_next_fault before before' r r' f g l l' (sym e ∙ e') h h'
 
@@ -119,7 +119,7 @@ module _ (rtype : ℕ) where
       let h = u16_exact (length a) (length b) (flat_map octets_with_length a ++ r)
       (flat_map octets_with_length b ++ s) e in
       rdatas_same a b r s h.0 (align (List ℕ) octets_with_length (AreFirstRdatas rtype)
-      (rdatas_front rtype) tells a b r s (first_of a l) (first_of b l') h.1)
+      (rdatas_front rtype) exact a b r s (first_of a l) (first_of b l') h.1)
 
   pub positive_or_fault : (rdatas : List (List ℕ)) (rest octets : List ℕ) (f : FrameFault)
       → AreRdatas rtype rdatas → octets ≡ positive_body rdatas ++ rest

@@ -119,8 +119,8 @@ module _ (rtype count : ℕ) (octets left : List ℕ) (xs : List (List ℕ))
 
   pub next_refused : (d rest : List ℕ) → left ≡ octets_with_length d ++ rest
       → (AreFirstRdatas rtype (xs ++ d ∷ []) → ⊥) → RdatasFail rtype count octets BadBody
-  next_refused d rest stands unlike = rdata_fails xs left is first few
-      (behind (length d) (d ++ rest) stands tt (refused_octets d rest refl refl unlike refl))
+  next_refused d rest lies unlike = rdata_fails xs left is first few
+      (behind (length d) (d ++ rest) lies tt (refused_octets d rest refl refl unlike refl))
 
 -- the RDATAs that were read make the body of a positive observation
 pub positive_found : (rtype count long : ℕ) (octets middle rest : List ℕ)
@@ -152,29 +152,29 @@ positive_found rtype count long octets middle rest is counted first =
 -- the SOA of a negative body, behind its owner
 module _ (name : List (List ℕ)) (octets part left : List ℕ)
     (at : IsPart (IsOwnerOf name) octets part left) where
-  owner_stands : octets ≡ wire at.lawful.owner ++ left
-  owner_stands = at.whole ∙ ap (λ (x : List ℕ). x ++ left) at.lawful.whole
+  owner_lies : octets ≡ wire at.lawful.owner ++ left
+  owner_lies = at.whole ∙ ap (λ (x : List ℕ). x ++ left) at.lawful.whole
 
   pub soa_cut : (f : FrameFault) → SizedFails AnyRdata left f → NegativeFails name octets f
-  soa_cut f h = soa_fails at.lawful.owner left owner_stands at.lawful.named at.lawful.under
+  soa_cut f h = soa_fails at.lawful.owner left owner_lies at.lawful.named at.lawful.under
       (sized_any (IsPlain SOA) left f h)
 
   pub soa_refused : (d rest : List ℕ) → left ≡ octets_with_length d ++ rest → (IsPlain SOA d → ⊥)
       → NegativeFails name octets BadBody
-  soa_refused d rest stands unlike = soa_fails at.lawful.owner left owner_stands at.lawful.named
-      at.lawful.under (behind (length d) (d ++ rest) stands tt
+  soa_refused d rest lies unlike = soa_fails at.lawful.owner left owner_lies at.lawful.named
+      at.lawful.under (behind (length d) (d ++ rest) lies tt
       (refused_octets d rest refl refl unlike refl))
 
   pub negative_found : (d rest : List ℕ) (size : ℕ) → left ≡ octets_with_length d ++ rest
       → IsPlain SOA d → size ≡ length part + 2 + length d
       → IsSizeOf (IsNegativeBody name) octets size
-  negative_found d rest size stands plain n =
+  negative_found d rest size lies plain n =
       let owner = at.lawful.owner in
       record {
         part = negative_body owner d;
         rest = rest;
         is = record {
-          whole = owner_stands ∙ (ap (λ (x : List ℕ). wire owner ++ x) stands
+          whole = owner_lies ∙ (ap (λ (x : List ℕ). wire owner ++ x) lies
               ∙ sym (append_assoc (wire owner) (octets_with_length d) rest));
           lawful = record {
             owner = owner;

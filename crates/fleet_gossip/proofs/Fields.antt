@@ -55,14 +55,14 @@ module _ (spelled : ℕ → List ℕ) (size : ℕ) (Lawful : ℕ → Type 0) (re
         in one m r f g l h (behind_same m' m r' r g same.0 same.1 h')
 
 -- the fault of a number alone is that of it and what follows it
-pub field_told : (spelled : ℕ → List ℕ) (size : ℕ) (Lawful : ℕ → Type 0) (refusal : FrameFault)
+pub field_fault : (spelled : ℕ → List ℕ) (size : ℕ) (Lawful : ℕ → Type 0) (refusal : FrameFault)
     (Behind : ℕ → List ℕ → FrameFault → Type 0) (octets : List ℕ) (f : FrameFault)
     → NoField spelled size Lawful refusal octets f
     → FieldFails spelled size Lawful refusal Behind octets f
-field_told spelled size Lawful refusal Behind octets f (cut short e) = cut short e
-field_told spelled size Lawful refusal Behind octets f (refused n r is unlike e) =
+field_fault spelled size Lawful refusal Behind octets f (cut short e) = cut short e
+field_fault spelled size Lawful refusal Behind octets f (refused n r is unlike e) =
     refused n r is unlike e
-field_told spelled size Lawful refusal Behind octets f (behind n r is l h) = absurd h
+field_fault spelled size Lawful refusal Behind octets f (behind n r is l h) = absurd h
 
 module _ (Lawful : List ℕ → Type 0) (refusal : FrameFault) where
   pub octets_or_fault : (taken rest : List ℕ) (f : FrameFault) → Lawful taken

@@ -26,20 +26,20 @@ module _ (octets left : List ℕ) (n : ℕ) (is : octets ≡ u16_octets n ++ lef
     pub version_cut : (f : FrameFault) → AreMissing 1 left f → FrameFieldsFail octets f
     version_cut f h = behind n left is same (cut h.0 h.1)
 
-    module _ (v : ℕ) (rest : List ℕ) (stands : left ≡ octet v ++ rest) where
+    module _ (v : ℕ) (rest : List ℕ) (lies : left ≡ octet v ++ rest) where
       pub bad_version : (IsVersion v → ⊥) → FrameFieldsFail octets BadVersion
-      bad_version unlike = behind n left is same (refused v rest stands unlike refl)
+      bad_version unlike = behind n left is same (refused v rest lies unlike refl)
 
       module _ (one : IsVersion v) where
         pub count_cut : (f : FrameFault) → AreMissing 2 rest f → FrameFieldsFail octets f
-        count_cut f h = behind n left is same (behind v rest stands one (cut h.0 h.1))
+        count_cut f h = behind n left is same (behind v rest lies one (cut h.0 h.1))
 
         pub opening_read : (count : ℕ) (more : List ℕ) → rest ≡ u16_octets count ++ more
             → IsOpening octets v count more
         opening_read count more e = record {
           whole = is ∙ (ap (λ (k : ℕ). u16_octets k ++ left) same
               ∙ ap (λ (x : List ℕ). u16_octets MAGIC ++ x)
-              (stands ∙ ap (λ (x : List ℕ). octet v ++ x) e));
+              (lies ∙ ap (λ (x : List ℕ). octet v ++ x) e));
           read = one;
         }
 
@@ -57,20 +57,20 @@ pub entry_more : (octets left rest : List ℕ) (version count : ℕ) (list new :
     (o : ObservationData) → BeginsWithEntries octets version count list left → IsIn version o
     → left ≡ entry_octets o ++ rest → new ≡ list ++ o ∷ []
     → BeginsWithEntries octets version (count + 1) new rest
-entry_more octets left rest version count list new o are is stands e =
+entry_more octets left rest version count list new o are is lies e =
     subst (λ (x : List ObservationData). BeginsWithEntries octets version (count + 1) x rest) (sym e)
     (record {
-      whole = are.whole ∙ (ap (λ (x : List ℕ). entries list ++ x) stands
+      whole = are.whole ∙ (ap (λ (x : List ℕ). entries list ++ x) lies
           ∙ (sym (append_assoc (entries list) (entry_octets o) rest)
           ∙ ap (λ (x : List ℕ). x ++ rest) (sym (entries_push list o))));
       lawful = all_pushed (IsIn version) list o are.lawful is;
       counted = omega (arith, are.counted, length-append list (o ∷ []));
     })
 
-pub entry_told : (octets left : List ℕ) (version at count : ℕ) (list : List ObservationData)
+pub entry_fault : (octets left : List ℕ) (version at count : ℕ) (list : List ObservationData)
     (f : FrameFault) → BeginsWithEntries octets version at list left → at < count
     → EntryFails version left f → EntriesFail version count octets f
-entry_told octets left version at count list f are few h = entry_fails list left are.whole
+entry_fault octets left version at count list f are few h = entry_fails list left are.whole
     are.lawful
     (omega (arith, are.counted, few)) h
 
@@ -85,8 +85,8 @@ module _ (octets left : List ℕ) (version at : ℕ) (list : List ObservationDat
   trails unlike = more_octets list left are.whole are.lawful (are.counted ∙ all)
       (some_of left unlike) refl
 
-  pub all_stand : left ≡ [] → AreEntryOctets octets version count
-  all_stand none = record {
+  pub all_lie : left ≡ [] → AreEntryOctets octets version count
+  all_lie none = record {
     list = list;
     are = subst
         (λ (x : List ℕ). BeginsWithEntries octets version count list x) none
@@ -136,10 +136,10 @@ pub next_of : (version : ℕ) (left : List ObservationData) (octets : List ℕ) 
     (rest : List ℕ)
     → AreIn version left → octets ≡ entries left → 0 < length left → IsObservation o
     → octets ≡ entry_octets o ++ rest → IsNext left o rest
-next_of version [] octets o rest lawful whole some is stands = absurd (omega (arith, some))
-next_of version (p ∷ left) octets o rest lawful whole some is stands =
+next_of version [] octets o rest lawful whole some is lies = absurd (omega (arith, some))
+next_of version (p ∷ left) octets o rest lawful whole some is lies =
     let one = entry_exact p o (entry_of p (lawful p (inl refl)).0) (entry_of o is) (entries left)
-    rest (sym whole ∙ stands) in
+    rest (sym whole ∙ lies) in
     record {
       others = left;
       left_is = ap (λ (x : ObservationData). x ∷ left) one.0;

@@ -51,10 +51,10 @@ module _ (version : ℕ) where
       (subst (λ (xs : List ObservationData). Has xs x) (append_assoc before (o ∷ []) more)
       (has_left (before ++ o ∷ []) more x h))
 
-  tells : (before : List ObservationData) (o p : ObservationData) (r s : List ℕ)
+  exact : (before : List ObservationData) (o p : ObservationData) (r s : List ℕ)
       → AreIn version (before ++ o ∷ []) → AreIn version (before ++ p ∷ [])
       → entry_octets o ++ r ≡ entry_octets p ++ s → (o ≡ p) × (r ≡ s)
-  tells before o p r s l l' e = entry_exact o p
+  exact before o p r s l l' e = entry_exact o p
       (entry_of o (l o (has_right before (o ∷ []) o (inl refl))).0)
       (entry_of p (l' p (has_right before (p ∷ []) p (inl refl))).0) r s e
 
@@ -76,13 +76,13 @@ module _ (version : ℕ) where
   entries_exact : (a b : List ObservationData) (r s : List ℕ) → AreIn version a → AreIn version b
       → length a ≡ length b → entries a ++ r ≡ entries b ++ s → (a ≡ b) × (r ≡ s)
   entries_exact a b r s l l' n e = rows_same a b r s n
-      (align ObservationData entry_octets (AreIn version) lawful_one_more tells a b r s l l' e)
+      (align ObservationData entry_octets (AreIn version) lawful_one_more exact a b r s l l' e)
 
   entries_or_fault : (list : List ObservationData) (octets : List ℕ) (f : FrameFault)
       → AreIn version list → octets ≡ entries list ++ []
       → EntriesFail version (length list) octets f → ⊥
   entries_or_fault list octets f l is (entry_fails before r e l' few h) =
-      row_or_fault ObservationData entry_octets (AreIn version) lawful_one_more tells
+      row_or_fault ObservationData entry_octets (AreIn version) lawful_one_more exact
       (λ b. EntryFails version)
       next_or_fault before list r [] f l' l (sym e ∙ is) few h
   entries_or_fault list octets f l is (more_octets all r e l' n some e') =
@@ -91,15 +91,15 @@ module _ (version : ℕ) where
   one_entries_fault : (count : ℕ) (octets : List ℕ) (f g : FrameFault)
       → EntriesFail version count octets f → EntriesFail version count octets g → f ≡ g
   one_entries_fault count octets f g (entry_fails a r e l few h) (entry_fails b s e' l' few' h') =
-      one_row_fault ObservationData entry_octets (AreIn version) lawful_one_more tells
+      one_row_fault ObservationData entry_octets (AreIn version) lawful_one_more exact
       (λ x. EntryFails version) next_or_fault
       (λ x rest f' g' k k'. one_entry_fault version rest f' g' k k') a b r s f g l l' (sym e ∙ e')
       h h'
   one_entries_fault count octets f g (entry_fails a r e l few h) (more_octets b s e' l' n some is) =
-      absurd (row_or_fault ObservationData entry_octets (AreIn version) lawful_one_more tells
+      absurd (row_or_fault ObservationData entry_octets (AreIn version) lawful_one_more exact
       (λ x. EntryFails version) next_or_fault a b r s f l l' (sym e ∙ e') (omega (arith, few, n)) h)
   one_entries_fault count octets f g (more_octets b s e' l' n some is) (entry_fails a r e l few h) =
-      absurd (row_or_fault ObservationData entry_octets (AreIn version) lawful_one_more tells
+      absurd (row_or_fault ObservationData entry_octets (AreIn version) lawful_one_more exact
       (λ x. EntryFails version) next_or_fault a b r s g l l' (sym e ∙ e') (omega (arith, few, n)) h)
   one_entries_fault count octets f g (more_octets a r e l n some is)
       (more_octets b s e' l' n' some' is') = is ∙ sym is'

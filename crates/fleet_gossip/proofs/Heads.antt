@@ -44,13 +44,13 @@ behind_head version octets rest f head is h =
 module _ (version : ℕ) (octets named part typed : List ℕ) (head : Head)
     (is : IsHead version octets head named)
     (at : IsPart IsWire named part typed) where
-  name_stands : named ≡ wire at.lawful.name ++ typed
-  name_stands = at.whole ∙ ap (λ (x : List ℕ). x ++ typed) at.lawful.whole
+  name_lies : named ≡ wire at.lawful.name ++ typed
+  name_lies = at.whole ∙ ap (λ (x : List ℕ). x ++ typed) at.lawful.whole
 
   pub type_fails : (f : FrameFault) → TypeFails head.kind at.lawful.name typed f
       → EntryFails version octets f
   type_fails f h = behind_head version octets named f head is
-      (behind_name at.lawful.name typed name_stands at.lawful.named h)
+      (behind_name at.lawful.name typed name_lies at.lawful.named h)
 
   module _ (rest : List ℕ) (rtype : ℕ) (t : IsField u16_octets (IsTypeOf head.kind) typed rtype
       rest) where
@@ -87,7 +87,7 @@ module _ (version : ℕ) (octets named part typed : List ℕ) (head : Head)
       unfolding fact_read
       fact_whole =
           let tail : named ≡ wire at.lawful.name ++ (u16_octets rtype ++ (body ++ left)) =
-          name_stands ∙ ap (λ (x : List ℕ). wire at.lawful.name ++ x)
+          name_lies ∙ ap (λ (x : List ℕ). wire at.lawful.name ++ x)
           (t.whole ∙ ap (λ (x : List ℕ). u16_octets rtype ++ x) b.whole) in
           is.whole ∙ (ap (λ (x : List ℕ). octet (kind_number head.kind)
           ++ (octet head.rank ++ (u64_octets head.stamp ++ (u32_octets head.life ++ x)))) tail

@@ -42,9 +42,9 @@ pub record IsNext (left : List (List ℕ)) (rdata rest : List ℕ) : Type 0 wher
 pub next_of : (left : List (List ℕ)) (octets rdata rest : List ℕ)
     → octets ≡ flat_map octets_with_length left → 0 < length left
     → octets ≡ octets_with_length rdata ++ rest → IsNext left rdata rest
-next_of [] octets rdata rest whole some stands = absurd (omega (arith, some))
-next_of (x ∷ xs) octets rdata rest whole some stands =
-    let one = sized_exact x rdata (flat_map octets_with_length xs) rest (sym whole ∙ stands) in
+next_of [] octets rdata rest whole some lies = absurd (omega (arith, some))
+next_of (x ∷ xs) octets rdata rest whole some lies =
+    let one = sized_exact x rdata (flat_map octets_with_length xs) rest (sym whole ∙ lies) in
     record { behind = xs; left_is = ap (λ (y : List ℕ). y ∷ xs) one.0; rest_is = sym one.1 }
 
 pub body_next : (body : List ℕ) (made new left : List (List ℕ)) (copy rdata rest : List ℕ)
@@ -77,9 +77,9 @@ module _ (body : List ℕ) (is : IsSoaBody body) where
     pub soa_whole : (rdata left : List ℕ) (name : List (List ℕ)) (copy : List ℕ)
         → rest ≡ octets_with_length rdata ++ left → name ≡ at.lawful.name → copy ≡ rdata
         → body ≡ negative_body name copy
-    soa_whole rdata left name copy stands named copied =
+    soa_whole rdata left name copy lies named copied =
         let one = sized_exact is.rdata rdata [] left (append-nil (octets_with_length is.rdata)
-        ∙ (sym owner_same.1 ∙ stands)) in
+        ∙ (sym owner_same.1 ∙ lies)) in
         is.octets ∙ (ap (λ (x : List (List ℕ)). negative_body x is.rdata)
         (sym (named ∙ owner_same.0)) ∙ ap (λ (x : List ℕ). negative_body name x)
         (one.0 ∙ sym copied))
@@ -95,32 +95,32 @@ one_rdatas a b e =
     (ap (λ (x : List ℕ). x ++ []) h.1))).0
 
 -- the values of an entry make an observation
-module _ (entry : FrameEntry) (o : ObservationData) (tells : IsEntryOf entry o) where
+module _ (entry : FrameEntry) (o : ObservationData) (entry_is : IsEntryOf entry o) where
   pub records_lawful : entry.head.kind ≡ Positive → (rdatas : List (List ℕ))
       → entry.body.now ≡ positive_body rdatas → AreRdatas entry.rtype rdatas
   records_lawful kind rdatas is =
-      let p = tells.lawful.positive (tells.kind ∙ kind) in
-      let same = one_rdatas p.body.rdatas rdatas (sym p.body.octets ∙ (sym tells.body ∙ is)) in
-      subst (λ (n : ℕ). AreRdatas n rdatas) tells.rtype
+      let p = entry_is.lawful.positive (entry_is.kind ∙ kind) in
+      let same = one_rdatas p.body.rdatas rdatas (sym p.body.octets ∙ (sym entry_is.body ∙ is)) in
+      subst (λ (n : ℕ). AreRdatas n rdatas) entry_is.rtype
       (subst (λ (x : List (List ℕ)). AreRdatas o.rtype x) same p.body.lawful)
 
   pub records_made : entry.head.kind ≡ Positive → (rdatas : List (List ℕ))
       → entry.body.now ≡ positive_body rdatas → (f : ObservationFault)
       → IsPositiveFault entry.rtype entry.head.rank entry.head.life rdatas f → ⊥
-  records_made kind rdatas is f (bad_rank wrong told) =
-      wrong (subst (λ (n : ℕ). IsRank n) tells.rank tells.lawful.rank)
-  records_made kind rdatas is f (bad_life r wrong told) =
-      wrong (subst (λ (n : ℕ). IsLife LONGEST_LIFE n) tells.life tells.lawful.life)
-  records_made kind rdatas is f (bad_kind r l wrong told) =
-      wrong (subst (λ (n : ℕ). IsDataType n) tells.rtype
-      (tells.lawful.positive (tells.kind ∙ kind)).typed)
-  records_made kind rdatas is f (bad_body r l t wrong told) = wrong (records_lawful kind rdatas is)
+  records_made kind rdatas is f (bad_rank wrong fault_is) =
+      wrong (subst (λ (n : ℕ). IsRank n) entry_is.rank entry_is.lawful.rank)
+  records_made kind rdatas is f (bad_life r wrong fault_is) =
+      wrong (subst (λ (n : ℕ). IsLife LONGEST_LIFE n) entry_is.life entry_is.lawful.life)
+  records_made kind rdatas is f (bad_kind r l wrong fault_is) =
+      wrong (subst (λ (n : ℕ). IsDataType n) entry_is.rtype
+      (entry_is.lawful.positive (entry_is.kind ∙ kind)).typed)
+  records_made kind rdatas is f (bad_body r l t wrong fault_is) = wrong (records_lawful kind rdatas is)
 
   module _ (rtype : Option ℕ) (kind : entry.head.kind ≡ denied_kind rtype)
       (typed : entry.rtype ≡ denied_type rtype) where
     negative : (r : Option ℕ) → entry.head.kind ≡ denied_kind r → IsNegative o
-    negative None k = (tells.lawful.name_error (tells.kind ∙ k)).0
-    negative (Some r) k = (tells.lawful.no_data (tells.kind ∙ k)).0
+    negative None k = (entry_is.lawful.name_error (entry_is.kind ∙ k)).0
+    negative (Some r) k = (entry_is.lawful.no_data (entry_is.kind ∙ k)).0
 
     denial_of : IsNegative o
     denial_of = negative rtype kind
@@ -128,22 +128,22 @@ module _ (entry : FrameEntry) (o : ObservationData) (tells : IsEntryOf entry o) 
     type_of : (r : Option ℕ) → entry.head.kind ≡ denied_kind r → entry.rtype ≡ denied_type r
         → IsDeniedType r
     type_of None k t = tt
-    type_of (Some r) k t = subst (λ (n : ℕ). IsDataType n) (tells.rtype ∙ t)
-        (tells.lawful.no_data (tells.kind ∙ k)).1
+    type_of (Some r) k t = subst (λ (n : ℕ). IsDataType n) (entry_is.rtype ∙ t)
+        (entry_is.lawful.no_data (entry_is.kind ∙ k)).1
 
     pub denial_made : (name owner : List (List ℕ)) (rdata : List ℕ) → name ≡ o.name → IsName owner
         → entry.body.now ≡ negative_body owner rdata → (f : ObservationFault)
         → IsNegativeFault name rtype entry.head.rank entry.head.life owner rdata f → ⊥
-    denial_made name owner rdata named lawful is f (bad_rank wrong told) =
-        wrong (subst (λ (n : ℕ). IsDenialRank n) tells.rank denial_of.rank)
-    denial_made name owner rdata named lawful is f (bad_life r wrong told) =
-        wrong (subst (λ (n : ℕ). IsLife LONGEST_DENIAL n) tells.life denial_of.life)
-    denial_made name owner rdata named lawful is f (bad_kind r l wrong told) =
+    denial_made name owner rdata named lawful is f (bad_rank wrong fault_is) =
+        wrong (subst (λ (n : ℕ). IsDenialRank n) entry_is.rank denial_of.rank)
+    denial_made name owner rdata named lawful is f (bad_life r wrong fault_is) =
+        wrong (subst (λ (n : ℕ). IsLife LONGEST_DENIAL n) entry_is.life denial_of.life)
+    denial_made name owner rdata named lawful is f (bad_kind r l wrong fault_is) =
         wrong (type_of rtype kind typed)
-    denial_made name owner rdata named lawful is f (bad_body r l t wrong told) =
+    denial_made name owner rdata named lawful is f (bad_body r l t wrong fault_is) =
         let b = denial_of.body in
         let e : wire b.owner ++ octets_with_length b.rdata ≡ wire owner
-        ++ octets_with_length rdata = sym b.octets ∙ (sym tells.body ∙ is) in
+        ++ octets_with_length rdata = sym b.octets ∙ (sym entry_is.body ∙ is) in
         let one = name_exact b.owner owner (octets_with_length b.rdata) (octets_with_length rdata)
         b.lawful.named lawful e in
         let two = sized_exact b.rdata rdata [] [] (ap (λ (x : List ℕ). x ++ []) one.1) in

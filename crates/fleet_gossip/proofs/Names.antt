@@ -44,9 +44,9 @@ name_front before label more named =
       );
     }
 
-name_tells : (before : List (List ℕ)) (x y r s : List ℕ) → IsName (before ++ x ∷ [])
+label_exact : (before : List (List ℕ)) (x y r s : List ℕ) → IsName (before ++ x ∷ [])
     → IsName (before ++ y ∷ []) → label_octets x ++ r ≡ label_octets y ++ s → (x ≡ y) × (r ≡ s)
-name_tells before x y r s l l' e = frame_exact x y r s e
+label_exact before x y r s l l' e = frame_exact x y r s e
 
 -- a label of a name has room behind the others, and is in lower case
 pub label_room : (before : List (List ℕ)) (label : List ℕ) → IsName (before ++ label ∷ [])
@@ -66,7 +66,7 @@ no_label before label more rest other named e = let k : 0 ≡ length label = cc
 
 rows_of : (a b : List (List ℕ)) (r s : List ℕ) → IsName a → IsName b → flat_map label_octets a ++ r
     ≡ flat_map label_octets b ++ s → Aligned (List ℕ) label_octets a b r s
-rows_of a b r s named named' e = align (List ℕ) label_octets IsName name_front name_tells a b r s
+rows_of a b r s named named' e = align (List ℕ) label_octets IsName name_front label_exact a b r s
     named named' e
 
 name_same : (a b : List (List ℕ)) (r s : List ℕ) → IsName a → IsName b
@@ -130,5 +130,5 @@ module _ (refusal : FrameFault) where
   pub one_name_fault : (octets : List ℕ) (f g : FrameFault) → FrameNameFails refusal octets f
       → FrameNameFails refusal octets g → f ≡ g
   one_name_fault octets f g (label_fails before r e named h) (label_fails before' r' e' named' h') =
-      one_row_fault (List ℕ) label_octets IsName name_front name_tells (LabelFails refusal)
+      one_row_fault (List ℕ) label_octets IsName name_front label_exact (LabelFails refusal)
       label_or_fault one_label_fault before before' r r' f g named named' (sym e ∙ e') h h'

@@ -25,8 +25,10 @@ use std::alloc::{AllocError, Allocator};
 #[derive(Clone, Copy)]
 pub(crate) struct FrameEntry<'a> {
     pub head: Head,
+    /// The name, in full and in lower case.
     pub name: &'a [u8],
     pub rtype: u16,
+    /// The octets of the body.
     pub body: &'a [u8],
 }
 
@@ -109,7 +111,7 @@ fn copy_soa<A: Allocator + Copy>(alloc: A, body: &[u8]) -> Result<Soa<A>, AllocE
 impl FrameEntry<'_> {
     /// The observation of a positive entry.
     fn to_records<A: Allocator + Copy>(&self, alloc: A) -> Result<Observation<A>, AllocError>
-        requires tells { (o : ObservationData) × IsEntryOf self.now o }
+        requires entry { (o : ObservationData) × IsEntryOf self.now o }
         requires kind { self.now.head.kind ≡ Positive }
         ensures { IfOk result (λ made. (o : ObservationData) → IsEntryOf self.now o → made ≡ o) }
     {
@@ -130,7 +132,7 @@ impl FrameEntry<'_> {
         alloc: A,
         rtype: Option<u16>,
     ) -> Result<Observation<A>, AllocError>
-        requires tells { (o : ObservationData) × IsEntryOf self.now o }
+        requires entry { (o : ObservationData) × IsEntryOf self.now o }
         requires kind { self.now.head.kind ≡ denied_kind rtype }
         requires rtype { self.now.rtype ≡ denied_type rtype }
         ensures { IfOk result (λ made. (o : ObservationData) → IsEntryOf self.now o → made ≡ o) }
@@ -148,7 +150,7 @@ impl FrameEntry<'_> {
 
     /// The observation of a flush.
     fn to_flush<A: Allocator>(&self, alloc: A) -> Result<Observation<A>, AllocError>
-        requires tells { (o : ObservationData) × IsEntryOf self.now o }
+        requires entry { (o : ObservationData) × IsEntryOf self.now o }
         requires kind { self.now.head.kind ≡ Flush }
         ensures { IfOk result (λ made. (o : ObservationData) → IsEntryOf self.now o → made ≡ o) }
     {

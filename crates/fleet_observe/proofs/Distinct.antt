@@ -9,7 +9,7 @@ use Rattle.fleet_observe.specs.RrSet.{RrSetData}
 use Rattle.fleet_observe.specs.Walk.{last, IsWalk, AreLinks}
 use Rattle.fleet_observe.specs.Soa.{SoaData}
 use Rattle.fleet_observe.specs.Digest.{EndData, WithRecords, WithoutData, WithoutName, WithCode, CutOff, DigestData, denied_by}
-use Rattle.fleet_observe.specs.DigestOf.{Tells, IsNs, AreOwners, owners_of, IsAuthority, IsDigest}
+use Rattle.fleet_observe.specs.DigestOf.{EndsAs, IsNs, AreOwners, owners_of, IsAuthority, IsDigest}
 use Rattle.fleet_observe.specs.Observations.{living_observation, set_observation, soa_observation, positive_observations, denial_observations, answer_rank, denial_rank, link_observations, end_observations, ns_observations, reply_observations}
 use Rattle.fleet_name.proofs.Lemmas.{has_left, has_right, has_either}
 use Rattle.fleet_observe.proofs.Walks.{walk_is}
@@ -200,7 +200,7 @@ no_link_at_end s t n later chain w links h =
     omega arith
 
 -- the owners of the links of a reply
-chain_distinct : (r : MessageData) (chain : List RrSetData) (e : EndData) → Tells r chain e
+chain_distinct : (r : MessageData) (chain : List RrSetData) (e : EndData) → EndsAs r chain e
     → AllDistinct (owners_of chain)
 chain_distinct r chain (WithRecords x) t = owners_of_links r.answer r.question.rtype
     r.question.name t.later chain t.walk t.links
@@ -218,7 +218,7 @@ kinds_apart a b e less three = let same = ap kind_number (e ∙ three) in omega 
 
 -- no link's observation is that of the end
 end_apart : (r : MessageData) (d : DigestData) (stamp : ℕ) (e : EndData) (o : ObservationData)
-    → Tells r d.chain e → OfLink d.chain o → ¬ Has (end_observations d stamp e) o
+    → EndsAs r d.chain e → OfLink d.chain o → ¬ Has (end_observations d stamp e) o
 end_apart r d stamp (WithRecords x) o t link h =
     let named = sym (ap (λ (f : ObservationData). f.name)
     (positive_is x (answer_rank d.aa d.name x.name) stamp o h)) ∙ t.end_is.name in
@@ -295,11 +295,11 @@ observed_distinct r d stamp m =
     let links = link_observations d.aa d.name stamp d.chain in
     let end = end_observations d stamp d.end in let ns = ns_observations stamp d.ns in
     distinct_append links (end ++ ns)
-    (link_distinct d.aa d.name stamp d.chain (chain_distinct r d.chain d.end m.tells))
+    (link_distinct d.aa d.name stamp d.chain (chain_distinct r d.chain d.end m.ends_as))
     (distinct_append end ns (end_distinct d stamp d.end)
     (ns_distinct stamp d.ns (authority_distinct r d.ns m.authority))
     (λ o h k. end_not_two d stamp d.end o h (ns_is stamp d.ns o k).1))
     (λ o h k. elim (has_either end ns o k) [
-      | inl a ↦ end_apart r d stamp d.end o m.tells (link_is d.aa d.name stamp d.chain o h) a
+      | inl a ↦ end_apart r d stamp d.end o m.ends_as (link_is d.aa d.name stamp d.chain o h) a
       | inr b ↦ (link_is d.aa d.name stamp d.chain o h).rank (ns_is stamp d.ns o b).1
     ])

@@ -19,7 +19,7 @@ use Rattle.fleet_observe.proofs.Spelling.{plain_alias}
 use Rattle.fleet_wire.specs.declared.rtype.TheConstants.{CNAME}
 use Rattle.fleet_observe.specs.declared.bounds.TheConstants.{LATEST, LONGEST_BODY, LONGEST_DENIAL, LONGEST_LIFE}
 use Rattle.fleet_observe.specs.declared.observation.kind.Kind.{Kind}
-use Rattle.fleet_observe.specs.declared.observation.kind.Kind.TheVariants.{NameError, NoData, Positive}
+use Rattle.fleet_observe.specs.declared.observation.kind.Kind.TheVariants.{NameError, NoData}
 
 living_is : (f : ObservationData) → ¬ (f.life ≡ 0) → living_observation f ≡ f ∷ []
 living_is f some = let a : nat_eq f.life 0 ≡ false = grind (arith, nat_tests) in rw a refl
@@ -35,12 +35,6 @@ fitting_is f fits = let a : nat_lt LONGEST_BODY (length f.body) ≡ false =
 oversize_is : (f : ObservationData) → LONGEST_BODY < length f.body → fitting_observation f ≡ []
 oversize_is f over = let a : nat_lt LONGEST_BODY (length f.body) ≡ true =
     grind (arith, nat_tests) in rw a refl
-
-lifeless_fitting : (f : ObservationData) → f.life ≡ 0 → fitting_observation f ≡ []
-lifeless_fitting f none = elim (cases_Bool (nat_lt LONGEST_BODY (length f.body))) [
-  | inl k ↦ rw k refl
-  | inr k ↦ rw k (lifeless_is f none)
-]
 
 -- an RRset's observation is kept where it can be made
 pub positive_kept : (x : RrSetData) (rank stamp : ℕ) → 1 ≤ x.ttl
@@ -73,11 +67,11 @@ negative_kept kind n t rank stamp x some = living_is (soa_observation kind n t r
 pub negative_made : (fault : ObservationFault) (n : List (List ℕ)) (rtype : Option ℕ) (rank : ℕ)
     (x : SoaData) → 1 ≤ x.ttl → IsLawfulSoa n x → IsDenialRank rank → IsDeniedType rtype
     → ¬ IsNegativeFault n rtype rank x.ttl x.owner x.rdata fault
-negative_made fault n rtype rank x some is ranked typed (bad_rank wrong told) = wrong ranked
-negative_made fault n rtype rank x some is ranked typed (bad_life r wrong told) =
+negative_made fault n rtype rank x some is ranked typed (bad_rank wrong fault_is) = wrong ranked
+negative_made fault n rtype rank x some is ranked typed (bad_life r wrong fault_is) =
     wrong (some, is.ttl)
-negative_made fault n rtype rank x some is ranked typed (bad_kind r l wrong told) = wrong typed
-negative_made fault n rtype rank x some is ranked typed (bad_body r l t wrong told) =
+negative_made fault n rtype rank x some is ranked typed (bad_kind r l wrong fault_is) = wrong typed
+negative_made fault n rtype rank x some is ranked typed (bad_body r l t wrong fault_is) =
     wrong (record { named = is.owner; under = is.under; plain = is.plain })
 
 pub link_observations-push : (aa : Bool) (q : List (List ℕ)) (stamp : ℕ) (xs : List RrSetData)

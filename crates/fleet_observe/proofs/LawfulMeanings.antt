@@ -16,7 +16,7 @@ use Rattle.fleet_observe.specs.Walk.{IsPath, AreLinks, last, Ends, EndsFound}
 use Rattle.fleet_observe.specs.steps.Following.{ArePlainRecords}
 use Rattle.fleet_observe.specs.Soa.{SoaData}
 use Rattle.fleet_observe.specs.Digest.{EndData, WithRecords, WithoutData, WithoutName, WithCode, CutOff, DigestData, target_of, denied_by, IsLawfulSet, IsLawfulLink, IsLawfulSoa, IsLawfulEnd, IsLawful}
-use Rattle.fleet_observe.specs.DigestOf.{IsSoaOf, TellsWalk, IsEnd, Tells, IsDigest, IsAuthority, IsServed, AsksWalk}
+use Rattle.fleet_observe.specs.DigestOf.{IsSoaOf, WalkEndsAs, IsEnd, EndsAs, IsDigest, IsAuthority, IsServed, AsksWalk}
 use Rattle.fleet_observe.proofs.Sets.{read_bound}
 use Rattle.fleet_observe.proofs.Soas.{first_member}
 use Rattle.fleet_name.proofs.Lemmas.{labels_of-wire}
@@ -164,7 +164,7 @@ record IsLawfulWalk (n : List (List ℕ)) (chain : List RrSetData) (e : EndData)
   end_is : IsLawfulEnd (denied_by n chain) e
 
 walk_lawful : (r : MessageData) (chain : List RrSetData) (e : EndData) → IsRead r
-    → TellsWalk r chain e → IsLawfulWalk r.question.name chain e
+    → WalkEndsAs r chain e → IsLawfulWalk r.question.name chain e
 walk_lawful r chain e read t =
     let plain = all_plain r.answer read.answer in let path = t.walk.path in
     let denied = denied_is r.answer r.question.rtype r.question.name t.later chain path t.links in
@@ -179,17 +179,17 @@ walk_lawful r chain e read t =
 none_in : (chain : List RrSetData) → chain ≡ [] → (x : RrSetData) → Has chain x → IsLawfulLink x
 none_in chain e x h = let nowhere = rw e at h in absurd nowhere
 
-tells_lawful : (r : MessageData) (chain : List RrSetData) (e : EndData) → IsRead r
-    → Tells r chain e → IsLawfulWalk r.question.name chain e
-tells_lawful r chain (WithRecords x) read t = walk_lawful r chain (WithRecords x) read t
-tells_lawful r chain (WithoutData x) read t = walk_lawful r chain (WithoutData x) read t
-tells_lawful r chain (WithoutName x) read t = walk_lawful r chain (WithoutName x) read t
-tells_lawful r chain (WithCode c) read t = record {
+ends_lawful : (r : MessageData) (chain : List RrSetData) (e : EndData) → IsRead r
+    → EndsAs r chain e → IsLawfulWalk r.question.name chain e
+ends_lawful r chain (WithRecords x) read t = walk_lawful r chain (WithRecords x) read t
+ends_lawful r chain (WithoutData x) read t = walk_lawful r chain (WithoutData x) read t
+ends_lawful r chain (WithoutName x) read t = walk_lawful r chain (WithoutName x) read t
+ends_lawful r chain (WithCode c) read t = record {
   chain_is = none_in chain t.4;
   short = rw t.4 (omega arith);
   end_is = rw t.3 read.header.rcode;
 }
-tells_lawful r chain CutOff read t = record {
+ends_lawful r chain CutOff read t = record {
   chain_is = none_in chain t.1;
   short = rw t.1 (omega arith);
   end_is = tt;
@@ -204,19 +204,19 @@ ns_lawful r sets read (inl a) x h = set_lawful r.authority x.name 2 x
     (all_plain r.authority read.authority) (a.1.each x h) (λ e. absurd (apart e))
 ns_lawful r sets read (inr a) x h = let nowhere = rw a.1 at h in absurd nowhere
 
-pub tells_by_walk : (r : MessageData) (chain : List RrSetData) (e : EndData) → TellsWalk r chain e
-    → Tells r chain e
-tells_by_walk r chain (WithRecords x) t = t
-tells_by_walk r chain (WithoutData x) t = t
-tells_by_walk r chain (WithoutName x) t = t
-tells_by_walk r chain (WithCode x) t = absurd t.end_is
-tells_by_walk r chain CutOff t = absurd t.end_is
+pub ends_by_walk : (r : MessageData) (chain : List RrSetData) (e : EndData) → WalkEndsAs r chain e
+    → EndsAs r chain e
+ends_by_walk r chain (WithRecords x) t = t
+ends_by_walk r chain (WithoutData x) t = t
+ends_by_walk r chain (WithoutName x) t = t
+ends_by_walk r chain (WithCode x) t = absurd t.end_is
+ends_by_walk r chain CutOff t = absurd t.end_is
 
 -- what a reply means that asks for no walk
 pub meaning_without_walk : (r : MessageData) (name : List (List ℕ)) (rtype : ℕ) (aa : Bool)
     (chain : List RrSetData) (e : EndData) (ns : List RrSetData) → IsServed r
     → name ≡ r.question.name → rtype ≡ r.question.rtype → aa ≡ r.header.aa
-    → chain ≡ [] → Tells r [] e → ¬ AsksWalk r → ns ≡ []
+    → chain ≡ [] → EndsAs r [] e → ¬ AsksWalk r → ns ≡ []
     → IsDigest r (record {
       name = name;
       rtype = rtype;
@@ -225,12 +225,12 @@ pub meaning_without_walk : (r : MessageData) (name : List (List ℕ)) (rtype : �
       end = e;
       ns = ns;
     })
-meaning_without_walk r name rtype aa chain e ns served one two three none tells idle bare = record {
+meaning_without_walk r name rtype aa chain e ns served one two three none ends_as idle bare = record {
   served = served;
   name = one;
   rtype = two;
   aa = three;
-  tells = rw none tells;
+  ends_as = rw none ends_as;
   authority = inr ((λ h. idle (record { whole = h.whole; code = inl h.code })), bare);
 }
 
@@ -238,7 +238,7 @@ meaning_without_walk r name rtype aa chain e ns served one two three none tells 
 pub meaning_along_walk : (r : MessageData) (name : List (List ℕ)) (rtype : ℕ) (aa : Bool)
     (chain : List RrSetData) (e : EndData) (ns : List RrSetData) → IsServed r
     → name ≡ r.question.name → rtype ≡ r.question.rtype → aa ≡ r.header.aa
-    → TellsWalk r chain e → IsAuthority r ns
+    → WalkEndsAs r chain e → IsAuthority r ns
     → IsDigest r (record {
       name = name;
       rtype = rtype;
@@ -247,18 +247,18 @@ pub meaning_along_walk : (r : MessageData) (name : List (List ℕ)) (rtype : ℕ
       end = e;
       ns = ns;
     })
-meaning_along_walk r name rtype aa chain e ns served one two three tells authority = record {
+meaning_along_walk r name rtype aa chain e ns served one two three ends_as authority = record {
   served = served;
   name = one;
   rtype = two;
   aa = three;
-  tells = tells_by_walk r chain e tells;
+  ends_as = ends_by_walk r chain e ends_as;
   authority = authority;
 }
 
 pub lawful_meaning : (r : MessageData) (d : DigestData) → IsRead r → IsDigest r d → IsLawful d
 lawful_meaning r d read is =
-    let w = tells_lawful r d.chain d.end read is.tells in
+    let w = ends_lawful r d.chain d.end read is.ends_as in
     record {
       name = rw is.name read.question.named;
       typed = rw is.rtype is.served.typed;

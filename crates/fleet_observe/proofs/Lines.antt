@@ -5,13 +5,10 @@ use Rattle.fleet_wire.specs.Record.{RecordData}
 use Rattle.fleet_wire.specs.Outline.{OutlineData, line}
 use Rattle.fleet_observe.specs.RrSet.{RrSetData}
 use Rattle.fleet_observe.specs.Digest.{EndData, WithRecords, WithoutData, WithoutName, WithCode, CutOff, IsLawfulEnd}
-use Rattle.fleet_observe.specs.Relay.{code_of, set_lines, chain_lines, with_answer_lines, with_authority_lines, with_end}
+use Rattle.fleet_observe.specs.Relay.{code_of, set_lines, chain_lines, with_answer_lines}
 
 pub no_answers : (o : OutlineData) → with_answer_lines o [] ≡ o
 no_answers o = rw (append-nil o.answer) refl
-
-pub no_authorities : (o : OutlineData) → with_authority_lines o [] ≡ o
-no_authorities o = rw (append-nil o.authority) refl
 
 pub more_answers : (o : OutlineData) (a b : List RecordData)
     → with_answer_lines (with_answer_lines o a) b ≡ with_answer_lines o (a ++ b)
@@ -29,10 +26,6 @@ pub chain_lines-push : (xs : List RrSetData) (x : RrSetData)
 chain_lines-push [] x = append-nil (set_lines x)
 chain_lines-push (y ∷ xs) x = ap (λ (t : List RecordData). set_lines y ++ t)
     (chain_lines-push xs x) ∙ sym (append_assoc (set_lines y) (chain_lines xs) (set_lines x))
-
-pub end_of_records : (o : OutlineData) (x : RrSetData)
-    → with_end o (WithRecords x) ≡ with_answer_lines o (set_lines x)
-end_of_records o x = rw (append-nil o.authority) refl
 
 abbrev pub sketch_with : ℕ → ℕ → ℕ → Bool → Bool → Option QuestionData → List RecordData
     → List RecordData → OutlineData

@@ -12,7 +12,7 @@ use Rattle.fleet_observe.specs.RrSet.{RrSetData, IsRrSet}
 use Rattle.fleet_observe.specs.Walk.{AreLinks, last}
 use Rattle.fleet_observe.specs.Soa.{SoaData}
 use Rattle.fleet_observe.specs.Digest.{EndData, WithRecords, WithoutData, WithoutName, WithCode, CutOff, DigestData}
-use Rattle.fleet_observe.specs.DigestOf.{IsSoa, IsSoaOf, IsEnd, TellsWalk, Tells, IsNs, IsRepeated, AreOwners, owners_of, IsAuthority, IsDigest}
+use Rattle.fleet_observe.specs.DigestOf.{IsSoa, IsSoaOf, IsEnd, WalkEndsAs, EndsAs, IsNs, IsRepeated, AreOwners, owners_of, IsAuthority, IsDigest}
 use Rattle.fleet_observe.proofs.Soas.{one_first}
 use Rattle.fleet_observe.proofs.Walks.{walk_is}
 use Rattle.fleet_observe.proofs.LawfulMeanings.{not_below_itself, set_some}
@@ -120,40 +120,40 @@ one_end r n (WithoutData x) (WithoutName y) p q = absurd (codes_apart r.header.r
 one_end r n (WithoutName x) (WithoutData y) p q = absurd (codes_apart r.header.rcode q.1 p.1)
 
 -- the three ways in which a reply ends
-data Telling (r : MessageData) (chain : List RrSetData) (e : EndData) : Type 0 where
-  walks : TellsWalk r chain e → Telling r chain e
+data Ending (r : MessageData) (chain : List RrSetData) (e : EndData) : Type 0 where
+  walks : WalkEndsAs r chain e → Ending r chain e
   refuses : (r.header.tc ≡ false) → (¬ (r.header.rcode ≡ 0)) → (¬ (r.header.rcode ≡ 3))
-      → e ≡ WithCode r.header.rcode → chain ≡ [] → Telling r chain e
-  cuts : (r.header.tc ≡ true) → e ≡ CutOff → chain ≡ [] → Telling r chain e
+      → e ≡ WithCode r.header.rcode → chain ≡ [] → Ending r chain e
+  cuts : (r.header.tc ≡ true) → e ≡ CutOff → chain ≡ [] → Ending r chain e
 
-telling : (r : MessageData) (chain : List RrSetData) (e : EndData) → Tells r chain e
-    → Telling r chain e
-telling r chain (WithRecords x) t = walks t
-telling r chain (WithoutData x) t = walks t
-telling r chain (WithoutName x) t = walks t
-telling r chain (WithCode c) t = refuses t.0 t.1 t.2 (ap (λ (z : ℕ). WithCode z) t.3) t.4
-telling r chain CutOff t = cuts t.0 refl t.1
+ending_of : (r : MessageData) (chain : List RrSetData) (e : EndData) → EndsAs r chain e
+    → Ending r chain e
+ending_of r chain (WithRecords x) t = walks t
+ending_of r chain (WithoutData x) t = walks t
+ending_of r chain (WithoutName x) t = walks t
+ending_of r chain (WithCode c) t = refuses t.0 t.1 t.2 (ap (λ (z : ℕ). WithCode z) t.3) t.4
+ending_of r chain CutOff t = cuts t.0 refl t.1
 
-walks_refused : (r : MessageData) (chain : List RrSetData) (e : EndData) → TellsWalk r chain e
+walks_refused : (r : MessageData) (chain : List RrSetData) (e : EndData) → WalkEndsAs r chain e
     → ¬ (r.header.rcode ≡ 0) → ¬ (r.header.rcode ≡ 3) → ⊥
 walks_refused r chain e t one two = elim t.asks.code [ inl k ↦ one k | inr k ↦ two k ]
 
-one_telling : (r : MessageData) (a b : List RrSetData) (x y : EndData) → Telling r a x
-    → Telling r b y → (a ≡ b) × (x ≡ y)
-one_telling r a b x y (walks p) (walks q) =
+one_ending : (r : MessageData) (a b : List RrSetData) (x y : EndData) → Ending r a x
+    → Ending r b y → (a ≡ b) × (x ≡ y)
+one_ending r a b x y (walks p) (walks q) =
     let same : q.later ≡ p.later = walk_is r.answer r.question.rtype r.question.name p.later
     q.later p.walk.path p.walk.ends q.walk in (
       one_chain r.answer r.question.name p.later a b p.links (rw same at q.links),
       one_end r (last r.question.name p.later) x y p.end_is (rw same at q.end_is),
     )
-one_telling r a b x y (walks p) (refuses c d e f g) = absurd (walks_refused r a x p d e)
-one_telling r a b x y (walks p) (cuts c d e) = absurd (false≢true (sym p.asks.whole ∙ c))
-one_telling r a b x y (refuses c d e f g) (walks q) = absurd (walks_refused r b y q d e)
-one_telling r a b x y (refuses c d e f g) (refuses c' d' e' f' g') = (g ∙ sym g', f ∙ sym f')
-one_telling r a b x y (refuses c d e f g) (cuts c' d' e') = absurd (false≢true (sym c ∙ c'))
-one_telling r a b x y (cuts c d e) (walks q) = absurd (false≢true (sym q.asks.whole ∙ c))
-one_telling r a b x y (cuts c d e) (refuses c' d' e' f' g') = absurd (false≢true (sym c' ∙ c))
-one_telling r a b x y (cuts c d e) (cuts c' d' e') = (e ∙ sym e', d ∙ sym d')
+one_ending r a b x y (walks p) (refuses c d e f g) = absurd (walks_refused r a x p d e)
+one_ending r a b x y (walks p) (cuts c d e) = absurd (false≢true (sym p.asks.whole ∙ c))
+one_ending r a b x y (refuses c d e f g) (walks q) = absurd (walks_refused r b y q d e)
+one_ending r a b x y (refuses c d e f g) (refuses c' d' e' f' g') = (g ∙ sym g', f ∙ sym f')
+one_ending r a b x y (refuses c d e f g) (cuts c' d' e') = absurd (false≢true (sym c ∙ c'))
+one_ending r a b x y (cuts c d e) (walks q) = absurd (false≢true (sym q.asks.whole ∙ c))
+one_ending r a b x y (cuts c d e) (refuses c' d' e' f' g') = absurd (false≢true (sym c' ∙ c))
+one_ending r a b x y (cuts c d e) (cuts c' d' e') = (e ∙ sym e', d ∙ sym d')
 
 passed_or_new : (q : List (List ℕ)) (before : List RecordData) (r : RecordData) → IsNs q r
     → ¬ IsRepeated q before r → ¬ ((¬ IsNs q r) ⊎ IsRepeated q before r)
@@ -203,8 +203,8 @@ digest_with name rtype aa chain e ns = record {
 pub meaning_is : (r : MessageData) (a b : DigestData) → IsDigest r a → IsDigest r b → a ≡ b
 unfolding digest_with
 meaning_is r a b p q =
-    let tells = one_telling r a.chain b.chain a.end b.end (telling r a.chain a.end p.tells)
-    (telling r b.chain b.end q.tells) in
+    let ends_as = one_ending r a.chain b.chain a.end b.end (ending_of r a.chain a.end p.ends_as)
+    (ending_of r b.chain b.end q.ends_as) in
     let ns = one_authority r a.ns b.ns p.authority q.authority in
     let same : digest_with a.name a.rtype a.aa a.chain a.end a.ns ≡ digest_with b.name b.rtype b.aa
     b.chain b.end b.ns = rw (
@@ -214,8 +214,8 @@ meaning_is r a b p q =
       q.rtype,
       p.aa,
       q.aa,
-      tells.0,
-      tells.1,
+      ends_as.0,
+      ends_as.1,
       ns,
     ) refl in
     same

@@ -1,10 +1,8 @@
 -- What more records of a section change.
-use Rattle.std.proofs.Common.{◌≡◌, ℕ, ◌⊎◌, inl, inr, List, [], ◌∷◌, ◌++◌, take, drop, ap, sym, ◌∙◌, refl, subst, Bool, true, false, not}
-use mathlib.Core.Bool.{false≢true}
+use Rattle.std.proofs.Common.{◌≡◌, ℕ, ◌⊎◌, inl, inr, List, [], ◌∷◌, ◌++◌, take, drop, ap, sym, ◌∙◌, refl, subst}
 use Rattle.std.proofs.lemmas.List.{take-append-drop}
 use Rattle.fleet_name.proofs.Lemmas.{has_left, has_right}
 use Rattle.fleet_wire.specs.Record.{RecordData}
-use Rattle.fleet_observe.specs.Members.{Has}
 use Rattle.fleet_observe.specs.RrSet.{Belongs, InSet, IsEmpty, IsOnly}
 use Rattle.fleet_observe.specs.steps.Following.{IsOf}
 use Rattle.fleet_observe.proofs.Lists.{has_push}
@@ -36,9 +34,6 @@ in_cases s n t r d h = elim (has_push s r h.carrier h.member) [
     ap (λ (x : RecordData). x.rdata) e ∙ h.rdata,
   )
 ]
-
-pub empty_none : (n : List (List ℕ)) (t : ℕ) → IsEmpty [] n t
-empty_none n t d h = h.member
 
 pub empty_more : (s : List RecordData) (n : List (List ℕ)) (t : ℕ) (r : RecordData) → IsEmpty s n t
     → ¬ Belongs n t r → IsEmpty (s ++ r ∷ []) n t

@@ -1,5 +1,5 @@
 -- RDATAs in ascending order, and TTLs.
-use Rattle.std.proofs.Common.{◌≡◌, ℕ, suc, zero, ◌≤◌, ◌⊎◌, inl, inr, Bool, true, false, if◌then◌else◌, min, nat_le, List, [], ◌∷◌, ◌++◌, ap, sym, ◌∙◌, refl, arith, subst}
+use Rattle.std.proofs.Common.{◌≡◌, ℕ, suc, zero, ◌≤◌, ◌⊎◌, inl, inr, true, false, if◌then◌else◌, min, nat_le, List, [], ◌∷◌, ◌++◌, ap, sym, ◌∙◌, refl, arith, subst}
 use mathlib.Core.Bool.{false≢true}
 use Rattle.std.specs.List.{insert}
 use Rattle.std.specs.declared.cmp.Ordering.{Ordering}
@@ -145,9 +145,6 @@ pub record IsLeast (s : List RecordData) (n : List (List ℕ)) (t least : ℕ) :
   pub under : (r : RecordData) → Has s r → Belongs n t r → least ≤ read_ttl r.ttl
   pub found : (least ≡ LONGEST_LIFE) ⊎ ((r : RecordData) × Has s r × Belongs n t r
       × (least ≡ read_ttl r.ttl))
-
-pub least_none : (n : List (List ℕ)) (t : ℕ) → IsLeast [] n t LONGEST_LIFE
-least_none n t = record { bound = omega arith; under = λ r h b. absurd h; found = inl refl }
 
 pub least_kept : (s : List RecordData) (n : List (List ℕ)) (t : ℕ) (r : RecordData) (least : ℕ)
     → IsLeast s n t least → ¬ Belongs n t r → IsLeast (s ++ r ∷ []) n t least

@@ -93,19 +93,19 @@ pub record IsReached (s : List RecordData) (t : ℕ) (n : List (List ℕ)) (coun
   pub before : List (List (List ℕ))
   pub path : IsPath s t n before
   pub counted : length before ≡ count
-  pub stands : at ≡ last n before
+  pub at_last : at ≡ last n before
 
 pub reached_none : (s : List RecordData) (t : ℕ) (n : List (List ℕ)) → IsReached s t n 0 n
-reached_none s t n = record { before = []; path = tt; counted = refl; stands = refl }
+reached_none s t n = record { before = []; path = tt; counted = refl; at_last = refl }
 
 pub reached_more : (s : List RecordData) (t : ℕ) (n : List (List ℕ)) (count : ℕ)
     (at m : List (List ℕ)) → IsReached s t n count at → GoesOn s t at m
     → IsReached s t n (count + 1) m
 reached_more s t n count at m r on = record {
   before = r.before ++ m ∷ [];
-  path = path_more s t n m r.before r.path (rw r.stands at on);
+  path = path_more s t n m r.before r.path (rw r.at_last at on);
   counted = rw length-append (omega (arith, r.counted));
-  stands = sym (last_more n m r.before);
+  at_last = sym (last_more n m r.before);
 }
 
 pub reached_end : (s : List RecordData) (t : ℕ) (n : List (List ℕ)) (count : ℕ)
@@ -115,14 +115,14 @@ reached_end s t n count at r short e = (
   r.before,
   record {
     path = r.path;
-    ends = rw r.stands at e;
+    ends = rw r.at_last at e;
     short = omega (arith, r.counted);
   },
 )
 
 pub reached_fork : (s : List RecordData) (t : ℕ) (n : List (List ℕ)) (count : ℕ)
     (at : List (List ℕ)) → IsReached s t n count at → IsFork s t at → ¬ HasWalk s t n
-reached_fork s t n count at r f = fork_stops s t n r.before r.path (rw r.stands at f)
+reached_fork s t n count at r f = fork_stops s t n r.before r.path (rw r.at_last at f)
 
 pub reached_long : (s : List RecordData) (t : ℕ) (n : List (List ℕ)) (count : ℕ)
     (at : List (List ℕ)) → IsReached s t n count at → MOST_LINKS < count → ¬ HasWalk s t n
@@ -134,10 +134,10 @@ pub record IsLinked (s : List RecordData) (t : ℕ) (n : List (List ℕ)) (chain
   pub later : List (List (List ℕ))
   pub path : IsPath s t n later
   pub links : AreLinks s n later chain
-  pub stands : at ≡ last n later
+  pub at_last : at ≡ last n later
 
 pub linked_none : (s : List RecordData) (t : ℕ) (n : List (List ℕ)) → IsLinked s t n [] n
-linked_none s t n = record { later = []; path = tt; links = tt; stands = refl }
+linked_none s t n = record { later = []; path = tt; links = tt; at_last = refl }
 
 links_more : (s : List RecordData) (n m : List (List ℕ)) (later : List (List (List ℕ)))
     (chain : List RrSetData) (x : RrSetData) → AreLinks s n later chain
@@ -152,9 +152,9 @@ pub linked_more : (s : List RecordData) (t : ℕ) (n at m : List (List ℕ)) (ch
     → IsLinked s t n (chain ++ x ∷ []) m
 linked_more s t n at m chain x h on is = record {
   later = h.later ++ m ∷ [];
-  path = path_more s t n m h.later h.path (rw h.stands at on);
-  links = links_more s n m h.later chain x h.links (rw h.stands at is);
-  stands = sym (last_more n m h.later);
+  path = path_more s t n m h.later h.path (rw h.at_last at on);
+  links = links_more s n m h.later chain x h.links (rw h.at_last at is);
+  at_last = sym (last_more n m h.later);
 }
 
 pub links_length : (s : List RecordData) (n : List (List ℕ)) (later : List (List (List ℕ)))
@@ -168,7 +168,7 @@ links_length s n (l ∷ later) (y ∷ ys) h = ap suc (links_length s l later ys 
 pub linked_room : (s : List RecordData) (t : ℕ) (n at m : List (List ℕ)) (chain : List RrSetData)
     → IsLinked s t n chain at → GoesOn s t at m → HasWalk s t n → length chain < MOST_LINKS
 linked_room s t n at m chain h on w =
-    let p = path_more s t n m h.later h.path (rw h.stands at on) in
+    let p = path_more s t n m h.later h.path (rw h.at_last at on) in
     let r = path_begins s t n (h.later ++ m ∷ []) w.0 p w.1.path w.1.ends in
     let k = ap length r.1 in let a = length-append (h.later ++ m ∷ []) r.0 in
     let b = length-append h.later (m ∷ []) in let short = w.1.short in
@@ -182,10 +182,10 @@ pub linked_whole : (s : List RecordData) (t : ℕ) (n at : List (List ℕ)) (cha
     × (at ≡ last n later)
 linked_whole s t n at chain h stops w =
     let r = path_begins s t n h.later w.0 h.path w.1.path w.1.ends in
-    let nil : r.0 ≡ [] = stopped (last n h.later) r.0 (λ m on. stops m (rw h.stands on)) r.2 in
+    let nil : r.0 ≡ [] = stopped (last n h.later) r.0 (λ m on. stops m (rw h.at_last on)) r.2 in
     let same : w.0 ≡ h.later = r.1 ∙ (ap (λ (xs : List (List (List ℕ))). h.later ++ xs) nil
     ∙ append-nil h.later) in
-    (h.later, subst (λ (x : List (List (List ℕ))). IsWalk s t n x) same w.1, h.links, h.stands)
+    (h.later, subst (λ (x : List (List (List ℕ))). IsWalk s t n x) same w.1, h.links, h.at_last)
   where
     stopped : (x : List (List ℕ)) (rest : List (List (List ℕ)))
         → ((m : List (List ℕ)) → ¬ GoesOn s t x m) → IsPath s t x rest → rest ≡ []

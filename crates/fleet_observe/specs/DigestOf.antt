@@ -95,7 +95,7 @@ IsEnd r n (WithCode c) = ⊥
 IsEnd r n CutOff = ⊥
 
 -- the chain and the end of a reply with a walk
-pub record TellsWalk (r : MessageData) (chain : List RrSetData) (e : EndData) : Type 0 where
+pub record WalkEndsAs (r : MessageData) (chain : List RrSetData) (e : EndData) : Type 0 where
   pub asks : AsksWalk r
   pub later : List Labels
   pub walk : IsWalk r.answer r.question.rtype r.question.name later
@@ -103,13 +103,13 @@ pub record TellsWalk (r : MessageData) (chain : List RrSetData) (e : EndData) : 
   pub end_is : IsEnd r (last r.question.name later) e
 
 -- the chain and the end of a reply
-abbrev pub Tells : MessageData → List RrSetData → EndData → Type 0
-Tells r chain CutOff = (r.header.tc ≡ true) × (chain ≡ [])
-Tells r chain (WithCode c) = (r.header.tc ≡ false) × (¬ (r.header.rcode ≡ NO_ERROR))
+abbrev pub EndsAs : MessageData → List RrSetData → EndData → Type 0
+EndsAs r chain CutOff = (r.header.tc ≡ true) × (chain ≡ [])
+EndsAs r chain (WithCode c) = (r.header.tc ≡ false) × (¬ (r.header.rcode ≡ NO_ERROR))
     × (¬ (r.header.rcode ≡ NAME_ERROR)) × (c ≡ r.header.rcode) × (chain ≡ [])
-Tells r chain (WithRecords x) = TellsWalk r chain (WithRecords x)
-Tells r chain (WithoutData soa) = TellsWalk r chain (WithoutData soa)
-Tells r chain (WithoutName soa) = TellsWalk r chain (WithoutName soa)
+EndsAs r chain (WithRecords x) = WalkEndsAs r chain (WithRecords x)
+EndsAs r chain (WithoutData soa) = WalkEndsAs r chain (WithoutData soa)
+EndsAs r chain (WithoutName soa) = WalkEndsAs r chain (WithoutName soa)
 
 -- an authority NS record at the question's name or an ancestor of it
 pub record IsNs (q : Labels) (r : RecordData) : Type 0 where
@@ -162,7 +162,7 @@ pub record IsDigest (r : MessageData) (d : DigestData) : Type 0 where
   pub name : d.name ≡ r.question.name
   pub rtype : d.rtype ≡ r.question.rtype
   pub aa : d.aa ≡ r.header.aa
-  pub tells : Tells r d.chain d.end
+  pub ends_as : EndsAs r d.chain d.end
   pub authority : IsAuthority r d.ns
 
 -- nothing is wrong with a reply that has a digest, so it has no fault but out of memory

@@ -27,7 +27,7 @@ impl<T, A: Allocator> Items<T, A> {
         Items { items }
     }
 
-    /// One item; where there is no memory, it comes back.
+    /// One item; it comes back where the allocation fails.
     pub fn of_one(alloc: A, item: T) -> Result<Items<T, A>, AllocFailed<T>>
         ensures { MatchResult result (λ x. x ≡ item ∷ []) (λ f. f.value ≡ item) }
     {
@@ -63,7 +63,7 @@ impl<T, A: Allocator> Items<T, A> {
         self.items.len()
     }
 
-    /// Adds an item after the others; where there is no memory, it comes back.
+    /// Adds an item after the others; it comes back where the allocation fails.
     pub fn push(&mut self, item: T) -> Result<(), AllocFailed<T>>
         ensures ok { OnOk result (self.new ≡ self.old ++ item ∷ []) }
         ensures err { OnErr result (self.new ≡ self.old) }

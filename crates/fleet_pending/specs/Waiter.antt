@@ -2,7 +2,7 @@
 -- Serves every call of `Pending`.
 use Rattle.std.specs.Prelude.{◌≡◌, ℕ, List}
 use Rattle.fleet_wire.specs.Question.{QuestionData}
-use Rattle.fleet_pending.specs.declared.waiter.Addr.{Addr}
+use Rattle.fleet_pending.specs.declared.addr.Addr.{Addr}
 use Rattle.fleet_name.specs.Places.{At}
 
 pub record WaiterData : Type 0 where

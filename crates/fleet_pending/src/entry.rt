@@ -44,7 +44,8 @@ impl<A: Allocator> Model for Entry<A> {
     } };
 }
 
-/// An entry for one waiter, and the first upstream.
+/// An entry with one waiter, which asks the first upstream from the moment on. `Err` hands the waiter
+/// back where an allocation fails.
 pub(crate) fn make_entry<A: Allocator + Copy>(
     alloc: A,
     waiter: Waiter<A>,

@@ -4,6 +4,7 @@
 //! for a new entry or a new waiter.
 #![tactic(auto)]
 
+mod addr;
 mod answer;
 pub mod bounds;
 mod entry;
@@ -13,6 +14,7 @@ mod search;
 mod waiter;
 mod waiters;
 
+pub use addr::Addr;
 pub use answer::{Asked, Due, PendingFault, Unasked};
 pub use entry::Entry;
 pub use laws::{
@@ -20,5 +22,5 @@ pub use laws::{
     waiters_kept, waiters_stay,
 };
 pub use pending::Pending;
-pub use waiter::{Addr, Waiter};
+pub use waiter::Waiter;
 pub use waiters::Waiters;

@@ -53,16 +53,26 @@ impl<A: Allocator> Pending<A> {
         }
     }
 
-    /// A waiter asks, at a moment; `word` is where the search for an id begins. The question's
-    /// class is not looked at: where each question was of one class, so is each waiter's
+    /// A waiter asks at a moment. The search for a free id begins at `word`. The question's class
+    /// is not looked at: where each question was of one class, so is each waiter's
     /// (`waiters_stay`).
     ///
-    /// An entry with the same name and type, where the same address waits under the same id:
-    /// `Again`; where 32 others wait: `WaitersFull`; else `Joined`. No such entry: where 256 are
-    /// open, `Full`; else a new one at the first upstream, whose time is over 2 seconds later, with
-    /// the first id that no entry has, from `word` upwards modulo 65536: `Send`. Where an
-    /// allocation for a new entry or waiter fails: `OutOfMemory`. A fault changes nothing, and
-    /// hands the waiter back.
+    /// Where an entry has the name and the type:
+    ///
+    /// - `Again`: the same address waits under the same id.
+    /// - `WaitersFull`: 32 others wait.
+    /// - `Joined`: else.
+    ///
+    /// Where none has:
+    ///
+    /// - `Full`: 256 are open.
+    /// - `Send`: else. The new entry asks the first upstream, and its time is over 2 seconds later.
+    ///   Its id is the first that no entry has, from `word` upwards modulo 65536.
+    ///
+    /// # Errors
+    ///
+    /// `WaitersFull`, `Full`, and `OutOfMemory` where the allocation for a new entry or waiter
+    /// fails. Each changes nothing, and hands the waiter back.
     pub fn ask(&mut self, waiter: Waiter<A>, moment: Moment, word: u16) -> Result<Asked, Unasked<A>>
     where
         A: Copy,
@@ -140,9 +150,10 @@ impl<A: Allocator> Pending<A> {
         self.entries.clear();
     }
 
-    /// What is to be done first at a moment: of the entries whose deadline is not after it, the one
-    /// with the least deadline, and of those the one with the least id, is to be asked of the next
-    /// upstream, or has failed after the last.
+    /// What is to be done first at a moment; `None` where no entry is due. An entry is due where its
+    /// deadline is not after the moment. The one with the least deadline comes first, and of these
+    /// the one with the least id. It is to be asked of the next upstream, or has failed after the
+    /// last.
     pub fn due(&self, moment: Moment) -> Option<Due<'_, A>>
         ensures dues { Dues self.now moment result }
         ensures is_open { IfSome result (λ d. IsEntryData (due_entry d)) }

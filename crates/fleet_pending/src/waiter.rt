@@ -1,17 +1,9 @@
 //! Who waits for an answer.
 
+use crate::addr::Addr;
 use fleet_wire::Question;
 use std::alloc::{Allocator, Global};
 use std::marker::Model;
-
-/// The source or the destination of a UDP datagram.
-#[derive(Clone, Copy, Debug, PartialEq, Eq, PartialOrd, Ord)]
-pub struct Addr {
-    /// The address (IPv4), its first octet highest.
-    pub host: u32,
-    /// The port (UDP).
-    pub port: u16,
-}
 
 /// A client that waits for the answer to a question.
 #[derive(Drop)]

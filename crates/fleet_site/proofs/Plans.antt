@@ -14,7 +14,7 @@ use Rattle.fleet_pending.specs.PendingData.{EntryData, PendingData, IsPendingDat
 use Rattle.fleet_pending.specs.Settled.{SettlesItsEntry}
 use Rattle.fleet_pending.specs.declared.answer.Due.{Due}
 use Rattle.fleet_pending.specs.declared.answer.Due.TheVariants.{Retry, Failed}
-use Rattle.fleet_pending.specs.declared.waiter.Addr.{Addr}
+use Rattle.fleet_pending.specs.declared.addr.Addr.{Addr}
 use Rattle.fleet_site.specs.OutcomeData.{OutcomeData, nothing, packet_to}
 use Rattle.fleet_site.specs.steps.Plan.{IsRetry, IsFailure, SaysMore}
 use Rattle.fleet_site.specs.SiteModel.{says_only}

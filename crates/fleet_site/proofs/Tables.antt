@@ -8,7 +8,7 @@ use Rattle.fleet_pending.specs.PendingData.{EntryData, PendingData, IsPendingDat
 use Rattle.fleet_name.specs.Places.{At}
 use Rattle.fleet_pending.specs.Settled.{SettlesItsEntry}
 use Rattle.fleet_pending.specs.Waiting.{IsWaiting}
-use Rattle.fleet_pending.specs.declared.waiter.Addr.{Addr}
+use Rattle.fleet_pending.specs.declared.addr.Addr.{Addr}
 use Rattle.fleet_site.specs.Table.{IsTableOf, KeepsTable, IsOfClassOne, AskClassOne}
 
 -- where nobody else waits than before

@@ -2,7 +2,7 @@
 -- Serves `Config::new`.
 use Rattle.std.specs.Prelude.{◌≡◌, ℕ, ◌≤◌, List, ◌++◌, length}
 use Rattle.fleet_pending.specs.declared.bounds.TheConstants.{MOST_UPSTREAMS}
-use Rattle.fleet_pending.specs.declared.waiter.Addr.{Addr}
+use Rattle.fleet_pending.specs.declared.addr.Addr.{Addr}
 use Rattle.fleet_site.specs.declared.bounds.TheConstants.{MOST_PEERS}
 use Rattle.fleet_name.specs.Places.{At, NoTwo}
 

@@ -1,7 +1,7 @@
 -- Octets that are sent.
 -- Serves every call of `Site` that sends.
 use Rattle.fleet_name.specs.Types.{OctetList}
-use Rattle.fleet_pending.specs.declared.waiter.Addr.{Addr}
+use Rattle.fleet_pending.specs.declared.addr.Addr.{Addr}
 
 -- octets, and where they go
 pub record PacketData : Type 0 where

@@ -6,7 +6,7 @@ use Rattle.fleet_pending.specs.Waiter.{WaiterData}
 use Rattle.fleet_pending.specs.PendingData.{EntryData, PendingData, IsPendingData}
 use Rattle.fleet_name.specs.Places.{At}
 use Rattle.fleet_pending.specs.Waiting.{IsWaiting}
-use Rattle.fleet_pending.specs.declared.waiter.Addr.{Addr}
+use Rattle.fleet_pending.specs.declared.addr.Addr.{Addr}
 
 -- so did all who wait
 abbrev pub AskClassOne : PendingData → Type 0

@@ -1,12 +1,12 @@
 //! What a step of a site gives.
 
-ghost use Rattle.std.specs.Prelude.{◌≡◌, [], ◌∷◌, IfOk, map, length};
+ghost use Rattle.std.specs.Prelude.{◌≡◌, IfOk};
 ghost use Rattle.fleet_site.specs.OutcomeData.{nothing, sends};
 ghost use Rattle.fleet_site.specs.declared.outcome.SiteFault.TheVariants.{OutOfMemory};
 
 use fleet_gossip::FrameFault;
 use fleet_name::Octets;
-use fleet_observe::DigestFault;
+use fleet_observe::{DigestFault, Items};
 use fleet_pending::Addr;
 use fleet_wire::ReadFault;
 use std::alloc::{AllocError, Allocator, Global};
@@ -30,84 +30,11 @@ impl<A: Allocator> Model for Packet<A> {
     ghost view = { λ p. record { to = p.to; octets = p.bytes } };
 }
 
-/// Packets in order, seen by contracts as the list of what they are.
-#[derive(Drop)]
-pub struct Packets<A: Allocator = Global> {
-    items: Vec<Packet<A>, A>,
-}
+/// Packets in order.
+pub type Packets<A = Global> = Items<Packet<A>, A>;
 
-impl<A: Allocator> Model for Packets<A> {
-    ghost use Rattle.std.specs.Prelude.{List};
-    ghost use Rattle.fleet_site.specs.PacketData.{PacketData};
-
-    ghost Value = { List PacketData };
-
-    ghost view = { λ p. p.items.items };
-}
-
-impl<A: Allocator> Packets<A> {
-    /// The packets of a vector, in its order.
-    pub fn new(items: Vec<Packet<A>, A>) -> Packets<A>
-        ensures { result ≡ items.items }
-    {
-        Packets { items }
-    }
-
-    /// The packets, in their order.
-    pub fn as_slice(&self) -> &[Packet<A>]
-        ensures value { result.now ≡ self.now }
-        ensures len { length result.now ≡ length self.now }
-    {
-        self.items.as_slice()
-    }
-
-    /// One packet.
-    fn of_one(alloc: A, to: Addr, bytes: Octets<A>) -> Result<Packets<A>, AllocError>
-        ensures { IfOk result (λ p. p ≡ record { to = to; octets = bytes } ∷ []) }
-    {
-        let mut items = Vec::with_capacity(alloc, 1)?;
-        items.push_reserved(Packet { to, bytes });
-        Ok(Packets { items })
-    }
-}
-
-/// Frames in order, seen by contracts as the list of their octets.
-#[derive(Drop)]
-pub struct Frames<A: Allocator = Global> {
-    items: Vec<Octets<A>, A>,
-}
-
-impl<A: Allocator> Model for Frames<A> {
-    ghost use Rattle.std.specs.Prelude.{ℕ, List};
-
-    ghost Value = { List (List ℕ) };
-
-    ghost view = { λ f. f.items.items };
-}
-
-impl<A: Allocator> Frames<A> {
-    /// The frames of a vector, in its order.
-    pub fn new(items: Vec<Octets<A>, A>) -> Frames<A>
-        ensures { result ≡ items.items }
-    {
-        Frames { items }
-    }
-
-    /// The frames, in their order.
-    pub fn as_slice(&self) -> &[Octets<A>]
-        ensures { result.now ≡ self.now }
-    {
-        &self.items
-    }
-
-    /// The frames as the vector that holds them.
-    pub fn into_vec(self) -> Vec<Octets<A>, A>
-        ensures { result.items ≡ self }
-    {
-        let Frames { items } = self;
-        items
-    }
-}
+/// Frames in order, each by its octets.
+pub type Frames<A = Global> = Items<Octets<A>, A>;
 
 /// Why a site did no more: nothing but its clock has changed. Want of memory is no refusal.
 #[derive(Clone, Copy, Debug, PartialEq, Eq, Error)]
@@ -200,7 +127,7 @@ impl<A: Allocator + Copy> Outcome<A> {
         ensures { IfOk result (λ o. o
             ≡ record (sends to bytes) { refused = refused }) }
     {
-        let packets = Packets::of_one(alloc, to, bytes)?;
+        let packets = Packets::of_one(alloc, Packet { to, bytes })?;
         Ok(Outcome::with_packets(alloc, packets, 0, refused))
     }
 

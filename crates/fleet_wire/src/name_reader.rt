@@ -15,8 +15,11 @@ use std::alloc::{AllocError, Allocator};
 
 /// What is at a place of a message where a label may begin.
 pub(crate) enum Step<'a> {
+    /// The zero octet that ends a name.
     End,
+    /// A label, its length octet left out.
     Label(&'a [u8]),
+    /// A pointer to this place (RFC 1035 4.1.4).
     Pointer(usize),
 }
 

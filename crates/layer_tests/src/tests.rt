@@ -16,6 +16,7 @@ mod flushes;
 mod frames;
 mod fronts;
 mod in_place;
+mod items;
 mod made;
 mod messages;
 mod names;

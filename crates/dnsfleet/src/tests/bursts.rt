@@ -187,11 +187,7 @@ fn count_arrived(socket: &UdpSocket) -> Result<usize, Fail> {
 }
 
 /// Sends twenty frames.
-fn send_frames(
-    alloc: Global,
-    port: &mut UdpPort<'_, HostRuntime>,
-    to: Addr,
-) -> Result<(), Fail> {
+fn send_frames(alloc: Global, port: &mut UdpPort<'_, HostRuntime>, to: Addr) -> Result<(), Fail> {
     let frame = marked(alloc, b'f', FRAME)?;
     for _ in 0..20u32 {
         port.send(to, &frame)?;

@@ -356,7 +356,13 @@ fn check_now(
 fn check_latest(rt: &impl Abort, set: &Set, clock: &mut SystemClock<'_, Set>) {
     let latest = 1 << 40;
     check_now(rt, set, clock, Some(Duration::from_secs(latest)), latest);
-    check_now(rt, set, clock, Some(Duration::from_secs(latest + 1)), latest);
+    check_now(
+        rt,
+        set,
+        clock,
+        Some(Duration::from_secs(latest + 1)),
+        latest,
+    );
     check_now(rt, set, clock, None, latest);
     check_now(rt, set, clock, Some(Duration::MAX), latest);
 }

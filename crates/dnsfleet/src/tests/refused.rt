@@ -336,12 +336,7 @@ fn after_others(alloc: Global, count: u8, transcript: &str) -> Result<String, Fa
 }
 
 /// Does the lines of the example that shows this so.
-fn refuse_example(
-    rt: &impl Abort,
-    alloc: Global,
-    shows: &str,
-    met: &mut Met,
-) -> Result<(), Fail> {
+fn refuse_example(rt: &impl Abort, alloc: Global, shows: &str, met: &mut Met) -> Result<(), Fail> {
     let transcript = example_of(alloc, shows)?.spelled(alloc)?;
     refuse_each(rt, alloc, transcript.as_str(), met)
 }

@@ -2,8 +2,8 @@
 
 mod staged;
 
-use super::settings::loopback;
 use super::captured::Captured;
+use super::settings::loopback;
 use crate::serve::{ConfigurationFault, Words, print_report, serve_settings, settings_at};
 use crate::{Settings, SettingsFault, UdpPort, end_run, program, read_settings, run};
 use fleet_site::Report;
@@ -19,11 +19,19 @@ const KEY: &str = "000102030405060708090a0b0c0d0e0f101112131415161718191A1B1C1D1
 /// The status that a run ends with, and what was printed on standard output and on standard error.
 fn end(captured: Captured, ran: io::Result<ExitCode>) -> (ExitCode, String, String) {
     let code = end_run(&captured, ran);
-    (code, captured.output.into_inner(), captured.errors.into_inner())
+    (
+        code,
+        captured.output.into_inner(),
+        captured.errors.into_inner(),
+    )
 }
 
 /// Runs the program with words, and gives the status with what was printed.
-fn run_captured(rt: &HostRuntime, captured: Captured, words: &str) -> Result<(ExitCode, String, String), Fail> {
+fn run_captured(
+    rt: &HostRuntime,
+    captured: Captured,
+    words: &str,
+) -> Result<(ExitCode, String, String), Fail> {
     let mut list = Vec::new(rt.alloc());
     for word in words.split(' ') {
         list.push(word.to_string(rt.alloc())?)?;
@@ -228,7 +236,12 @@ fn check_configuration(
 ) -> Result<(), Fail> {
     let wanted = format!(in rt.alloc(); "dnsfleet: config: {text}\n")?;
     let captured = Captured::new(rt.alloc());
-    check_run(stop, serve_captured(rt, captured, Err(fault)), 1, wanted.as_str());
+    check_run(
+        stop,
+        serve_captured(rt, captured, Err(fault)),
+        1,
+        wanted.as_str(),
+    );
     Ok(())
 }
 

@@ -144,7 +144,7 @@ pub record AreEntryOctets (octets : OctetList) (version count : ℕ) : Type 0 wh
 pub record IsFrameOfEntries (frame : OctetList) (version count : ℕ) (octets : OctetList) : Type 0 where
   pub opened : IsOpening frame version count octets
   pub fits : length frame ≤ LONGEST_FRAME
-  pub stand : AreEntryOctets octets version count
+  pub are_entries : AreEntryOctets octets version count
 
 -- the frame of these observations has `size` octets, which fit
 pub record FitsFrame (list : Observations) (size : ℕ) : Type 0 where

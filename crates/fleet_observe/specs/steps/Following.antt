@@ -52,7 +52,7 @@ pub record IsFollowed {A : Type 0} (s : List RecordData) (t : RType) (n : Labels
   pub later : List Labels
   pub walk : IsWalk s t n later
   pub links : AreLinks s n later f.chain.items
-  pub stands : labels_of f.at.now ≡ last n later
+  pub at_last : labels_of f.at.now ≡ last n later
   pub spelled : SpellsName f.at.now
 
 -- each record of the section is plain

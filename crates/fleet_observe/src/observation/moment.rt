@@ -1,6 +1,6 @@
 //! Moments in whole seconds.
 
-ghost use Rattle.std.specs.Prelude.{◌≡◌, ◌≤◌};
+ghost use Rattle.std.specs.Prelude.{◌≡◌, ◌≤◌, max};
 ghost use Rattle.std.specs.Option.{SomeIff};
 ghost use Rattle.fleet_observe.specs.declared.bounds.TheConstants.{LATEST};
 
@@ -43,5 +43,15 @@ impl Moment {
         ensures bounded { result ≤ LATEST }
     {
         self.seconds
+    }
+
+    /// The later of this moment and the other.
+    pub fn later(self, other: Moment) -> Moment
+        ensures { result ≡ max self other }
+    {
+        if self.seconds < other.seconds {
+            return other;
+        }
+        self
     }
 }

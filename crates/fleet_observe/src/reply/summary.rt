@@ -7,7 +7,7 @@ ghost use Rattle.fleet_observe.specs.RrSet.{SpellsName};
 ghost use Rattle.fleet_observe.specs.Walk.{HasWalk, Ends};
 ghost use Rattle.fleet_observe.specs.steps.Following.{ArePlainRecords, IsFollowed};
 ghost use Rattle.fleet_observe.specs.Digest.{end_data, IsLawful};
-ghost use Rattle.fleet_observe.specs.DigestOf.{IsServed, IsDigest, IsEnd, Tells, AsksWalk, IsWalkable};
+ghost use Rattle.fleet_observe.specs.DigestOf.{IsServed, IsDigest, IsEnd, EndsAs, AsksWalk, IsWalkable};
 
 use crate::reply::authority::authority_sets;
 use crate::reply::denial::soa_for;
@@ -173,7 +173,7 @@ pub(crate) fn digest_without_walk<A: Allocator + Copy>(
 ) -> Digest<A>
     requires served { IsServed message.now }
     requires named { name ≡ message.now.question.name }
-    requires tells { Tells message.now [] (end_data end) }
+    requires ends_as { EndsAs message.now [] (end_data end) }
     requires idle { ¬ AsksWalk message.now }
     ensures { IsDigest message.now result }
 {

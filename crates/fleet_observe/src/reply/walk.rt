@@ -15,17 +15,24 @@ use std::alloc::Allocator;
 /// What the walk finds of an RRset: its first record, where there is one.
 #[derive(Drop)]
 pub(crate) enum Found<'a, A: Allocator> {
+    /// There is no record of it.
     Nothing,
+    /// Its records have one RDATA.
     One(&'a Record<A>),
+    /// Its records have several RDATAs.
     Several(&'a Record<A>),
 }
 
 /// What the walk does at a name: with a record of the RRset that decides it.
 #[derive(Drop)]
 pub(crate) enum Step<'a, A: Allocator> {
+    /// It ends with records of the type.
     Records(&'a Record<A>),
+    /// It goes on to the target of this alias.
     Alias(&'a Record<A>),
+    /// It ends without records.
     Bare,
+    /// There are several aliases, so there is no walk.
     Fork,
 }
 

@@ -2,7 +2,7 @@
 -- Serves `Site::datagram_into`.
 use Rattle.std.specs.Prelude.{Result, Ok, Err}
 use Rattle.fleet_name.specs.Types.{OctetList}
-use Rattle.fleet_pending.specs.declared.waiter.Addr.{Addr}
+use Rattle.fleet_pending.specs.declared.addr.Addr.{Addr}
 use Rattle.fleet_site.specs.OutcomeData.{OutcomeData, sends}
 use Rattle.fleet_site.specs.declared.handled.Handled.{Handled}
 use Rattle.fleet_site.specs.declared.handled.Handled.TheVariants.{Reply, Outcome}

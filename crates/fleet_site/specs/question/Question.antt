@@ -12,7 +12,7 @@ use Rattle.fleet_pending.specs.Waiter.{WaiterData}
 use Rattle.fleet_pending.specs.Asking.{Asks}
 use Rattle.fleet_pending.specs.PendingData.{PendingData}
 use Rattle.fleet_name.specs.Places.{At}
-use Rattle.fleet_pending.specs.declared.waiter.Addr.{Addr}
+use Rattle.fleet_pending.specs.declared.addr.Addr.{Addr}
 use Rattle.fleet_pending.specs.declared.answer.Asked.{Asked as Opened}
 use Rattle.fleet_pending.specs.declared.answer.Asked.TheVariants.{Again, Joined, Send}
 use Rattle.fleet_pending.specs.declared.answer.PendingFault.{PendingFault}

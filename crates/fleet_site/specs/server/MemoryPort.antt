@@ -2,7 +2,7 @@
 -- Serves `MemoryPort`, `ListClock`.
 use Rattle.std.specs.Prelude.{◌≡◌, ◌⊎◌, ℕ, zero, suc, ◌-◌, min, Bool, true, false, List, [], ◌∷◌, map, get_or, length, take, drop, Option, Some, None, Result, Ok, Err, IsOk, IsErr}
 use Rattle.fleet_name.specs.Types.{OctetList}
-use Rattle.fleet_pending.specs.declared.waiter.Addr.{Addr}
+use Rattle.fleet_pending.specs.declared.addr.Addr.{Addr}
 use Rattle.fleet_site.specs.server.PortRecord.{PortCall, Received, NoDatagram, Fault, PacketSent, PacketLost}
 use Rattle.fleet_site.specs.declared.port.PortFault.{PortFault}
 use Rattle.fleet_site.specs.declared.memory_port.Note.{Note}

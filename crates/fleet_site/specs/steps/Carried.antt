@@ -15,7 +15,7 @@ use Rattle.fleet_pending.specs.QueryId.{IsQueryId}
 use Rattle.fleet_name.specs.Places.{At}
 use Rattle.fleet_pending.specs.declared.answer.PendingFault.{PendingFault}
 use Rattle.fleet_pending.specs.declared.answer.PendingFault.TheVariants.{OutOfMemory as NoRoom}
-use Rattle.fleet_pending.specs.declared.waiter.Addr.{Addr}
+use Rattle.fleet_pending.specs.declared.addr.Addr.{Addr}
 use Rattle.fleet_site.specs.OutcomeData.{OutcomeData, nothing, sends}
 use Rattle.fleet_site.specs.question.Question.{turns_away}
 use Rattle.fleet_site.specs.question.AnswerRecords.{bare_octets}

@@ -6,7 +6,7 @@ use Rattle.fleet_wire.specs.Query.{query_octets}
 use Rattle.fleet_pending.specs.Due.{IsFirstDue, NoneDue}
 use Rattle.fleet_pending.specs.PendingData.{EntryData, PendingData}
 use Rattle.fleet_name.specs.Places.{At}
-use Rattle.fleet_pending.specs.declared.waiter.Addr.{Addr}
+use Rattle.fleet_pending.specs.declared.addr.Addr.{Addr}
 use Rattle.fleet_site.specs.OutcomeData.{OutcomeData, nothing, sends}
 use Rattle.fleet_site.specs.Tick.{question_of, failure_to}
 use Rattle.fleet_site.specs.declared.tick.Plan.{Plan}

@@ -2,7 +2,7 @@
 -- Serves `Site::datagram`.
 use Rattle.std.specs.Prelude.{List}
 use Rattle.fleet_name.specs.Places.{At}
-use Rattle.fleet_pending.specs.declared.waiter.Addr.{Addr}
+use Rattle.fleet_pending.specs.declared.addr.Addr.{Addr}
 use Rattle.fleet_site.specs.ConfigData.{IsAmong}
 use Rattle.fleet_site.specs.declared.site.Sender.{Sender}
 use Rattle.fleet_site.specs.declared.site.Sender.TheVariants.{Upstream, Peer, Other}

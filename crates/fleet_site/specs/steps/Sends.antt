@@ -3,7 +3,7 @@
 use Rattle.std.specs.Prelude.{◌≡◌, List, Vec, Result, Ok, Err}
 use Rattle.std.specs.declared.alloc.AllocError.{AllocError}
 use Rattle.fleet_name.specs.Types.{OctetList}
-use Rattle.fleet_pending.specs.declared.waiter.Addr.{Addr}
+use Rattle.fleet_pending.specs.declared.addr.Addr.{Addr}
 use Rattle.fleet_site.specs.PacketData.{PacketData}
 use Rattle.fleet_site.specs.OutcomeData.{OutcomeData, nothing}
 use Rattle.fleet_site.specs.server.PortRecord.{PortCall, PortState, Made}

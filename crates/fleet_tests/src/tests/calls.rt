@@ -140,11 +140,16 @@ fn check_asked(rt: &impl Abort, alloc: Global, site: &mut Site) -> Result<(), Fa
 #[test]
 fn a_full_table(rt: HostRuntime) -> Result<(), Fail> {
     let mut site = new_site(rt.alloc(), &[addr(5401)])?;
-    check_asked(&rt, rt.alloc(), &mut site)?;
+    check_full_table(&rt, rt.alloc(), &mut site)
+}
+
+/// As many questions are asked as may.
+fn check_full_table(rt: &impl Abort, alloc: Global, site: &mut Site) -> Result<(), Fail> {
+    check_asked(rt, alloc, site)?;
     check_rows(
-        &rt,
-        rt.alloc(),
-        &mut site,
+        rt,
+        alloc,
+        site,
         "\
 100 datagram 6001 65535 question-0256 => 6001 failure-0256 refused Full
 100 handle 6001 65535 question-0256 => 6001 failure-0256 refused Full clock 100
@@ -163,22 +168,27 @@ fn check_joined(rt: &impl Abort, alloc: Global, site: &mut Site) -> Result<(), F
     Ok(())
 }
 
-#[test]
-fn a_full_entry(rt: HostRuntime) -> Result<(), Fail> {
-    let mut site = new_site(rt.alloc(), &[addr(5401)])?;
+/// As many join a question as may.
+fn check_full_entry(rt: &impl Abort, alloc: Global, site: &mut Site) -> Result<(), Fail> {
     let first = "100 datagram 6001 4660 question => 5301 query";
-    check_rows(&rt, rt.alloc(), &mut site, first)?;
-    check_joined(&rt, rt.alloc(), &mut site)?;
+    check_rows(rt, alloc, site, first)?;
+    check_joined(rt, alloc, site)?;
     check_rows(
-        &rt,
-        rt.alloc(),
-        &mut site,
+        rt,
+        alloc,
+        site,
         "\
 100 datagram 6033 65535 question => 6033 failure refused Full
 100 handle 6033 65535 question => 6033 failure refused Full clock 100
 100 datagram 6001 4660 question =>
 ",
     )
+}
+
+#[test]
+fn a_full_entry(rt: HostRuntime) -> Result<(), Fail> {
+    let mut site = new_site(rt.alloc(), &[addr(5401)])?;
+    check_full_entry(&rt, rt.alloc(), &mut site)
 }
 
 #[test]

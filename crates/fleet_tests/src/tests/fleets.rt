@@ -1,6 +1,6 @@
 //! Events of a fleet, and looks at it, as lines of text, each with its output.
 
-use crate::tests::octets::{octets, spelt_out, show_octets};
+use crate::tests::octets::{octets, show_octets, spelt_out};
 use crate::tests::sites::{HOST, addr, at, config, name_of, number, show_looked};
 use fleet_observe::Moment;
 use fleet_pending::Addr;

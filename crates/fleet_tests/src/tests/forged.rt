@@ -4,7 +4,7 @@ use crate::tests::fleets::{check_rows, fleet, show_stepped};
 use crate::tests::octets::octets;
 use crate::tests::sites::{addr, at};
 use fleet_name::Octets;
-use fleet_world::{Event, World};
+use fleet_world::{Event, Stepped, World};
 use std::alloc::Global;
 use std::process::Abort;
 use std::test::Fail;
@@ -23,6 +23,14 @@ fn forged_event(alloc: Global, id: u16, rest: &[u8]) -> Result<Event, Fail> {
     })
 }
 
+/// An event under this id was refused, and did nothing else.
+fn check_stepped(rt: &impl Abort, alloc: Global, stepped: &Stepped, id: u16) -> Result<(), Fail> {
+    let mut output = String::new(alloc);
+    show_stepped(&mut output, stepped)?;
+    assert_eq!(rt; output.as_str(), " refused Unmatched", "{id}");
+    Ok(())
+}
+
 /// The message is for no question under this id, and nothing comes of it.
 fn check_id(
     rt: &impl Abort,
@@ -31,11 +39,8 @@ fn check_id(
     id: u16,
     rest: &[u8],
 ) -> Result<(), Fail> {
-    let mut output = String::new(alloc);
     let event = forged_event(alloc, id, rest)?;
-    show_stepped(&mut output, &world.step(&event)?)?;
-    assert_eq!(rt; output.as_str(), " refused Unmatched", "{id}");
-    Ok(())
+    check_stepped(rt, alloc, &world.step(&event)?, id)
 }
 
 /// The reply is for no question under each id but the right one.
@@ -53,17 +58,18 @@ fn check_ids(rt: &impl Abort, alloc: Global, world: &mut World) -> Result<(), Fa
 #[test]
 fn a_reply_under_each_other_id_is_for_no_question(rt: HostRuntime) -> Result<(), Fail> {
     let mut world = fleet(rt.alloc(), 1, &[])?;
+    check_forged(&rt, rt.alloc(), &mut world)
+}
+
+/// A question is asked, forged replies change nothing, and then the right one is relayed.
+fn check_forged(rt: &impl Abort, alloc: Global, world: &mut World) -> Result<(), Fail> {
+    let first = "datagram 0 100 6001 4660 question => send 5301 query";
+    check_rows(rt, alloc, world, first)?;
+    check_ids(rt, alloc, world)?;
     check_rows(
-        &rt,
-        rt.alloc(),
-        &mut world,
-        "datagram 0 100 6001 4660 question => send 5301 query",
-    )?;
-    check_ids(&rt, rt.alloc(), &mut world)?;
-    check_rows(
-        &rt,
-        rt.alloc(),
-        &mut world,
+        rt,
+        alloc,
+        world,
         "\
 datagram 0 101 5301 0 other-type => refused Unmatched
 kept 0 => none

@@ -9,7 +9,7 @@ use crate::tests::worked::{FLUSHES, WORKED};
 use fleet_gossip::FrameFault;
 use fleet_name::Octets;
 use fleet_observe::Moment;
-use fleet_site::Refusal;
+use fleet_site::{Packet, Refusal};
 use fleet_wire::ReadFault;
 use fleet_world::{Event, Stepped, World};
 use std::alloc::{AllocError, Global};
@@ -105,13 +105,24 @@ datagram 0 100 6001 4369 asked => send 5301 asked-1111
 tick 0 102 => send 5302 asked-1111
 ";
 
-/// A world of one site with a peer, that did so, and asks its first upstream the question of a
-/// message, under the message's id.
+/// The question of a message comes in, under the message's id.
+fn asked(alloc: Global, message: &[u8]) -> Result<Event, Fail> {
+    let now = at(102)?;
+    let question = question_of(alloc, message)?;
+    Ok(datagram(now, 6002, id_of(message), question))
+}
+
+/// The world does so, and asks its first upstream the question of a message.
+fn begin(alloc: Global, world: &mut World, before: &[Event], message: &[u8]) -> Result<(), Fail> {
+    world.run(before)?;
+    world.step(&asked(alloc, message)?)?;
+    Ok(())
+}
+
+/// A world of one site with a peer, that did so.
 fn new_world(alloc: Global, before: &[Event], message: &[u8]) -> Result<World, Fail> {
     let mut world = fleet(alloc, 1, &[addr(5401)])?;
-    world.run(before)?;
-    let question = question_of(alloc, message)?;
-    world.step(&datagram(at(102)?, 6002, id_of(message), question))?;
+    begin(alloc, &mut world, before, message)?;
     Ok(world)
 }
 
@@ -128,22 +139,33 @@ fn are_alike(one: &World, other: &World) -> bool {
     }
 }
 
-/// Whether two events did the same.
-fn did_alike(one: &Stepped, other: &Stepped) -> bool {
-    let sent = one.packets.as_slice();
-    let others = other.packets.as_slice();
+/// Whether two packets are the same.
+fn is_like(packet: &Packet, other: &Packet) -> bool {
+    packet.to == other.to && packet.bytes.as_slice() == other.bytes.as_slice()
+}
+
+/// Whether the same packets were sent.
+fn sent_alike(sent: &[Packet], others: &[Packet]) -> bool {
     if sent.len() != others.len() {
         return false;
     }
-    for (packet, like) in sent.iter().zip(others) {
-        if packet.to != like.to || packet.bytes.as_slice() != like.bytes.as_slice() {
+    for (packet, other) in sent.iter().zip(others) {
+        if !is_like(packet, other) {
             return false;
         }
     }
-    one.frames.as_slice() == other.frames.as_slice()
-        && one.taken == other.taken
-        && one.refused == other.refused
-        && one.more == other.more
+    true
+}
+
+/// Whether two events did the same.
+fn did_alike(one: &Stepped, other: &Stepped) -> bool {
+    if one.taken != other.taken || one.refused != other.refused || one.more != other.more {
+        return false;
+    }
+    if one.frames.as_slice() != other.frames.as_slice() {
+        return false;
+    }
+    sent_alike(one.packets.as_slice(), other.packets.as_slice())
 }
 
 /// Time passes in both worlds, which do the same: whether there is more, and whether some packets
@@ -277,6 +299,26 @@ fn check_message(rt: &impl Abort, trial: Trial<'_>, counts: &mut Vec<Count>) -> 
     check_questions(rt, &mut twins)
 }
 
+/// The message of a line comes in so.
+fn check_line(
+    rt: &impl Abort,
+    alloc: Global,
+    way: Way,
+    before: &[Event],
+    line: &str,
+    counts: &mut Vec<Count>,
+) -> Result<(), Fail> {
+    let octets = octets(alloc, line)?;
+    let message = octets.as_slice();
+    let trial = Trial {
+        alloc,
+        way,
+        before,
+        message,
+    };
+    check_message(rt, trial, counts)
+}
+
 /// All messages come in so, and it is counted how often they are refused for each reason.
 fn count_all(
     rt: &impl Abort,
@@ -288,14 +330,7 @@ fn count_all(
     let before = events_of(alloc, BEFORE)?;
     for line in messages.lines() {
         if !line.starts_with('#') {
-            let message = octets(alloc, line)?;
-            let trial = Trial {
-                alloc,
-                way,
-                before: &before,
-                message: message.as_slice(),
-            };
-            check_message(rt, trial, counts)?;
+            check_line(rt, alloc, way, &before, line, counts)?;
         }
     }
     Ok(())
@@ -310,6 +345,30 @@ fn line_of(alloc: Global, count: Count) -> Result<String, AllocError> {
     }
 }
 
+/// A count is one of the lines that are wanted.
+fn check_count(rt: &impl Abort, alloc: Global, count: Count, wanted: &str) -> Result<(), Fail> {
+    let line = line_of(alloc, count)?;
+    assert!(rt;
+        wanted.lines().any(|other| other == line.as_str()),
+        "{line}"
+    );
+    Ok(())
+}
+
+/// The counts are the lines that are wanted.
+fn check_counts(
+    rt: &impl Abort,
+    alloc: Global,
+    counts: &[Count],
+    wanted: &str,
+) -> Result<(), Fail> {
+    for count in counts {
+        check_count(rt, alloc, *count, wanted)?;
+    }
+    assert_eq!(rt; counts.len(), wanted.lines().count());
+    Ok(())
+}
+
 /// All messages come in so, and they are refused as often as is wanted for each reason: there is a
 /// line for each, in any order, and one for those that are not refused. How often that is, another
 /// program counted, which reads the formats on its own.
@@ -322,15 +381,7 @@ fn check_messages(
 ) -> Result<(), Fail> {
     let mut counts = Vec::new(alloc);
     count_all(rt, alloc, way, messages, &mut counts)?;
-    for count in &counts {
-        let line = line_of(alloc, *count)?;
-        assert!(rt;
-            wanted.lines().any(|other| other == line.as_str()),
-            "{line}"
-        );
-    }
-    assert_eq!(rt; counts.len(), wanted.lines().count());
-    Ok(())
+    check_counts(rt, alloc, &counts, wanted)
 }
 
 /// The same, with the messages and frames of the worked examples.
@@ -526,11 +577,18 @@ fn check_places(
     Ok(())
 }
 
+/// Octets that are too long come in so, and then time passes.
+fn check_long(rt: &impl Abort, alloc: Global, twins: &mut Twins) -> Result<(), Fail> {
+    let mut bytes = too_long(alloc)?;
+    check_places(rt, alloc, twins, &mut bytes)?;
+    check_questions(rt, twins)
+}
+
 #[test]
 fn what_is_too_long_changes_nothing(rt: HostRuntime) -> Result<(), Fail> {
     let alloc = rt.alloc();
-    let held = octets(alloc, "held")?;
     let before = events_of(alloc, BEFORE)?;
+    let held = octets(alloc, "held")?;
     let trial = Trial {
         alloc,
         way: Way::Frame,
@@ -538,6 +596,5 @@ fn what_is_too_long_changes_nothing(rt: HostRuntime) -> Result<(), Fail> {
         message: held.as_slice(),
     };
     let mut twins = trial.new_twins()?;
-    check_places(&rt, alloc, &mut twins, &mut too_long(alloc)?)?;
-    check_questions(&rt, &mut twins)
+    check_long(&rt, alloc, &mut twins)
 }

@@ -1,6 +1,6 @@
 //! Calls of a site as lines of text, each with its output.
 
-use crate::tests::octets::{octets, spelt_out, show_octets};
+use crate::tests::octets::{octets, show_octets, spelt_out};
 use fleet_name::{Name, Octets};
 use fleet_observe::Moment;
 use fleet_pending::Addr;
@@ -109,7 +109,12 @@ pub fn show_looked(output: &mut String, looked: &Looked) -> Result<(), Fail> {
 }
 
 /// A datagram comes in: from a port, with a word.
-fn show_datagram(output: &mut String, site: &mut Site, now: Moment, words: &str) -> Result<(), Fail> {
+fn show_datagram(
+    output: &mut String,
+    site: &mut Site,
+    now: Moment,
+    words: &str,
+) -> Result<(), Fail> {
     let (port, words) = words.split_once(' ').ok_or("no port")?;
     let (word, name) = words.split_once(' ').ok_or("no word")?;
     let from = addr(number(port)?);

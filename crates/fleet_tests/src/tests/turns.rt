@@ -176,20 +176,28 @@ const FAILURES: &str = "\
 7 => 3 1 3 0 0 0 0 : received 6001 question sent 5301 query nothing sent 5302 query nothing sent 6001 failure
 ";
 
+/// Compares the report of three turns at a port, and its record.
+fn check_failed(
+    rt: &impl Abort,
+    alloc: Global,
+    port: &mut MemoryPort,
+    counts: &str,
+    notes: &str,
+) -> Result<(), Fail> {
+    let report = run(alloc, port, 3)?;
+    let failed = report.lost.saturating_add(report.faults);
+    assert_eq!(rt; port.failures(), failed, "{counts}");
+    check_report(rt, alloc, report, counts)?;
+    check_notes(rt, alloc, port, notes)
+}
+
 /// Compares the report of three turns where a call fails, and the record.
 fn check_failure(rt: &impl Abort, alloc: Global, row: &str) -> Result<(), Fail> {
     let (fail_at, row) = row.split_once(" => ").ok_or("no counts")?;
     let (counts, notes) = row.split_once(" : ").ok_or("no record")?;
     let fail_at = u64::from(number(fail_at)?);
     let mut port = port_with(alloc, 6001, "question", Some(fail_at))?;
-    let report = run(alloc, &mut port, 3)?;
-    assert_eq!(rt;
-        port.failures(),
-        report.lost.saturating_add(report.faults),
-        "{row}"
-    );
-    check_report(rt, alloc, report, counts)?;
-    check_notes(rt, alloc, &port, notes)
+    check_failed(rt, alloc, &mut port, counts, notes)
 }
 
 #[test]

@@ -132,7 +132,11 @@ fn show_links(caches: &Caches<'_>, mut words: Words<'_>, output: &mut String) ->
     let rtype = words.word().parse()?;
     let moment = moment_of(words.word())?;
     let question = question_of(caches.global, name, rtype, 1)?;
-    push_records(caches.global, output, &caches.ours.answer(&question, moment))
+    push_records(
+        caches.global,
+        output,
+        &caches.ours.answer(&question, moment),
+    )
 }
 
 /// Whether the cache takes a record.
@@ -185,7 +189,11 @@ fn records_in<'a>(
 }
 
 /// How many records the cache takes at once.
-fn take_records(caches: &mut Caches<'_>, words: Words<'_>, output: &mut String) -> Result<(), Fail> {
+fn take_records(
+    caches: &mut Caches<'_>,
+    words: Words<'_>,
+    output: &mut String,
+) -> Result<(), Fail> {
     let list = records_in(caches.heap, caches.global, words)?;
     let count = list.len();
     caches.ours.take_list(list)?;

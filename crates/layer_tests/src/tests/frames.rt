@@ -110,7 +110,12 @@ fn show_read(alloc: Global, output: &mut String) -> Result<(), Fail> {
 }
 
 /// Makes a call, and writes its output.
-fn show_result(alloc: Global, call: &str, words: Words<'_>, output: &mut String) -> Result<(), Fail> {
+fn show_result(
+    alloc: Global,
+    call: &str,
+    words: Words<'_>,
+    output: &mut String,
+) -> Result<(), Fail> {
     match call {
         "one" => show_changed(alloc, ONE, words, output),
         "denial" => show_changed(alloc, DENIAL, words, output),

@@ -39,7 +39,10 @@ fn show_result(
             let is_new = front.take(item)?;
             Ok(write!(output, "{is_new}")?)
         }
-        "first" => push_rank(output, front.first_shown(&Cut::at(moment_of(words.word())?))),
+        "first" => push_rank(
+            output,
+            front.first_shown(&Cut::at(moment_of(words.word())?)),
+        ),
         "drop" => {
             front.drop_hidden(&Cut::at(moment_of(words.word())?));
             push_ranks(output, front)

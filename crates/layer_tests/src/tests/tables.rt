@@ -15,7 +15,12 @@ use std::process::Abort;
 use std::test::Fail;
 
 /// Makes a call with these words, and writes its output.
-fn show_result(alloc: Global, call: &str, words: Words<'_>, output: &mut String) -> Result<(), Fail> {
+fn show_result(
+    alloc: Global,
+    call: &str,
+    words: Words<'_>,
+    output: &mut String,
+) -> Result<(), Fail> {
     match call {
         "name" => show_name(alloc, words, output),
         "pair" => show_pair(alloc, words, output),

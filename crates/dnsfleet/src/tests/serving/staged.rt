@@ -3,8 +3,8 @@
 
 use super::{check_end, end, free_port, settings_for};
 use crate::serve::serve_settings;
-use crate::tests::messages::QUESTION;
 use crate::tests::captured::Captured;
+use crate::tests::messages::QUESTION;
 use std::alloc::Global;
 use std::cell::Cell;
 use std::net::{Ipv4Addr, Net, SocketAddr, SocketAddrV4, TcpListener, TcpStream, UdpSocket};

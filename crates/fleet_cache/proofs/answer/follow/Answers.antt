@@ -12,8 +12,8 @@ pub loop-observation-init : goal.loop-observation-init
 loop-observation-init g c = starts c.args.held.now c.args.name.now c.args.rtype c.args.moment
     c.new-chain.result.items c.new-chain.ensures c.requires.named
 
-pub returns-in_default-clause-told : goal.returns-in_default-clause-told
-returns-in_default-clause-told g c n is =
+pub returns-in_default-clause-answer : goal.returns-in_default-clause-answer
+returns-in_default-clause-answer g c n is =
     let items = c.args.held.now in
     ends_none items c.args.name.now c.args.rtype c.args.moment
     c.loop-observation.at.now c.loop-observation.chain.items c.loop-observation.invariant
@@ -22,12 +22,12 @@ returns-in_default-clause-told g c n is =
     c.decider.ensures.own.lawful (c.decider.ensures.best m e))
     n is (ap referent c.in_default.is)
 
-pub returns-then-not-is_link-clause-told : goal.returns-then-not-is_link-clause-told
-returns-then-not-is_link-clause-told g c n is =
+pub returns-then-not-is_link-clause-answer : goal.returns-then-not-is_link-clause-answer
+returns-then-not-is_link-clause-answer g c n is =
     let items = c.args.held.now in
     let links = shown_parts c.loop-observation.chain.items in
     let o = c.in-Some.observation.now in
-    c.finish.ensures.told ∙ (ap (λ v. add_links links (by_kind v)) c.show-part.ensures ∙
+    c.finish.ensures.answer ∙ (ap (λ v. add_links links (by_kind v)) c.show-part.ensures ∙
     ends_last items c.args.name.now c.args.rtype c.args.moment
     c.loop-observation.at.now c.loop-observation.chain.items c.loop-observation.invariant
     (referent c.decider.result)
@@ -36,8 +36,8 @@ returns-then-not-is_link-clause-told g c n is =
     n is o (ap referent c.in-Some.is)
     (sym c.is_link.ensures ∙ c.if-not-is_link.true))
 
-pub returns-then-is_full-clause-told : goal.returns-then-is_full-clause-told
-returns-then-is_full-clause-told g c n is =
+pub returns-then-is_full-clause-answer : goal.returns-then-is_full-clause-answer
+returns-then-is_full-clause-answer g c n is =
     let items = c.args.held.now in
     let full : MOST_LINKS ≤ length c.loop-observation.chain.items =
     grind (arith, nat_tests, c.is_full.ensures.value, c.if-is_full.true) in

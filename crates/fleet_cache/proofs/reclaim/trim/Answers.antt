@@ -4,7 +4,7 @@ use Rattle.fleet_observe.specs.Members.{Has}
 use Rattle.fleet_observe.specs.Observation.{ObservationData}
 use Rattle.fleet_cache.specs.Live.{is_live}
 use Rattle.fleet_cache.specs.steps.Keyed.{IsOfKey}
-use Rattle.fleet_cache.proofs.Looked.{first_has, key_told}
+use Rattle.fleet_cache.proofs.Looked.{first_has, key_cut}
 use Rattle.fleet_cache.proofs.Holdings.{thinned_reclaimed}
 use Rattle.fleet_cache.proofs.reclaim.trim.Goals as goal
 
@@ -21,7 +21,7 @@ returns g c =
     ∙ ap (λ (o : ObservationData). o.name) c.observation.ensures) in
     record {
       reclaimed = thinned_reclaimed t items c.trim.new.self lawful (c.trim.ensures (is_live items t)
-          (key_told items c.args.key.now.items front
+          (key_cut items c.args.key.now.items front
           (subst (λ q. IsOfKey items q front) c.deref.ensures.value c.in-Some.ensures.found) lawful x first t
           c.cut_at-cut.result (c.cut_at-cut.ensures.cut x.name named)));
     }

@@ -20,10 +20,10 @@ returns g c =
     let f = c.in-Some.front.now in
     let same : c.as_slice.result.now ≡ words_of o = c.as_slice.ensures.value
     ∙ c.words_of_observation-words.ensures.words in
-    let told : c.covers_in.result ≡ is_covered f o = c.covers_in.ensures
+    let known : c.covers_in.result ≡ is_covered f o = c.covers_in.ensures
     ∙ ap (λ v. is_covered v o) c.items.ensures.items in
     let there = covered_there (λ j. j.items) c.as_slice.result.now c.args.fronts.now.entries f
     c.requires (sym c.in-Some.ensures.value) o same in (
-      (λ h. there.0 (covered_from f o (sym told ∙ h))),
-      λ k. told ∙ covered_to f o (there.1 k),
+      (λ h. there.0 (covered_from f o (sym known ∙ h))),
+      λ k. known ∙ covered_to f o (there.1 k),
     )

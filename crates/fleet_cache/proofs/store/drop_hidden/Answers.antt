@@ -19,8 +19,8 @@ some_left : (xs : List ObservationData) → length xs ≢ 0 → is_nil xs ≡ fa
 some_left [] e = absurd (e refl)
 some_left (x ∷ xs) e = refl
 
-told : (n : ℕ) (b : Bool) → b ≡ (n == 0) → b ≡ true → n ≡ 0
-told n b is e = grind (arith, nat_tests, is, e)
+is_zero : (n : ℕ) (b : Bool) → b ≡ (n == 0) → b ≡ true → n ≡ 0
+is_zero n b is e = grind (arith, nat_tests, is, e)
 
 -- the front was written back
 module _ {K : Type 0} (octets : K → List ℕ) (q : List ℕ) (cut : CutData)
@@ -49,7 +49,7 @@ module _ {K : Type 0} (octets : K → List ℕ) (q : List ℕ) (cut : CutData)
 pub returns-then-is_empty-clause-laid : goal.returns-then-is_empty-clause-laid
 returns-then-is_empty-clause-laid g c =
     let none : length c.drop_hidden.new.self ≡ 0 = sym (ap length c.items.ensures.items)
-    ∙ told (length c.items.result.now) c.is_empty.result c.is_empty.ensures c.if-is_empty.true in
+    ∙ is_zero (length c.items.result.now) c.is_empty.result c.is_empty.ensures c.if-is_empty.true in
     trim_laid (λ k. k.items) c.args.key.now.items c.args.cut.now c.args.fronts.now.entries
     c.remove.new.self.entries
     (dropped (λ k. k.items) c.args.key.now.items c.args.cut.now c.args.fronts.now.entries
@@ -60,9 +60,9 @@ returns-then-is_empty-clause-laid g c =
     c.requires
 
 pub returns-then-is_empty-clause-trimmed : goal.returns-then-is_empty-clause-trimmed
-returns-then-is_empty-clause-trimmed g c lives tells =
+returns-then-is_empty-clause-trimmed g c lives decides =
     let none : length c.drop_hidden.new.self ≡ 0 = sym (ap length c.items.ensures.items)
-    ∙ told (length c.items.result.now) c.is_empty.result c.is_empty.ensures c.if-is_empty.true in
+    ∙ is_zero (length c.items.result.now) c.is_empty.result c.is_empty.ensures c.if-is_empty.true in
     trim_thinned (λ k. k.items) c.args.key.now.items c.args.cut.now c.args.fronts.now.entries
     c.remove.new.self.entries
     (dropped (λ k. k.items) c.args.key.now.items c.args.cut.now c.args.fronts.now.entries
@@ -70,7 +70,7 @@ returns-then-is_empty-clause-trimmed g c lives tells =
     c.drop_hidden.new.self c.requires c.in-Some.ensures.value c.drop_hidden.ensures.items
     (c.get_mut.follows.holds c.drop_hidden.new.self).0 c.remove.new.self.entries
     c.remove.ensures.entries none)
-    lives tells
+    lives decides
 
 pub returns-else-is_empty-clause-laid : goal.returns-else-is_empty-clause-laid
 returns-else-is_empty-clause-laid g c =
@@ -86,7 +86,7 @@ returns-else-is_empty-clause-laid g c =
     c.requires
 
 pub returns-else-is_empty-clause-trimmed : goal.returns-else-is_empty-clause-trimmed
-returns-else-is_empty-clause-trimmed g c lives tells =
+returns-else-is_empty-clause-trimmed g c lives decides =
     let some : length c.drop_hidden.new.self ≢ 0 =
     λ e. (let same : length c.items.result.now ≡ 0 = ap length c.items.ensures.items ∙ e
     in grind (arith, nat_tests, c.is_empty.ensures, c.if-is_empty.false, same)) in
@@ -96,4 +96,4 @@ returns-else-is_empty-clause-trimmed g c lives tells =
     (c.get_mut.follows.lender c.drop_hidden.new.self).entries c.in-Some.front.now
     c.drop_hidden.new.self c.requires c.in-Some.ensures.value c.drop_hidden.ensures.items
     (c.get_mut.follows.holds c.drop_hidden.new.self).0 some)
-    lives tells
+    lives decides

@@ -25,14 +25,14 @@ module _ {K : Type 0} (octets : K → List ℕ) (es new : List (K × List Observ
       → IsFrontOf row dominates s f → OnOk r (IsFrontOf row dominates (x ∷ s) g))
       → IfOk r (λ kept. (kept ≡ false) ↔ IsCoveredBy dominates f x) → length g ≤ length f + 1
       → IfOk r (IsPut octets es new x)
-  put_in_place (Err e) taken told size = told
-  put_in_place (Ok kept) taken told size =
+  put_in_place (Err e) taken known size = known
+  put_in_place (Ok kept) taken known size =
       let at : lookup (λ k. is_eq (octets_cmp (words_of x) (octets k))) es ≡ Some f =
       rw (← same) (sym found) in
       let written : new ≡ set_value (λ k. is_eq (octets_cmp (words_of x) (octets k))) es g =
       rw (← same) is in
       let own = (slot_of_key octets es (words_of x) f laid at).slot.own_front in
-      put_edited octets es new f g x kept laid at written fits (taken f own) size told
+      put_edited octets es new f g x kept laid at written fits (taken f own) size known
 
   put_nothing : (r : Result Bool E) → OnErr r (g ≡ f) → OnErr r (new ≡ es)
   put_nothing r e = on_err_weaker r (λ same_front. is

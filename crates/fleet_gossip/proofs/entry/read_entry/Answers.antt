@@ -4,7 +4,7 @@ use Rattle.fleet_wire.specs.Number.{u16_octets}
 use Rattle.fleet_observe.specs.Checks.{IsTypeOf}
 use Rattle.fleet_gossip.specs.Faults.{name_fails, BodyFails}
 use Rattle.fleet_gossip.specs.declared.fault.FrameFault.TheVariants.{BadKind}
-use Rattle.fleet_gossip.proofs.Fields.{field_told}
+use Rattle.fleet_gossip.proofs.Fields.{field_fault}
 use Rattle.fleet_gossip.proofs.Heads.{behind_head, type_fails, body_fails, fact_read, fact_whole, kind_read, entry_read}
 use Rattle.fleet_gossip.proofs.entry.read_entry.Goals as goal
 
@@ -18,7 +18,7 @@ returns-in_err-rtype c =
     let r = c.from_residual-in_err-rtype in let p = err_from_is_err_and r.result r.ensures.1 in
     let at = c.in_ok-name.ensures in let k = c.in_ok-head.head.kind in
     rw (p.1, p.2) (type_fails _ _ _ _ _ _ c.in_ok-head.ensures at _
-    (field_told u16_octets 2 (IsTypeOf k) BadKind (BodyFails k at.lawful.name) _ _
+    (field_fault u16_octets 2 (IsTypeOf k) BadKind (BodyFails k at.lawful.name) _ _
     c.in_err-rtype.ensures))
 
 pub returns-in_err-body : goal.returns-in_err-body

@@ -1,12 +1,12 @@
 use mathlib.Core.Bool.{false≢true}
 use Rattle.std.proofs.Common.{◌++◌, ◌∷◌, [], refl, arith}
-use Rattle.fleet_gossip.proofs.FrameSteps.{entry_more, entry_told, trails, all_stand}
+use Rattle.fleet_gossip.proofs.FrameSteps.{entry_more, entry_fault, trails, all_lie}
 use Rattle.fleet_gossip.proofs.frame.check_entries.Goals as goal
 
 pub returns-in-Err : goal.returns-in-Err
 returns-in-Err c =
     let i = c.loop.invariant in
-    entry_told _ _ _ c.loop.counter _ i.list _ i.are c.loop-test.true c.in-Err.ensures
+    entry_fault _ _ _ c.loop.counter _ i.list _ i.are c.loop-test.true c.in-Err.ensures
 
 pub loop-preserved : goal.loop-preserved
 loop-preserved c =
@@ -26,4 +26,4 @@ returns-then-not-is_empty c =
 pub returns : goal.returns
 returns c =
     let i = c.loop.invariant in
-    all_stand _ _ _ _ i.list i.are _ (omega arith) (c.is_empty.ensures.0 c.if-not-is_empty.false)
+    all_lie _ _ _ _ i.list i.are _ (omega arith) (c.is_empty.ensures.0 c.if-not-is_empty.false)

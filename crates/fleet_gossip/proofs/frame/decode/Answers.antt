@@ -23,7 +23,7 @@ pub returns-in_err-observations-clause-memory : goal.returns-in_err-observations
 returns-in_err-observations-clause-memory g c =
     let of = c.in_ok-entries.ensures in
     if_err c.from_residual-in_err-observations.result _
-    (λ f e. has_entries _ _ _ _ of.stand.list of.opened of.fits of.stand.are
+    (λ f e. has_entries _ _ _ _ of.are_entries.list of.opened of.fits of.are_entries.are
     c.in_err-observations.ensures.memory)
 
 pub returns-clause-found : goal.returns-clause-found

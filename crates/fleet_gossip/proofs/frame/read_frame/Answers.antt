@@ -19,5 +19,5 @@ pub returns : goal.returns
 returns c = record {
   opened = rw c.rest.ensures (rw c.new-reader.ensures at c.in_ok-opening.ensures);
   fits = omega arith;
-  stand = c.in_ok-check_entries.ensures;
+  are_entries = c.in_ok-check_entries.ensures;
 }

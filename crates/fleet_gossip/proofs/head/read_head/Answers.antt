@@ -4,14 +4,14 @@ use Rattle.fleet_observe.specs.Checks.{IsRankOf, IsLifeOf}
 use Rattle.fleet_gossip.specs.Entry.{octet, u64_octets, IsKindNumber, IsMoment}
 use Rattle.fleet_gossip.specs.declared.fault.FrameFault.TheVariants.{BadKind, BadRank, BadMoment, BadLife}
 use Rattle.fleet_gossip.proofs.EntryLines.{NamedFails, LifeFails, StampFails, KindFails}
-use Rattle.fleet_gossip.proofs.Fields.{field_told}
+use Rattle.fleet_gossip.proofs.Fields.{field_fault}
 use Rattle.fleet_gossip.proofs.Heads.{behind_kind, behind_rank, behind_stamp}
 use Rattle.fleet_gossip.proofs.head.read_head.Goals as goal
 
 pub returns-in_err-kind : goal.returns-in_err-kind
 returns-in_err-kind c =
     let p = err_from_is_err_and c.from_residual.result c.from_residual.ensures.1 in
-    rw (p.1, p.2) (field_told octet 1 (IsKindNumber c.args.version) BadKind KindFails _ _
+    rw (p.1, p.2) (field_fault octet 1 (IsKindNumber c.args.version) BadKind KindFails _ _
     c.in_err-kind.ensures)
 
 pub returns-in_err-rank : goal.returns-in_err-rank
@@ -19,7 +19,7 @@ returns-in_err-rank c =
     let r = c.from_residual-in_err-rank in let p = err_from_is_err_and r.result r.ensures.1
     in let k = c.in_ok-kind.kind in
     rw (p.1, p.2) (behind_kind _ _ _ c.args.version k c.in_ok-kind.ensures
-    (field_told octet 1 (IsRankOf k) BadRank (λ rank. StampFails k) _ _ c.in_err-rank.ensures))
+    (field_fault octet 1 (IsRankOf k) BadRank (λ rank. StampFails k) _ _ c.in_err-rank.ensures))
 
 pub returns-in_err-stamp : goal.returns-in_err-stamp
 returns-in_err-stamp c =
@@ -27,7 +27,7 @@ returns-in_err-stamp c =
     in let k = c.in_ok-kind.kind in
     rw (p.1, p.2) (behind_kind _ _ _ c.args.version k c.in_ok-kind.ensures
     (behind_rank _ _ _ k _ c.in_ok-rank.ensures
-    (field_told u64_octets 8 IsMoment BadMoment (λ stamp. LifeFails k) _ _
+    (field_fault u64_octets 8 IsMoment BadMoment (λ stamp. LifeFails k) _ _
     c.in_err-stamp.ensures)))
 
 pub returns-in_err-life : goal.returns-in_err-life
@@ -37,5 +37,5 @@ returns-in_err-life c =
     rw (p.1, p.2) (behind_kind _ _ _ c.args.version k c.in_ok-kind.ensures
     (behind_rank _ _ _ k _ c.in_ok-rank.ensures
     (behind_stamp _ _ _ k _ c.in_ok-stamp.ensures
-    (field_told u32_octets 4 (IsLifeOf k) BadLife (λ life. NamedFails k) _ _
+    (field_fault u32_octets 4 (IsLifeOf k) BadLife (λ life. NamedFails k) _ _
     c.in_err-life.ensures))))

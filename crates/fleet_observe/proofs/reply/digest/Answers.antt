@@ -17,7 +17,7 @@ digest_without_walk-requires g c =
       served = served;
       named = c.in_ok-name.ensures ∙ ap (λ (x : QuestionData). x.name)
           (c.question.view_is ∙ c.question-question.ensures.question);
-      tells = (cut, refl);
+      ends_as = (cut, refl);
       idle = no_walk_cut _ cut;
     }
 
@@ -33,7 +33,7 @@ digest_without_walk-requires-then-not-is_answered g c =
       served = served;
       named = c.in_ok-name-2.ensures ∙ ap (λ (x : QuestionData). x.name)
           (c.question.view_is ∙ c.question-question.ensures.question);
-      tells = (whole, (λ h. none (inl h)), (λ h. none (inr h)), is, refl);
+      ends_as = (whole, (λ h. none (inl h)), (λ h. none (inr h)), is, refl);
       idle = no_walk_coded _ none;
     }
 

@@ -7,7 +7,7 @@ use Rattle.fleet_site.proofs.hit.decide_plain.Goals as goal
 pub returns-then-is_miss-clause-decides : goal.returns-then-is_miss-clause-decides
 returns-then-is_miss-clause-decides g c = λ s cached.
     let later : max c.args.cache.now.floor c.args.clock ≡ c.args.clock = omega (arith, c.requires) in
-    let told = rw later at (c.answer_lent-answer.ensures.told s cached) in
+    let told = rw later at (c.answer_lent-answer.ensures.answer s cached) in
     plain_missed s c.args.clock c.args.octets.now c.in-Some.header c.in-Some.question
     c.in_ok-copy.copy (answer_data c.answer_lent-answer.result) c.in-Some.ensures.found
     (c.is_asking.ensures.0 c.if-not-is_asking.false)
@@ -17,7 +17,7 @@ returns-then-is_miss-clause-decides g c = λ s cached.
 pub returns-clause-decides : goal.returns-clause-decides
 returns-clause-decides g c = λ s cached.
     let later : max c.args.cache.now.floor c.args.clock ≡ c.args.clock = omega (arith, c.requires) in
-    let told = rw later at (c.answer_lent-answer.ensures.told s cached) in
+    let told = rw later at (c.answer_lent-answer.ensures.answer s cached) in
     let a = answer_data c.answer_lent-answer.result in
     let reply = c.tell_into.new.out.items in
     plain_decided s c.args.clock c.args.octets.now c.in-Some.header c.in-Some.question a

@@ -13,5 +13,5 @@ returns-in-Ok-clause-carried g c =
       more = c.outcome.inside.more;
     }) _ _
     c.args.report.now c.count_refusal.new.report c.send_packets.new.report c.send_frames.new.report
-    c.as_slice.ensures.value (ap (to_peers c.args.peers.now) c.as_slice-in-Ok.ensures)
+    c.as_slice.ensures.value (ap (to_peers c.args.peers.now) c.as_slice-in-Ok.ensures.value)
     c.count_refusal.ensures c.send_packets.ensures c.send_frames.ensures)

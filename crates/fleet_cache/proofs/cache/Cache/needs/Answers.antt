@@ -2,7 +2,7 @@ use Rattle.std.proofs.Common.{◌≡◌, Bool, true, false, not, ◌↔◌, IsTr
 use mathlib.Core.Bool.{false≢true}
 use Rattle.fleet_cache.specs.Live.{live_of}
 use Rattle.fleet_cache.specs.Cached.{CacheData, IsPast, IsNeedless}
-use Rattle.fleet_cache.proofs.Holdings.{needless_tells}
+use Rattle.fleet_cache.proofs.Holdings.{needless_test}
 use Rattle.fleet_cache.proofs.cache.Cache.needs.Goals as goal
 
 -- a test turned round
@@ -17,7 +17,7 @@ returns-then-not-is_past-clause-needless g c =
     let current : ¬ IsPast i.floor (live_of i.held i.floor) o =
     λ p. false≢true (sym c.if-not-is_past.true ∙ c.is_past.ensures.past.1
     (subst (λ (v : CacheData). IsPast v.floor v.items o) c.self.view_is p)) in
-    let there = needless_tells i.held i.floor o c.covers.ensures.own.lawful
+    let there = needless_test i.held i.floor o c.covers.ensures.own.lawful
     c.is_past.ensures.lawful current in
     let test = turned c.covers.result c.covers.ensures.covered in (
       (λ e. subst (λ v. IsNeedless v.floor v.items o) c.self.view_is (there.0 (test.0 e))),

@@ -3,7 +3,7 @@ use mathlib.Core.Bool.{false≢true}
 use Rattle.fleet_cache.specs.Live.{live_of}
 use Rattle.fleet_cache.specs.Cached.{CacheData, IsCached, IsPast, IsNeedless}
 use Rattle.fleet_cache.proofs.Caches.{cached_needless}
-use Rattle.fleet_cache.proofs.Holdings.{taken_cached, needless_tells}
+use Rattle.fleet_cache.proofs.Holdings.{taken_cached, needless_test}
 use Rattle.fleet_front.proofs.Lemmas.{on_err}
 use Rattle.fleet_cache.proofs.cache.Cache.take.Goals as goal
 
@@ -13,8 +13,8 @@ returns-then-is_past-clause-taken g c s cached = cached_needless s c.args.self.n
     (inl (c.is_past.ensures.past.0 c.if-is_past.true))
 
 -- what the test does not find does not hold
-not_told : {P Q : Type 0} (b : Bool) → IsTrue b ↔ P → b ≡ false → (Q → P) → ¬ Q
-not_told b test e into q = false≢true (sym e ∙ test.1 (into q))
+not_passed : {P Q : Type 0} (b : Bool) → IsTrue b ↔ P → b ≡ false → (Q → P) → ¬ Q
+not_passed b test e into q = false≢true (sym e ∙ test.1 (into q))
 
 pub returns-clause-taken : goal.returns-clause-taken
 returns-clause-taken g c s cached =
@@ -29,9 +29,9 @@ returns-clause-kept g c =
     let i = c.self.inside in
     let o = c.args.observation in
     let current : ¬ IsPast i.floor (live_of i.held i.floor) o =
-    not_told c.is_past.result c.is_past.ensures.past c.if-is_past.false
+    not_passed c.is_past.result c.is_past.ensures.past c.if-is_past.false
     (λ p. subst (λ (v : CacheData). IsPast v.floor v.items o) c.self.view_is p) in
-    let there = needless_tells i.held i.floor o c.take.ensures.own.lawful
+    let there = needless_test i.held i.floor o c.take.ensures.own.lawful
     c.is_past.ensures.lawful current in
     let taken = c.in_ok-kept.ensures.taken in
     subst (λ (v : CacheData). (c.in_ok-kept.kept ≡ false) ↔ IsNeedless v.floor v.items o)
@@ -57,9 +57,9 @@ returns-in_err-kept-clause-memory g c =
     let i = c.self.inside in
     let o = c.args.observation in
     let current : ¬ IsPast i.floor (live_of i.held i.floor) o =
-    not_told c.is_past.result c.is_past.ensures.past c.if-is_past.false
+    not_passed c.is_past.result c.is_past.ensures.past c.if-is_past.false
     (λ p. subst (λ (v : CacheData). IsPast v.floor v.items o) c.self.view_is p) in
-    let there = needless_tells i.held i.floor o c.take.ensures.own.lawful
+    let there = needless_test i.held i.floor o c.take.ensures.own.lawful
     c.is_past.ensures.lawful current in
     let needed : ¬ IsNeedless c.args.self.now.floor c.args.self.now.items o =
     λ n. c.in_err-kept.ensures.memory (there.1
@@ -71,9 +71,9 @@ returns-in_err-make_room-clause-memory g c =
     let i = c.self.inside in
     let o = c.args.observation in
     let current : ¬ IsPast i.floor (live_of i.held i.floor) o =
-    not_told c.is_past.result c.is_past.ensures.past c.if-is_past.false
+    not_passed c.is_past.result c.is_past.ensures.past c.if-is_past.false
     (λ p. subst (λ (v : CacheData). IsPast v.floor v.items o) c.self.view_is p) in
-    let there = needless_tells i.held i.floor o c.in_err-make_room.ensures.own.lawful
+    let there = needless_test i.held i.floor o c.in_err-make_room.ensures.own.lawful
     c.is_past.ensures.lawful current in
     let needed : ¬ IsNeedless c.args.self.now.floor c.args.self.now.items o =
     λ n. c.in_err-make_room.ensures.memory (there.1

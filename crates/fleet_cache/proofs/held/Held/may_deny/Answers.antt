@@ -8,4 +8,4 @@ use Rattle.fleet_cache.proofs.held.Held.may_deny.Goals as goal
 pub returns : goal.returns
 returns g c none = subst (HasNone NameError (length c.args.name.now)) c.self.view_is
     (noted_none NameError _ (items_of c.self.inside.fronts.entries) (length c.args.name.now)
-    c.self.invariant.2 (sym c.may_stand.ensures ∙ none))
+    c.self.invariant.2 (sym c.has_length_of.ensures ∙ none))

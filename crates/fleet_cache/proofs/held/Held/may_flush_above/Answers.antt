@@ -9,7 +9,7 @@ use Rattle.fleet_cache.proofs.held.Held.may_flush_above.Goals as goal
 pub returns-clause-none : goal.returns-clause-none
 returns-clause-none g c none = subst (HasNoneShorter Flush (length c.args.name.now)) c.self.view_is
     (noted_longer Flush _ (items_of c.self.inside.fronts.entries) (length c.args.name.now)
-    c.self.invariant.3 (sym c.may_stand_above.ensures ∙ none))
+    c.self.invariant.3 (sym c.has_shorter_than.ensures ∙ none))
 
 pub returns-clause-own : goal.returns-clause-own
 returns-clause-own g c = subst IsHeld c.self.view_is c.self.invariant.0

@@ -3,6 +3,6 @@ use Rattle.fleet_gossip.proofs.entry.FrameEntry.to_records.Goals as goal
 
 pub unreachable-requires : goal.unreachable-requires
 unreachable-requires g c =
-    let tells = c.requires.tells in
-    records_made _ tells.0 tells.1 c.requires.kind _ c.in_ok-rdatas.ensures _
+    let entry_is = c.requires.entry in
+    records_made _ entry_is.0 entry_is.1 c.requires.kind _ c.in_ok-rdatas.ensures _
     c.in_default.ensures.checks

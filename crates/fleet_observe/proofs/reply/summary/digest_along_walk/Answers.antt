@@ -2,7 +2,7 @@ use Rattle.std.proofs.Common.{◌∙◌, ap}
 use Rattle.fleet_wire.specs.Question.{QuestionData}
 use Rattle.fleet_wire.specs.declared.header.Header.{Header}
 use Rattle.fleet_observe.specs.Digest.{end_data}
-use Rattle.fleet_observe.specs.DigestOf.{TellsWalk}
+use Rattle.fleet_observe.specs.DigestOf.{WalkEndsAs}
 use Rattle.fleet_name.proofs.Lemmas.{labels_of-spelled}
 use Rattle.fleet_observe.proofs.Spelling.{spells}
 use Rattle.fleet_observe.proofs.LawfulMeanings.{all_plain, lawful_meaning, meaning_along_walk}
@@ -33,19 +33,19 @@ invariant_of-result g c =
     o.octets ∙ ap (λ (x : QuestionData). x.name) q in
     let rtype = ap (λ (x : QuestionData). x.rtype) q in
     let f = rw (c.answer.ensures.answer, rtype, is) at c.in_ok-chain.ensures in
-    let tells : TellsWalk m c.in_ok-chain.field-0.chain.items (end_data c.in_ok-end.end) =
+    let ends_as : WalkEndsAs m c.in_ok-chain.field-0.chain.items (end_data c.in_ok-end.end) =
     record {
       asks = c.requires.asks;
       later = f.later;
       walk = f.walk;
       links = f.links;
-      end_is = rw f.stands at c.in_ok-end.ensures;
+      end_is = rw f.at_last at c.in_ok-end.ensures;
     } in
     lawful_meaning m _ c.header.ensures.read
     (meaning_along_walk m c.in_ok-try_clone.field-0 c.question.inside.rtype c.header.result.aa
     c.in_ok-chain.field-0.chain.items (end_data c.in_ok-end.end) c.in_ok-ns.ns.items
     c.requires.served (c.in_ok-try_clone.ensures ∙ ap (λ (x : QuestionData). x.name) q) rtype
-    (ap (λ (x : Header). x.aa) c.header.ensures.header) tells c.in_ok-ns.ensures.sets)
+    (ap (λ (x : Header). x.aa) c.header.ensures.header) ends_as c.in_ok-ns.ensures.sets)
 
 pub returns : goal.returns
 returns g c =
@@ -56,15 +56,15 @@ returns g c =
     o.octets ∙ ap (λ (x : QuestionData). x.name) q in
     let rtype = ap (λ (x : QuestionData). x.rtype) q in
     let f = rw (c.answer.ensures.answer, rtype, is) at c.in_ok-chain.ensures in
-    let tells : TellsWalk m c.in_ok-chain.field-0.chain.items (end_data c.in_ok-end.end) =
+    let ends_as : WalkEndsAs m c.in_ok-chain.field-0.chain.items (end_data c.in_ok-end.end) =
     record {
       asks = c.requires.asks;
       later = f.later;
       walk = f.walk;
       links = f.links;
-      end_is = rw f.stands at c.in_ok-end.ensures;
+      end_is = rw f.at_last at c.in_ok-end.ensures;
     } in
     meaning_along_walk m c.in_ok-try_clone.field-0 c.question.inside.rtype c.header.result.aa
     c.in_ok-chain.field-0.chain.items (end_data c.in_ok-end.end) c.in_ok-ns.ns.items
     c.requires.served (c.in_ok-try_clone.ensures ∙ ap (λ (x : QuestionData). x.name) q) rtype
-    (ap (λ (x : Header). x.aa) c.header.ensures.header) tells c.in_ok-ns.ensures.sets
+    (ap (λ (x : Header). x.aa) c.header.ensures.header) ends_as c.in_ok-ns.ensures.sets

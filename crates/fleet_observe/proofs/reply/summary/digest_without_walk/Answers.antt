@@ -13,7 +13,7 @@ invariant_of-result g c =
     c.requires.served
     c.requires.named (ap (λ (x : QuestionData). x.rtype) q)
     (ap (λ (x : Header). x.aa) c.header.ensures.header)
-    c.new.ensures.items c.requires.tells c.requires.idle c.new-2.ensures.items in
+    c.new.ensures.items c.requires.ends_as c.requires.idle c.new-2.ensures.items in
     lawful_meaning m _ c.header.ensures.read meaning
 
 pub returns : goal.returns
@@ -23,4 +23,4 @@ returns g c =
     c.new.result.items (end_data c.args.end) c.new-2.result.items c.requires.served
     c.requires.named (ap (λ (x : QuestionData). x.rtype) q)
     (ap (λ (x : Header). x.aa) c.header.ensures.header)
-    c.new.ensures.items c.requires.tells c.requires.idle c.new-2.ensures.items
+    c.new.ensures.items c.requires.ends_as c.requires.idle c.new-2.ensures.items
