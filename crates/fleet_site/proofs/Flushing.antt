@@ -30,7 +30,9 @@ module _ (o : PendingData) (name : List (List ℕ)) (t : ℕ) (s list : List Obs
 
   pub carries_flush : (out : OutcomeData) → out ≡ says_flush frames
       → IsCached (list ++ s) cache.floor cache.items
-      → DoesOrStops (Flushed o name t) (Unit {0}) s o (Ok out) cache o
+      → DoesOrStops (Flushed o name t) (Unit {0})
+      (record { taken = s; asking = o }) (Ok out)
+      (record { cache = cache; asking = o })
   carries_flush out said cached = (
     flush_deed o name t frames,
     flushed,
@@ -41,7 +43,9 @@ module _ (o : PendingData) (name : List (List ℕ)) (t : ℕ) (s list : List Obs
 
   pub stops_flush : (taken : ℕ) → taken < length list
       → IsCached (take taken list ++ s) cache.floor cache.items
-      → DoesOrStops (Flushed o name t) (Unit {0}) s o (Err (OutOfMemory taken)) cache o
+      → DoesOrStops (Flushed o name t) (Unit {0})
+      (record { taken = s; asking = o }) (Err (OutOfMemory taken))
+      (record { cache = cache; asking = o })
   stops_flush taken within cached = (
     refl,
     inr (

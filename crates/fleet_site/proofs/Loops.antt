@@ -9,7 +9,7 @@ use Rattle.fleet_site.specs.SiteData.{SiteData}
 use Rattle.fleet_site.specs.SiteModel.{SiteModel}
 use Rattle.fleet_site.specs.StandsFor.{StandsFor}
 use Rattle.fleet_site.specs.server.PortRecord.{PortState, Made}
-use Rattle.fleet_site.specs.steps.Turned.{Took}
+use Rattle.fleet_site.specs.steps.Turned.{LoopState, Took}
 use Rattle.fleet_site.specs.server.Turn.{Action, ServerState, TurnStep, TurnStepSays, Ticks, Turns, start_of}
 use Rattle.fleet_site.specs.declared.outcome.SiteFault.{SiteFault}
 use Rattle.fleet_site.specs.declared.report.Report.{Report}
@@ -34,14 +34,16 @@ abbrev pub ticks_left : Bool → ℕ → ℕ
 ticks_left true due = due + 1
 ticks_left false due = 0
 
+-- a state of the loop
+abbrev pub loop_state : PortState → SiteData → Report → LoopState
+loop_state port site report = record { port = port; site = site; report = report }
+
 -- some ticks of a turn
-pub record Ticking (old new : PortState) (t : ℕ) (more : Bool) (site after : SiteData)
-    (r q : Report)
-    : Type 0 where
+pub record Ticking (a b : LoopState) (t : ℕ) (more : Bool) : Type 0 where
   pub actions : List Action
   pub ticks : Ticks t actions more
-  pub few : length actions + room more (due_by after t) ≤ MOST_ENTRIES
-  pub took : Took old new site after r q actions
+  pub few : length actions + room more (due_by b.site t) ≤ MOST_ENTRIES
+  pub took : Took a b actions
 
 -- some turns of a run
 pub record Serves (old new : PortState) (moments : Option (ℕ → ℕ)) (s : Stream) (n every : ℕ)

@@ -15,7 +15,7 @@ use Rattle.fleet_site.specs.declared.outcome.SiteFault.{SiteFault}
 use Rattle.fleet_site.specs.declared.report.Report.{Report}
 use Rattle.fleet_site.proofs.ServerLists.{made_none, made_both, failures_of-append}
 use Rattle.fleet_site.proofs.ServerTurns.{acts_both}
-use Rattle.fleet_site.proofs.Loops.{Serves, CountsFailures}
+use Rattle.fleet_site.proofs.Loops.{Serves, CountsFailures, loop_state}
 
 moment_at : (f : ℕ → ℕ) (n t : ℕ) (now next : Option (ℕ → ℕ)) → HasPassed (Some f) n now
     → IfSome now (λ h. (t ≡ h 0) × (next ≡ Some (λ k. h (k + 1)))) → t ≡ f n
@@ -93,7 +93,7 @@ pub serves_more : (old mid new : PortState) (ms : Option (ℕ → ℕ)) (s : Str
     → Serves old mid ms s n every a b swept r
     → IsMomentOfTurn ms n t
     → w ≡ word_of s n
-    → Turned mid new t w every b c swept last r q
+    → Turned (loop_state mid b r) (loop_state new c q) t w every swept last
     → Serves old new ms s (n + 1) every a c (Some last) q
 serves_more old mid new ms s n every t w last a b c swept r q k m e x =
     let start : ServerState = start_of a in

@@ -22,7 +22,7 @@ use Rattle.fleet_site.specs.steps.Turned.{Turned, Took, GivenOne, Heard, TickedA
 use Rattle.fleet_site.specs.declared.outcome.SiteFault.{SiteFault}
 use Rattle.fleet_site.specs.declared.report.Report.{Report}
 use Rattle.fleet_site.proofs.ServerLists.{made_none, made_both}
-use Rattle.fleet_site.proofs.Loops.{due_by, room, Ticking, Stepped}
+use Rattle.fleet_site.proofs.Loops.{loop_state, due_by, room, Ticking, Stepped}
 
 calls_of-append : (ys bs : List Action) → calls_of (ys ++ bs) ≡ calls_of ys ++ calls_of bs
 calls_of-append [] bs = refl
@@ -59,11 +59,11 @@ acted_both s t u ys bs a b = record {
       (subst (λ (x : _). AllSent x.peers bs) a.config b.sent);
 }
 
-pub took_none : (old : PortState) (s : SiteData) (r : Report) → Took old old s s r r []
+pub took_none : (old : PortState) (s : SiteData) (r : Report) → Took (loop_state old s r) (loop_state old s r) []
 took_none old s r = record { acted = acted_none s; made = made_none old; report = refl }
 
 took_both : (old mid new : PortState) (s t u : SiteData) (r q p : Report) (ys bs : List Action)
-    → Took old mid s t r q ys → Took mid new t u q p bs → Took old new s u r p (ys ++ bs)
+    → Took (loop_state old s r) (loop_state mid t q) ys → Took (loop_state mid t q) (loop_state new u p) bs → Took (loop_state old s r) (loop_state new u p) (ys ++ bs)
 took_both old mid new s t u r q p ys bs a b = record {
   acted = acted_both s t u ys bs a.acted b.acted;
   made = rw (calls_of-append ys bs) (made_both old mid new (calls_of ys) (calls_of bs) a.made
@@ -87,7 +87,7 @@ acted_one s t x a calls h k = record {
 took_one : (old new : PortState) (s t : SiteData) (x : TurnStep) (a : Result OutcomeData SiteFault)
     (r q : Report)
     → Stepped x a s t → (c : CarriesOut old new t.config.peers a r q)
-    → Took old new s t r q (action_of x a c.calls ∷ [])
+    → Took (loop_state old s r) (loop_state new t q) (action_of x a c.calls ∷ [])
 took_one old new s t x a r q h c = record {
   acted = acted_one s t x a c.calls h c.sent;
   made = rw (append-nil c.calls) c.made;
@@ -98,7 +98,7 @@ took_one old new s t x a r q h c = record {
 pub given_one : (old new : PortState) (t w : ℕ) (s u : SiteData) (r q : Report) (from : Addr)
     (octets : List ℕ) (a : Result OutcomeData SiteFault)
     → Stepped (calling (datagram t from octets w)) a s u → CarriesOut old new u.config.peers a r q
-    → GivenOne old new t from octets w s u r q
+    → GivenOne (loop_state old s r) (loop_state new u q) t from octets w
 given_one old new t w s u r q from octets a k c = record {
   action = action_of (calling (datagram t from octets w)) a c.calls;
   step = refl;
@@ -109,7 +109,7 @@ given_one old new t w s u r q from octets a k c = record {
 pub given_reply : (old new : PortState) (t w : ℕ) (s u : SiteData) (r q : Report) (from : Addr)
     (octets reply : List ℕ)
     → Stepped (calling (datagram t from octets w)) (Ok (sends from reply)) s u
-    → Sends old new (packet_to from reply) r q → GivenOne old new t from octets w s u r q
+    → Sends old new (packet_to from reply) r q → GivenOne (loop_state old s r) (loop_state new u q) t from octets w
 given_reply old new t w s u r q from octets reply k c =
     given_one old new t w s u r q from octets (Ok (sends from reply)) k
     (record { calls = c.calls; made = c.made; sent = c.sent; report = c.report })
@@ -117,8 +117,8 @@ given_reply old new t w s u r q from octets reply k c =
 pub heard_one : (old mid new : PortState) (asked t w : ℕ) (s u : SiteData) (r q p : Report)
     (from : Addr) (octets : List ℕ) → asked ≡ ROOM
     → NotesAll old.told (Received asked from octets ∷ []) mid.told → mid.failed ≡ old.failed
-    → q ≡ count_call (Received asked from octets) r → GivenOne mid new t from octets w s u q p
-    → Heard old new t w s u r p
+    → q ≡ count_call (Received asked from octets) r → GivenOne (loop_state mid s q) (loop_state new u p) t from octets w
+    → Heard (loop_state old s r) (loop_state new u p) t w
 heard_one old mid new asked t w s u r q p from octets m n i e g = record {
   arrival = Received asked from octets;
   asks = m;
@@ -133,7 +133,7 @@ heard_one old mid new asked t w s u r q p from octets m n i e g = record {
 pub heard_none : (old new : PortState) (asked t w : ℕ) (s : SiteData) (r q : Report)
     → asked ≡ ROOM
     → NotesAll old.told (NoDatagram asked ∷ []) new.told → new.failed ≡ old.failed → q ≡ r
-    → Heard old new t w s s r q
+    → Heard (loop_state old s r) (loop_state new s q) t w
 heard_none old new asked t w s r q m n i e =
     record {
       arrival = NoDatagram asked;
@@ -148,7 +148,7 @@ heard_none old new asked t w s r q m n i e =
 pub heard_fault : (old new : PortState) (asked t w : ℕ) (s : SiteData) (r q : Report)
     → asked ≡ ROOM
     → NotesAll old.told (Fault asked ∷ []) new.told → new.failed ≡ one_more old.failed
-    → q ≡ count_call (Fault asked) r → Heard old new t w s s r q
+    → q ≡ count_call (Fault asked) r → Heard (loop_state old s r) (loop_state new s q) t w
 heard_fault old new asked t w s r q m n i e =
     record {
       arrival = Fault asked;
@@ -163,7 +163,7 @@ heard_fault old new asked t w s r q m n i e =
 pub swept_now : (old new : PortState) (every since t : ℕ) (s : SiteData) (r q : Report)
     (peers : List Addr) (a : Result OutcomeData SiteFault)
     → IsSweepDue every since t → peers ≡ s.config.peers → Stepped sweeping a s s
-    → CarriesOut old new peers a r q → SweptOnce old new every since t t s s r q
+    → CarriesOut old new peers a r q → SweptOnce (loop_state old s r) (loop_state new s q) every since t t
 swept_now old new every since t s r q peers a due i k c =
     let y : CarriesOut old new s.config.peers a r q =
     subst (λ (ps : List Addr). CarriesOut old new ps a r q) i c in
@@ -174,7 +174,7 @@ swept_now old new every since t s r q peers a due i k c =
     }
 
 pub swept_not : (old : PortState) (every since t : ℕ) (s : SiteData) (r : Report)
-    → (¬ IsSweepDue every since t) → SweptOnce old old every since t since s s r r
+    → (¬ IsSweepDue every since t) → SweptOnce (loop_state old s r) (loop_state old s r) every since t since
 swept_not old every since t s r not_due =
     record { actions = []; swept = inr (not_due, (refl, refl)); took = took_none old s r }
 
@@ -186,16 +186,16 @@ few_more true n d e h f = let x = f refl in let p : 0 < e = x.0 in let q : e < d
 few_more false n d e h f = omega arith
 
 pub ticking_none : (old : PortState) (t : ℕ) (s : SiteData) (r : Report) → due_by s t ≤ MOST_ENTRIES
-    → Ticking old old t true s s r r
+    → Ticking (loop_state old s r) (loop_state old s r) t true
 ticking_none old t s r few =
     record { actions = []; ticks = no_tick; few = omega arith; took = took_none old s r }
 
 pub ticking_more : (old mid new : PortState) (t : ℕ) (s u v : SiteData) (r q p : Report)
     (a : Result OutcomeData SiteFault)
-    → Ticking old mid t true s u r q → Stepped (calling (tick t)) a u v
+    → Ticking (loop_state old s r) (loop_state mid u q) t true → Stepped (calling (tick t)) a u v
     → CarriesOut mid new v.config.peers a q p
     → v.clock ≡ max u.clock t → (goes_on a ≡ true → LeavesFewer u.pending v.pending v.clock)
-    → Ticking old new t (goes_on a) s v r p
+    → Ticking (loop_state old s r) (loop_state new v p) t (goes_on a)
 ticking_more old mid new t s u v r q p a k h c e fewer =
     let action = action_of (calling (tick t)) a c.calls in
     let n : length (k.actions ++ action ∷ []) ≡ length k.actions + 1 = length-append k.actions (action ∷ []) in
@@ -236,20 +236,20 @@ stepped_sweep (Ok frames) s h =
 stepped_sweep (Err e) s h = record { step = λ m i. (m, (refl, refl), i); config = refl }
 
 pub ticks_all : (old new : PortState) (t : ℕ) (b : Bool) (s u : SiteData) (r q : Report) → b ≡ false
-    → Ticking old new t b s u r q → TickedAll old new t s u r q
+    → Ticking (loop_state old s r) (loop_state new u q) t b → TickedAll (loop_state old s r) (loop_state new u q) t
 ticks_all old new t b s u r q e k =
-    let j : Ticking old new t false s u r q =
-    subst (λ (x : Bool). Ticking old new t x s u r q) e k in
+    let j : Ticking (loop_state old s r) (loop_state new u q) t false =
+    subst (λ (x : Bool). Ticking (loop_state old s r) (loop_state new u q) t x) e k in
     let n : length j.actions + 0 ≤ MOST_ENTRIES = j.few in
     record { actions = j.actions; ticks = j.ticks; few = omega arith; took = j.took }
 
 -- a turn
 turns_parts : (old one two new : PortState) (t w every last : ℕ) (since : Option ℕ)
     (s u v : SiteData) (r q p z : Report)
-    → Heard old one t w s u (record r { turns = one_more r.turns }) q
-    → TickedAll one two t u v q p
-    → SweptOnce two new every (unwrap_or since t) t last v v p z
-    → Turned old new t w every s v since last r z
+    → Heard (loop_state old s (record r { turns = one_more r.turns })) (loop_state one u q) t w
+    → TickedAll (loop_state one u q) (loop_state two v p) t
+    → SweptOnce (loop_state two v p) (loop_state new v z) every (unwrap_or since t) t last
+    → Turned (loop_state old s r) (loop_state new v z) t w every since last
 turns_parts old one two new t w every last since s u v r q p z a b c =
     let actions = a.actions ++ (b.actions ++ c.actions) in
     let made = made_both old one new (a.arrival ∷ calls_of a.actions)
@@ -288,10 +288,10 @@ turns_parts old one two new t w every last since s u v r q p z a b c =
 pub turned_at : (old one two new : PortState) (t w every last from : ℕ) (since : Option ℕ)
     (s u v : SiteData) (r k q p z : Report)
     → k ≡ record r { turns = one_more r.turns } → from ≡ unwrap_or since t
-    → Heard old one t w s u k q → TickedAll one two t u v q p
-    → SweptOnce two new every from t last v v p z
-    → Turned old new t w every s v since last r z
+    → Heard (loop_state old s k) (loop_state one u q) t w → TickedAll (loop_state one u q) (loop_state two v p) t
+    → SweptOnce (loop_state two v p) (loop_state new v z) every from t last
+    → Turned (loop_state old s r) (loop_state new v z) t w every since last
 turned_at old one two new t w every last from since s u v r k q p z d e a b c =
     turns_parts old one two new t w every last since s u v r q p z
-    (subst (λ (y : Report). Heard old one t w s u y q) d a) b
-    (subst (λ (y : ℕ). SweptOnce two new every y t last v v p z) e c)
+    (subst (λ (y : Report). Heard (loop_state old s y) (loop_state one u q) t w) d a) b
+    (subst (λ (y : ℕ). SweptOnce (loop_state two v p) (loop_state new v z) every y t last) e c)

@@ -23,7 +23,9 @@ pub(crate) fn flush_name<A: Allocator + Copy>(
 ) -> Result<Outcome<A>, SiteFault>
     ensures flushed { (o : PendingData) (s : Observations)
         → IsCached s cache.old.floor cache.old.items
-        → DoesOrStops (Flushed o name.now clock) (Unit {0}) s o result cache.new o }
+        → DoesOrStops (Flushed o name.now clock) (Unit {0})
+        (record { taken = s; asking = o }) result
+        (record { cache = cache.new; asking = o }) }
     ensures floor { cache.new.floor ≡ cache.old.floor }
 {
     let name = name.try_clone()?;

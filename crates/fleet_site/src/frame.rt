@@ -22,7 +22,9 @@ pub(crate) fn take_frame<A: Allocator + Copy>(
 ) -> Result<Outcome<A>, SiteFault>
     ensures framed { (o : PendingData) (s : Observations)
         → IsCached s cache.old.floor cache.old.items
-        → DoesOrStops (Framed o octets.now) (HasEntries octets.now) s o result cache.new o }
+        → DoesOrStops (Framed o octets.now) (HasEntries octets.now)
+        (record { taken = s; asking = o }) result
+        (record { cache = cache.new; asking = o }) }
     ensures floor { cache.new.floor ≡ cache.old.floor }
 {
     match decode(alloc, octets) {

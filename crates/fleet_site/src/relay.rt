@@ -157,8 +157,9 @@ pub(crate) fn take_reply<A: Allocator + Copy>(
     octets: &[u8],
 ) -> Result<Outcome<A>, SiteFault>
     ensures replied { (s : Observations) → IsCached s cache.old.floor cache.old.items
-        → DoesOrStops (Replied pending.old clock upstream octets.now)
-        (IsReplying octets.now) s pending.old result cache.new pending.new }
+        → DoesOrStops (Replied pending.old clock upstream octets.now) (IsReplying octets.now)
+        (record { taken = s; asking = pending.old }) result
+        (record { cache = cache.new; asking = pending.new }) }
     ensures floor { cache.new.floor ≡ cache.old.floor }
     ensures table { KeepsTable pending.old pending.new }
 {
@@ -249,7 +250,9 @@ pub(crate) fn learn_reply<A: Allocator + Copy>(
 ) -> Result<Outcome<A>, SiteFault>
     ensures learnt { (o : PendingData) (s : Observations)
         → IsCached s cache.old.floor cache.old.items
-        → DoesOrStops (Learnt o clock octets.now) (HasReply octets.now) s o result cache.new o }
+        → DoesOrStops (Learnt o clock octets.now) (HasReply octets.now)
+        (record { taken = s; asking = o }) result
+        (record { cache = cache.new; asking = o }) }
     ensures floor { cache.new.floor ≡ cache.old.floor }
 {
     match read_observations(alloc, clock, octets) {

@@ -130,8 +130,9 @@ fn give<P: Port, A: Allocator + Copy>(
     reply: &mut Vec<u8, A>,
     report: &mut Report,
 )
-    ensures { GivenOne (P.tells port.old) (P.tells port.new) now from bytes.now word site.old
-        site.new report.old report.new }
+    ensures { GivenOne (record { port = P.tells port.old; site = site.old; report = report.old })
+        (record { port = P.tells port.new; site = site.new; report = report.new })
+        now from bytes.now word }
 {
     match site.datagram_into(now, from, bytes, word, reply) {
         Ok(Handled::Reply) => send(port, from, reply.as_slice(), report),
@@ -152,8 +153,9 @@ fn receive<P: Port, A: Allocator + Copy>(
     reply: &mut Vec<u8, A>,
     report: &mut Report,
 )
-    ensures { Heard (P.tells port.old) (P.tells port.new) now word site.old site.new report.old
-        report.new }
+    ensures { Heard (record { port = P.tells port.old; site = site.old; report = report.old })
+        (record { port = P.tells port.new; site = site.new; report = report.new })
+        now word }
 {
     match port.recv(buffer) {
         Ok(None) => {}
@@ -172,8 +174,9 @@ fn tick_all<P: Port, A: Allocator + Copy>(
     now: Moment,
     report: &mut Report,
 )
-    ensures { TickedAll (P.tells port.old) (P.tells port.new) now site.old site.new report.old
-        report.new }
+    ensures { TickedAll (record { port = P.tells port.old; site = site.old; report = report.old })
+        (record { port = P.tells port.new; site = site.new; report = report.new })
+        now }
 {
     // At most `MOST_ENTRIES` are due, so there is an end.
     serving_leaves_fewer_due();
@@ -201,8 +204,9 @@ fn sweep_if_due<P: Port, A: Allocator + Copy>(
     every: u32,
     report: &mut Report,
 ) -> Moment
-    ensures { SweptOnce (P.tells port.old) (P.tells port.new)
-        every since now result site.now site.now report.old report.new }
+    ensures { SweptOnce (record { port = P.tells port.old; site = site.now; report = report.old })
+        (record { port = P.tells port.new; site = site.now; report = report.new })
+        every since now result }
 {
     if is_sweep_due(now, since, every) {
         carry_out_sweep(port, site.peers(), site.sweep(), report);
@@ -224,8 +228,9 @@ fn turn<P: Port, A: Allocator + Copy>(
     reply: &mut Vec<u8, A>,
     report: &mut Report,
 ) -> Moment
-    ensures { Turned (P.tells port.old) (P.tells port.new) now word every site.old site.new since
-        result report.old report.new }
+    ensures { Turned (record { port = P.tells port.old; site = site.old; report = report.old })
+        (record { port = P.tells port.new; site = site.new; report = report.new })
+        now word every since result }
 {
     report.count_turns();
     receive(port, site, buffer, now, word, reply, report);

@@ -26,19 +26,29 @@ use Rattle.fleet_site.specs.declared.outcome.SiteFault.TheVariants.{OutOfMemory}
 use Rattle.fleet_site.specs.declared.verdict.Decision.{Decision}
 use Rattle.fleet_site.specs.declared.verdict.Decision.TheVariants.{Dropped, Reply, Unread, Miss}
 
--- Of a site that took in the set s: a deed of this rule was done whole, or stopped for want of
--- memory, and then nothing was taken where memory was needed, or the first of what it brings.
-abbrev pub DoesOrStops : (Effect → Type 0) → Type 0 → Observations → PendingData
-    → Result OutcomeData SiteFault → CacheData → PendingData → Type 0
-DoesOrStops Rule Needed s old (Ok o) cache new =
+-- what a site took in and what it asks, before a deed
+pub record Before : Type 0 where
+  pub taken : Observations
+  pub asking : PendingData
+
+-- what it holds and what it asks, behind it
+pub record Behind : Type 0 where
+  pub cache : CacheData
+  pub asking : PendingData
+
+-- A deed of this rule was done whole, or stopped as memory ran out. Then nothing was taken where
+-- memory was needed, or the first of what it brings.
+abbrev pub DoesOrStops : (Effect → Type 0) → Type 0 → Before → Result OutcomeData SiteFault → Behind
+    → Type 0
+DoesOrStops Rule Needed a (Ok o) b =
     (d : Effect) × Rule d × (o ≡ d.says)
-    × IsCached (d.brings ++ s) cache.floor cache.items
-    × (new ≡ d.asking)
-DoesOrStops Rule Needed s old (Err (OutOfMemory taken)) cache new =
-    (new ≡ old)
-    × (((taken ≡ 0) × IsCached s cache.floor cache.items × Needed)
+    × IsCached (d.brings ++ a.taken) b.cache.floor b.cache.items
+    × (b.asking ≡ d.asking)
+DoesOrStops Rule Needed a (Err (OutOfMemory taken)) b =
+    (b.asking ≡ a.asking)
+    × (((taken ≡ 0) × IsCached a.taken b.cache.floor b.cache.items × Needed)
     ⊎ ((d : Effect) × Rule d × (taken < length d.brings)
-    × IsCached (take taken d.brings ++ s) cache.floor cache.items))
+    × IsCached (take taken d.brings ++ a.taken) b.cache.floor b.cache.items))
 
 -- the same where nothing is ever brought
 abbrev pub SaysOrStops : (Effect → Type 0) → Type 0 → PendingData

@@ -12,51 +12,53 @@ use Rattle.fleet_site.specs.Step.{datagram}
 use Rattle.fleet_site.specs.server.Turn.{Action, calling, HasActed, calls_of, count_actions, ROOM, Given, Ticks, SweepsWhenDue, Turn}
 use Rattle.fleet_site.specs.declared.report.Report.{Report}
 
--- one turn was made
-pub record Turned (old new : PortState) (t : Seconds) (word : ℕ) (every : Seconds) (site after : SiteData)
-    (since : Option Seconds)
-    (last : ℕ) (r q : Report) : Type 0 where
+-- what the parts of a turn begin and end with
+pub record LoopState : Type 0 where
+  pub port : PortState
+  pub site : SiteData
+  pub report : Report
+
+-- one turn was made; the next sweep is counted from a moment before it, and from one behind it
+pub record Turned (a b : LoopState) (t : Seconds) (word : ℕ) (every : Seconds)
+    (since : Option Seconds) (last : ℕ) : Type 0 where
   pub calls : List PortCall
-  pub turn : Turn t word every (record { site = site; calls = []; swept = since; report = r })
-      (record { site = after; calls = calls; swept = Some last; report = q })
-  pub made : Made old new calls
+  pub turn : Turn t word every
+      (record { site = a.site; calls = []; swept = since; report = a.report })
+      (record { site = b.site; calls = calls; swept = Some last; report = b.report })
+  pub made : Made a.port b.port calls
 
 -- steps were taken, carried out and counted
-pub record Took (old new : PortState) (site after : SiteData) (r q : Report) (actions : List Action)
-    : Type 0 where
-  pub acted : HasActed site after actions
-  pub made : Made old new (calls_of actions)
-  pub report : q ≡ count_actions actions r
+pub record Took (a b : LoopState) (actions : List Action) : Type 0 where
+  pub acted : HasActed a.site b.site actions
+  pub made : Made a.port b.port (calls_of actions)
+  pub report : b.report ≡ count_actions actions a.report
 
 -- a datagram was given to the site, and what that gave was carried out and counted
-pub record GivenOne (old new : PortState) (t : Seconds) (from : Addr) (octets : OctetList) (word : ℕ)
-    (site after : SiteData) (r q : Report) : Type 0 where
+pub record GivenOne (a b : LoopState) (t : Seconds) (from : Addr) (octets : OctetList) (word : ℕ)
+    : Type 0 where
   pub action : Action
   pub step : action.step ≡ calling (datagram t from octets word)
-  pub took : Took old new site after r q (action ∷ [])
+  pub took : Took a b (action ∷ [])
 
 -- what was received was given to the site
-pub record Heard (old new : PortState) (t : Seconds) (word : ℕ) (site after : SiteData) (r q : Report)
-    : Type 0 where
+pub record Heard (a b : LoopState) (t : Seconds) (word : ℕ) : Type 0 where
   pub arrival : PortCall
   pub actions : List Action
   pub asks : HasRoomFor ROOM arrival
   pub given : Given t word arrival actions
-  pub acted : HasActed site after actions
-  pub made : Made old new (arrival ∷ calls_of actions)
-  pub report : q ≡ count_actions actions (count_call arrival r)
+  pub acted : HasActed a.site b.site actions
+  pub made : Made a.port b.port (arrival ∷ calls_of actions)
+  pub report : b.report ≡ count_actions actions (count_call arrival a.report)
 
--- the site ticked until no other entry was due, or a tick found no memory
-pub record TickedAll (old new : PortState) (t : Seconds) (site after : SiteData) (r q : Report)
-    : Type 0 where
+-- the site ticked until no other entry was due, or a tick ran out of memory
+pub record TickedAll (a b : LoopState) (t : Seconds) : Type 0 where
   pub actions : List Action
   pub ticks : Ticks t actions false
   pub few : length actions ≤ MOST_ENTRIES
-  pub took : Took old new site after r q actions
+  pub took : Took a b actions
 
 -- it swept where it was time
-pub record SweptOnce (old new : PortState) (every since t : Seconds) (last : ℕ) (site after : SiteData)
-    (r q : Report) : Type 0 where
+pub record SweptOnce (a b : LoopState) (every since t : Seconds) (last : ℕ) : Type 0 where
   pub actions : List Action
   pub swept : SweepsWhenDue every since t actions last
-  pub took : Took old new site after r q actions
+  pub took : Took a b actions

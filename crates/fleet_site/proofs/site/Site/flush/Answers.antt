@@ -29,8 +29,9 @@ returns-clause-follows g c =
       questions = c.self.invariant.questions;
     } in
     let R : List ObservationData → ℕ → Type 0 =
-    λ taken t. DoesOrStops (Flushed i.pending c.args.name.now t) (Unit {0}) taken
-    i.pending c.flush_name.result c.flush_name.new.cache i.pending in
+    λ taken t. DoesOrStops (Flushed i.pending c.args.name.now t) (Unit {0})
+    (record { taken = taken; asking = i.pending }) c.flush_name.result
+    (record { cache = c.flush_name.new.cache; asking = i.pending }) in
     for_model P old c.args.self.now c.self.view_is (λ taken cached.
     follows_carried (model_of old taken) call c.flush_name.result new
     (record {
