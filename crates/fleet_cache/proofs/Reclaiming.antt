@@ -227,7 +227,7 @@ pub key_gone : {K : Type 0} (octets : K → List ℕ) (q : List ℕ)
     → lookup (λ k. is_eq (octets_cmp q (octets k))) es ≡ Some f
     → (d : K × List ObservationData)
     → Has (remove_entry (λ k. is_eq (octets_cmp q (octets k)))
-        (set_value (λ k. is_eq (octets_cmp q (octets k))) es g)) d
+    (set_value (λ k. is_eq (octets_cmp q (octets k))) es g)) d
     → octets d.0 ≡ q → ⊥
 key_gone octets q [] f g down found d h same = absurd (cc)
 key_gone octets q (e ∷ es) f g down found d h same =
@@ -236,7 +236,7 @@ key_gone octets q (e ∷ es) f g down found d h same =
           let far : Has es d = rw (yea, yea) at h in
           let tied : octets_cmp q (octets e.0) ≡ Equal = (Equal-is _).0 yea in
           let over : octets_cmp q (octets e.0) ≡ Greater =
-              ap (λ v. octets_cmp v (octets e.0)) (sym same) ∙ down.0 d far in
+          ap (λ v. octets_cmp v (octets e.0)) (sym same) ∙ down.0 d far in
           absurd (cc)
       | inr nay ↦ elim (rw (nay, nay) at h) [
         | inl here ↦ absurd (false≢true (sym nay

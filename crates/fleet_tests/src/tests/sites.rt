@@ -125,7 +125,12 @@ fn show_datagram(
 
 /// A datagram comes in: from a port, with a word, and with a buffer. `into` precedes a packet whose
 /// octets are then in the buffer. The clock of the site behind it comes last.
-fn show_handled(output: &mut String, site: &mut Site, now: Moment, words: &str) -> Result<(), Fail> {
+fn show_handled(
+    output: &mut String,
+    site: &mut Site,
+    now: Moment,
+    words: &str,
+) -> Result<(), Fail> {
     let (port, words) = words.split_once(' ').ok_or("no port")?;
     let (word, name) = words.split_once(' ').ok_or("no word")?;
     let from = addr(number(port)?);

@@ -23,7 +23,7 @@ returns g c =
     (subst (λ q. IsOfKey items q front) c.deref.ensures.value c.in-Some.ensures.found) lawful x first t
     c.cut_at-cut.result (c.cut_at-cut.ensures.cut x.name named) in
     let thin = thinned_reclaimed t items c.trim.new.self lawful (c.trim.ensures.trimmed (is_live items t)
-        cuts) in
+    cuts) in
     record {
       reclaimed = thin;
       live = λ o h key. twice (is_live items t o) (sym (cuts o (thin.of_items o h) key)

@@ -55,9 +55,9 @@ module _ {K : Type 0} (octets : K → List ℕ) (q : List ℕ) (cut : CutData)
       let test = λ (k : K). is_eq (octets_cmp q (octets k)) in
       let shows = λ (x : ObservationData). not (is_hidden cut x) in
       let front = look_some octets q new (without_hidden is_hidden cut f)
-          (trim_laid octets q cut es new (kept some) laid)
-          (ap (lookup test) (is ∙ ap (set_value test es) shown)
-          ∙ look_set test es f (without_hidden is_hidden cut f) (sym found)) in
+      (trim_laid octets q cut es new (kept some) laid)
+      (ap (lookup test) (is ∙ ap (set_value test es) shown)
+      ∙ look_set test es f (without_hidden is_hidden cut f) (sym found)) in
       not-true (is_hidden cut o) (Has-filter shows f o (front.whole o h key)).1
 
   dropped_clear : (left : List (K × List ObservationData))
