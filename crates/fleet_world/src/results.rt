@@ -2,7 +2,7 @@
 
 ghost use Rattle.std.specs.Prelude.{◌≡◌};
 ghost use Rattle.fleet_site.specs.OutcomeData.{nothing};
-ghost use Rattle.fleet_world.specs.steps.Happens.{LooksAs};
+ghost use Rattle.fleet_world.specs.steps.Happens.{FailsAs, LooksAs};
 
 use crate::fault::WorldFault;
 use fleet_name::Octets;
@@ -23,6 +23,15 @@ pub(crate) fn outcome_of<A: Allocator + Copy>(
         taken,
         refused: None,
         more: false,
+    }
+}
+
+/// A fault of a site, as one of a world.
+pub(crate) fn fault_of<A: Allocator>(fault: SiteFault) -> WorldFault<A>
+    ensures { FailsAs fault result }
+{
+    match fault {
+        SiteFault::OutOfMemory { taken } => WorldFault::Memory { taken },
     }
 }
 

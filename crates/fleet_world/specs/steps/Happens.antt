@@ -11,6 +11,7 @@ use Rattle.fleet_site.specs.StandsFor.{Gathers}
 use Rattle.fleet_site.specs.StandsFor.{StandsFor as StandsForSite}
 use Rattle.fleet_site.specs.declared.looked.Looked.{Looked}
 use Rattle.fleet_site.specs.declared.outcome.SiteFault.{SiteFault}
+use Rattle.fleet_site.specs.declared.outcome.SiteFault.TheVariants.{OutOfMemory}
 use Rattle.fleet_world.specs.Becomes.{Becomes}
 use Rattle.fleet_world.specs.Event.{site_of}
 use Rattle.fleet_world.specs.FleetModel.{Replica, FleetModel}
@@ -46,6 +47,10 @@ pub record Merged (old : List SiteData) (into from : ℕ) (r : Result ℕ SiteFa
 abbrev pub MergesAt : List SiteData → ℕ → ℕ → Result ℕ SiteFault → List SiteData → Type 0
 MergesAt old into from r new =
     when into ≡ from then ((r ≡ Ok 0) × (new ≡ old)) otherwise Merged old into from r new
+
+-- a fault of a site, as one of a world
+abbrev pub FailsAs : {A : Type 0} → SiteFault → WorldFault A → Type 0
+FailsAs (OutOfMemory count) f = f ≡ Memory count
 
 -- what asking a site gives, as what asking a world gives
 abbrev pub LooksAs : {A : Type 0} → Result (Looked A) SiteFault → Result (Looked A) (WorldFault A)

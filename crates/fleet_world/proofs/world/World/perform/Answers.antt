@@ -9,15 +9,15 @@ returns-in-Ok-keep_frames-clause-follows g c m h =
     (c.at_site.ensures.frames ∙ h.frames) (c.in-Ok.ensures.happens m h) c.keep_frames.ensures.sites
     c.in-Ok-keep_frames.ensures.kept c.in-Ok-keep_frames.ensures.numbered
 
+pub returns-in-Err-keep_frames-clause-follows : goal.returns-in-Err-keep_frames-clause-follows
+returns-in-Err-keep_frames-clause-follows g c m h =
+    worlds.lost_follows m c.args.event.now _ c.in-Ok.outcome c.at_site.new.self
+    c.keep_frames.new.self c.new-in-Ok.result c.outcome.view_is
+    (c.new-in-Ok.ensures.numbers ∙ c.new.ensures.items) (c.at_site.ensures.frames ∙ h.frames)
+    (c.in-Ok.ensures.happens m h) c.keep_frames.ensures.sites
+    c.in-Err-keep_frames.ensures.lost c.in-Err-keep_frames.ensures.some
+
 pub returns-in-Err-clause-follows : goal.returns-in-Err-clause-follows
 returns-in-Err-clause-follows g c m h =
-    worlds.lost_follows m c.args.event.now _ c.in-Ok.outcome c.at_site.new.self
-    c.keep_frames.new.self c.outcome.view_is (c.at_site.ensures.frames ∙ h.frames)
-    (c.in-Ok.ensures.happens m h) c.keep_frames.ensures.sites c.in-Err.ensures.lost
-    c.in-Err.ensures.some
-
-pub returns-in-Err-OutOfMemory-clause-follows : goal.returns-in-Err-OutOfMemory-clause-follows
-returns-in-Err-OutOfMemory-clause-follows g c m h =
-    let k = c.in-Err-OutOfMemory in
-    let j = c.at_site.ensures.happens m h in
-    ?
+    worlds.stopped_follows m c.args.event.now c.in-Err.fault c.fault_of.result c.at_site.new.self
+    c.fault_of.ensures (c.at_site.ensures.frames ∙ h.frames) (c.in-Err.ensures.happens m h)
