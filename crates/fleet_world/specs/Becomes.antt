@@ -66,7 +66,7 @@ pub record HoldsSome (a : Replica) : Type 0 where
   pub cached : IsCached a.site.taken a.site.floor items
   pub some : items ≢ []
 
--- all that another site took in and heard of joins, and so many of its items were given
+-- all that another site took in and heard of joins, and that many of its items were given
 pub record MergesAll (m : FleetModel) (from count : ℕ) (a b : Replica) : Type 0 where
   pub other : Replica
   pub there : At m.sites from other
@@ -75,7 +75,7 @@ pub record MergesAll (m : FleetModel) (from count : ℕ) (a b : Replica) : Type 
   pub delivered : b.delivered ≡ a.delivered
   pub horizon : b.horizon ≡ max a.horizon other.horizon
 
--- for want of memory only so many of its items join, the first ones
+-- out of memory: only that many of its items join, the first ones
 pub record MergesFirst (m : FleetModel) (from count : ℕ) (a b : Replica) : Type 0 where
   pub other : Replica
   pub there : At m.sites from other
@@ -86,7 +86,7 @@ pub record MergesFirst (m : FleetModel) (from count : ℕ) (a b : Replica) : Typ
 abbrev pub site_again : SiteModel → SiteModel
 site_again s = site_at_first s.upstreams s.peers
 
--- the event's call is done whole with this outcome, or stopped for want of memory, and this becomes
+-- the event's call is done whole with this outcome, or runs out of memory, and this becomes
 -- of its site
 abbrev pub Becomes : {A : Type 0} → FleetModel → Event A → Result OutcomeData SiteFault → Replica
     → Replica → Type 0

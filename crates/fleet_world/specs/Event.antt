@@ -16,12 +16,12 @@ site_of (Flush site now name) = site
 site_of (Merge into from) = into
 site_of (Restart site) = site
 
--- among so many sites is each one that the event names
+-- each site that the event names is among this number of sites
 abbrev pub HasSites : {A : Type 0} → ℕ → Event A → Type 0
 HasSites sites (Merge into from) = (into < sites) × (from < sites)
 HasSites sites e = site_of e < sites
 
--- among so many kept frames is the one that the event names, if it names one
+-- the frame that the event names, if it names one, is among this number of kept frames
 abbrev pub HasNamedFrame : {A : Type 0} → ℕ → Event A → Type 0
 HasNamedFrame frames (Deliver site now frame) = frame < frames
 HasNamedFrame frames e = Unit {0}

@@ -1,1 +1,1 @@
-pub mod Keeping
+pub mod Happens

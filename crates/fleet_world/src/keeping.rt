@@ -6,7 +6,7 @@ ghost use Rattle.fleet_world.specs.FleetModel.{numbers_from};
 use fleet_name::Octets;
 use std::alloc::{AllocError, Allocator};
 
-/// Room for so many frames behind the others, and the numbers that they will have.
+/// Room for a number of frames behind the others, and the numbers that they will have.
 pub(crate) fn make_room<A: Allocator + Copy>(
     alloc: A,
     frames: &mut Vec<Octets<A>, A>,
