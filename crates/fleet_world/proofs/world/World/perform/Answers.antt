@@ -13,7 +13,7 @@ pub returns-in-Err-keep_frames-clause-follows : goal.returns-in-Err-keep_frames-
 returns-in-Err-keep_frames-clause-follows g c m h =
     worlds.lost_follows m c.args.event.now _ c.in-Ok.outcome c.at_site.new.self
     c.keep_frames.new.self c.new-in-Ok.result c.outcome.view_is
-    (c.new-in-Ok.ensures.numbers ∙ c.new.ensures.items) (c.at_site.ensures.frames ∙ h.frames)
+    (c.new-in-Ok.ensures ∙ c.new.ensures.items) (c.at_site.ensures.frames ∙ h.frames)
     (c.in-Ok.ensures.happens m h) c.keep_frames.ensures.sites
     c.in-Err-keep_frames.ensures.lost c.in-Err-keep_frames.ensures.some
 
