@@ -152,7 +152,7 @@ fn serve_new<P: Port, C: Clock>(
     key: [u8; KEY_LENGTH],
     turns: u32,
 ) -> Report
-    ensures { ServesNew (P.tells port.old) (P.tells port.new)
+    ensures { ServesNew (P.state port.old) (P.state port.new)
         (C.moments clock.old) key turns settings result }
 {
     let mut rng = ChaCha20Rng::from_seed(key);

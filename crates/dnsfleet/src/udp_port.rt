@@ -297,14 +297,14 @@ impl<'a, C: time::Clock, A: Allocator + Copy> UdpPort<'a, C, A> {
 
 impl<C: time::Clock, A: Allocator + Copy> Port for UdpPort<'_, C, A> {
     /// It keeps no record of its calls, and counts those that failed.
-    ghost tells = { λ p. record { told = None; failed = p.failed } };
+    ghost state = { λ p. record { noted = None; failed = p.failed } };
 
     /// Hands on what waits, each datagram whole and once, messages first; where nothing waits it
     /// waits itself.
     #[tactic(auto, using(crate::proofs::Queues::leaves_nothing, crate::proofs::Queues::receives_nothing))]
     fn recv(&mut self, buffer: &mut [u8]) -> Result<Option<(Addr, usize)>, PortFault>
         ensures within { IfOk result (λ got. IfSome got (λ p. p.1 ≤ length buffer.old)) }
-        ensures told { NotesAll None (receive_of (length buffer.old) result buffer.new ∷ []) None }
+        ensures noted { NotesAll None (receive_of (length buffer.old) result buffer.new ∷ []) None }
         ensures failed { self.new.failed ≡ failures_after result self.old.failed }
         ensures arrived { Receives (length buffer.old) self.old.arrived result buffer.new
             self.new.arrived }
@@ -319,7 +319,7 @@ impl<C: time::Clock, A: Allocator + Copy> Port for UdpPort<'_, C, A> {
 
     /// Sends a message. What is longer waits, where it has room, until the port receives.
     fn send(&mut self, to: Addr, bytes: &[u8]) -> Result<(), PortFault>
-        ensures told { NotesAll None
+        ensures noted { NotesAll None
             (send_of result (record { to = to; octets = bytes.now }) ∷ []) None }
         ensures failed { self.new.failed ≡ failures_after result self.old.failed }
         ensures arrived { self.new.arrived ≡ self.old.arrived }

@@ -31,7 +31,7 @@ lowered_same e q is class =
     ∙ ap (λ t. record (question_of e) { class = q.class; rtype = t }) rtype
     ∙ ap (λ c. record (question_of e) { class = c }) class
 
--- and the query does not tell the spelling
+-- and the query does not have the spelling
 pub asks_same : (id : ℕ) (q : QuestionData) (e : EntryData) → AsksFor q e → q.class ≡ IN
     → query_octets id q ≡ query_octets id (question_of e)
 asks_same id q e is class = ap (λ x. query_head id ++ question_octets x) (lowered_same e q is class)

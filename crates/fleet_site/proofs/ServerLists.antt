@@ -32,7 +32,7 @@ sent_both (s ∷ ss) ts (c ∷ cs) ds h k = (h.0, sent_both ss ts cs ds h.1 k)
 
 notes_none : (old : Option (List PortCall)) → NotesAll old [] old
 notes_none None = tt
-notes_none (Some told) = (told, refl, sym (append-nil told))
+notes_none (Some noted) = (noted, refl, sym (append-nil noted))
 
 notes_both : (old mid new : Option (List PortCall)) (cs ds : List PortCall) → NotesAll old cs mid
     → NotesAll mid ds new → NotesAll old (cs ++ ds) new
@@ -43,12 +43,12 @@ notes_both old (Some mid) (Some now) cs ds h k =
     (h.0, h.1, k.2 ∙ ap (λ xs. xs ++ ds) (q ∙ h.2) ∙ append_assoc h.0 cs ds)
 
 pub made_none : (old : PortState) → Made old old []
-made_none old = record { told = notes_none old.told; failed = refl }
+made_none old = record { noted = notes_none old.noted; failed = refl }
 
 pub made_both : (old mid new : PortState) (cs ds : List PortCall) → Made old mid cs
     → Made mid new ds → Made old new (cs ++ ds)
 made_both old mid new cs ds a b = record {
-  told = notes_both old.told mid.told new.told cs ds a.told b.told;
+  noted = notes_both old.noted mid.noted new.noted cs ds a.noted b.noted;
   failed = b.failed ∙ ap (failures_of ds) a.failed ∙ sym (failures_of-append cs ds old.failed);
 }
 

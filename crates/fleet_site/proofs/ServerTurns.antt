@@ -116,7 +116,7 @@ given_reply old new t w s u r q from octets reply k c =
 
 pub heard_one : (old mid new : PortState) (asked t w : ℕ) (s u : SiteData) (r q p : Report)
     (from : Addr) (octets : List ℕ) → asked ≡ ROOM
-    → NotesAll old.told (Received asked from octets ∷ []) mid.told → mid.failed ≡ old.failed
+    → NotesAll old.noted (Received asked from octets ∷ []) mid.noted → mid.failed ≡ old.failed
     → q ≡ count_call (Received asked from octets) r → GivenOne (loop_state mid s q) (loop_state new u p) t from octets w
     → Heard (loop_state old s r) (loop_state new u p) t w
 heard_one old mid new asked t w s u r q p from octets m n i e g = record {
@@ -126,13 +126,13 @@ heard_one old mid new asked t w s u r q p from octets m n i e g = record {
   given = (g.action, refl, g.step);
   acted = g.took.acted;
   made = made_both old mid new (Received asked from octets ∷ []) (calls_of (g.action ∷ []))
-      (record { told = n; failed = i }) g.took.made;
+      (record { noted = n; failed = i }) g.took.made;
   report = g.took.report ∙ ap (count_actions (g.action ∷ [])) e;
 }
 
 pub heard_none : (old new : PortState) (asked t w : ℕ) (s : SiteData) (r q : Report)
     → asked ≡ ROOM
-    → NotesAll old.told (NoDatagram asked ∷ []) new.told → new.failed ≡ old.failed → q ≡ r
+    → NotesAll old.noted (NoDatagram asked ∷ []) new.noted → new.failed ≡ old.failed → q ≡ r
     → Heard (loop_state old s r) (loop_state new s q) t w
 heard_none old new asked t w s r q m n i e =
     record {
@@ -141,13 +141,13 @@ heard_none old new asked t w s r q m n i e =
       asks = m;
       given = refl;
       acted = acted_none s;
-      made = record { told = n; failed = i };
+      made = record { noted = n; failed = i };
       report = e;
     }
 
 pub heard_fault : (old new : PortState) (asked t w : ℕ) (s : SiteData) (r q : Report)
     → asked ≡ ROOM
-    → NotesAll old.told (Fault asked ∷ []) new.told → new.failed ≡ one_more old.failed
+    → NotesAll old.noted (Fault asked ∷ []) new.noted → new.failed ≡ one_more old.failed
     → q ≡ count_call (Fault asked) r → Heard (loop_state old s r) (loop_state new s q) t w
 heard_fault old new asked t w s r q m n i e =
     record {
@@ -156,7 +156,7 @@ heard_fault old new asked t w s r q m n i e =
       asks = m;
       given = refl;
       acted = acted_none s;
-      made = record { told = n; failed = i };
+      made = record { noted = n; failed = i };
       report = e;
     }
 

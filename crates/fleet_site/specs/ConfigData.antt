@@ -10,7 +10,7 @@ use Rattle.fleet_name.specs.Places.{At, NoTwo}
 abbrev pub IsAmong : List Addr → Addr → Type 0
 IsAmong xs x = (i : ℕ) × At xs i x
 
--- where a site asks, in this order, and whom it tells
+-- where a site asks, in this order, and whom it sends frames to
 pub record ConfigData : Type 0 where
   pub upstreams : List Addr
   pub peers : List Addr
@@ -23,7 +23,7 @@ HasUpstreams xs = (1 ≤ length xs) × (length xs ≤ MOST_UPSTREAMS)
 abbrev pub HasPeers : List Addr → List Addr → Type 0
 HasPeers xs ys = HasUpstreams xs × (length ys ≤ MOST_PEERS)
 
--- no address stands twice in both lists together
+-- no address is listed twice in both lists together
 abbrev pub AreApart : List Addr → List Addr → Type 0
 AreApart xs ys = NoTwo (λ (x y : Addr). x ≡ y) (xs ++ ys)
 

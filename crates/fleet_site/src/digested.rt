@@ -58,7 +58,7 @@ pub(crate) fn digest_of<A: Allocator + Copy>(
 {
     digest_or_fault();
     match digest(alloc, message) {
-        Ok(told) => Ok(told),
+        Ok(digest) => Ok(digest),
         Err(fault) => match fault {
             DigestFault::NotReply => Err(ReplyFault::Refused(Refusal::Digest(fault))),
             DigestFault::BadChain => Err(ReplyFault::Refused(Refusal::Digest(fault))),

@@ -7,7 +7,7 @@ ghost use Rattle.fleet_site.specs.question.Verdict.{IsAsking, IsPlainAsking};
 ghost use Rattle.fleet_site.specs.steps.Plain.{DecidesPlain, IsPlainMiss};
 
 use crate::verdict::is_served;
-use crate::writing::{is_miss, tell_into};
+use crate::writing::{is_miss, write_answer_into};
 use fleet_cache::Cache;
 use fleet_observe::Moment;
 use fleet_wire::{Header, Question, read_plain_query};
@@ -59,6 +59,6 @@ pub(crate) fn decide_plain<A: Allocator + Copy>(
         let copy = question.try_copy(alloc)?;
         return Ok(Plain::Miss(header, copy));
     }
-    tell_into(out, alloc, header, question, &answer)?;
+    write_answer_into(out, alloc, header, question, &answer)?;
     Ok(Plain::Hit)
 }

@@ -10,10 +10,10 @@ use fleet_pending::Addr;
 use std::alloc::{Allocator, Global};
 use std::collections::VecDeque;
 
-/// A call of a port, and how it ended. A receive tells how many octets were asked for.
+/// A call of a port, and how it ended. A receive has the number of octets that were asked for.
 #[derive(Drop)]
 pub enum Note<A: Allocator = Global> {
-    /// A datagram was received into so many octets: where it came from, and its octets, cut to them.
+    /// A datagram was received into that many octets: its source, and its octets, cut to them.
     Received(usize, Addr, Octets<A>),
     /// No datagram came.
     NoDatagram(usize),
@@ -26,13 +26,13 @@ pub enum Note<A: Allocator = Global> {
 }
 
 /// A port over memory, for tests: it gives one arrival for each receive, and keeps a record of its
-/// calls. A call for which it finds no memory to note fails, and from then on it tells no record.
+/// calls. A call whose note runs out of memory fails, and from then on there is no record.
 #[derive(Drop)]
 pub struct MemoryPort<A: Allocator = Global> {
     alloc: A,
     arrivals: VecDeque<Option<(Addr, Octets<A>)>, A>,
     fails_in: Option<u64>,
-    tells: bool,
+    is_noting: bool,
     notes: Vec<Note<A>, A>,
     failed: u64,
 }
@@ -48,24 +48,24 @@ impl<A: Allocator + Copy> MemoryPort<A> {
         ensures arrivals { result.arrivals.items ≡ arrivals.items }
         ensures fail_at { result.fails_in ≡ fail_at }
         ensures failed { result.failed ≡ 0 }
-        ensures told { record_of result ≡ Some [] }
+        ensures noted { record_of result ≡ Some [] }
     {
         MemoryPort {
             alloc,
             arrivals: VecDeque::from(arrivals),
             fails_in: fail_at,
-            tells: true,
+            is_noting: true,
             notes: Vec::new(alloc),
             failed: 0,
         }
     }
 
-    /// Its record, while it tells it.
+    /// Its record, while it keeps one.
     pub fn notes(&self) -> Option<&[Note<A>]>
         ensures { MatchOption result (record_of self.now ≡ None)
             (λ notes. record_of self.now ≡ Some (map call_of notes.now)) }
     {
-        if self.tells {
+        if self.is_noting {
             Some(self.notes.as_slice())
         } else {
             None
@@ -87,22 +87,22 @@ impl<A: Allocator + Copy> MemoryPort<A> {
         fails
     }
 
-    /// Keeps a note, or tells no more.
+    /// Keeps a note, or keeps no record from now on.
     fn note(&mut self, note: Note<A>) -> bool
-        ensures told { NotesAll (record_of self.old) (call_of note ∷ []) (record_of self.new) }
+        ensures noted { NotesAll (record_of self.old) (call_of note ∷ []) (record_of self.new) }
         ensures rest { NotesAlone self.old self.new result }
     {
-        if !self.tells {
+        if !self.is_noting {
             return true;
         }
-        self.tells = self.notes.push(note).is_ok();
-        self.tells
+        self.is_noting = self.notes.push(note).is_ok();
+        self.is_noting
     }
 
     /// Keeps a note of what a receive gave.
     fn note_arrival(&mut self, got: Option<(Addr, usize)>, buffer: &[u8]) -> bool
         requires { IfSome got (λ p. p.1 ≤ length buffer.now) }
-        ensures told { NotesAll (record_of self.old)
+        ensures noted { NotesAll (record_of self.old)
             (receive_of (length buffer.now) (Ok got) buffer.now ∷ []) (record_of self.new) }
         ensures rest { NotesAlone self.old self.new result }
     {
@@ -132,14 +132,14 @@ impl<A: Allocator + Copy> MemoryPort<A> {
         }
     }
 
-    /// Tells no more; whether it told nothing before.
+    /// Keeps no record from now on; whether it kept none before.
     fn fall_silent(&mut self) -> bool
-        ensures told { record_of self.new ≡ None }
+        ensures noted { record_of self.new ≡ None }
         ensures rest { NotesAlone self.old self.new result }
     {
-        let told = self.tells;
-        self.tells = false;
-        !told
+        let was_noting = self.is_noting;
+        self.is_noting = false;
+        !was_noting
     }
 
     /// Counts a call that failed.
@@ -168,11 +168,11 @@ impl<A: Allocator + Copy> MemoryPort<A> {
 }
 
 impl<A: Allocator + Copy> Port for MemoryPort<A> {
-    ghost tells = { λ p. record { told = record_of p; failed = p.failed } };
+    ghost state = { λ p. record { noted = record_of p; failed = p.failed } };
 
     fn recv(&mut self, buffer: &mut [u8]) -> Result<Option<(Addr, usize)>, PortFault>
         ensures within { IfOk result (λ got. IfSome got (λ p. p.1 ≤ length buffer.old)) }
-        ensures told { NotesAll (record_of self.old)
+        ensures noted { NotesAll (record_of self.old)
             (receive_of (length buffer.old) result buffer.new ∷ []) (record_of self.new) }
         ensures failed { self.new.failed ≡ failures_after result self.old.failed }
         ensures call { IsCall self.old self.new result }
@@ -192,7 +192,7 @@ impl<A: Allocator + Copy> Port for MemoryPort<A> {
     }
 
     fn send(&mut self, to: Addr, bytes: &[u8]) -> Result<(), PortFault>
-        ensures told { NotesAll (record_of self.old)
+        ensures noted { NotesAll (record_of self.old)
             (send_of result (record { to = to; octets = bytes.now }) ∷ []) (record_of self.new) }
         ensures failed { self.new.failed ≡ failures_after result self.old.failed }
         ensures call { IsCall self.old self.new result }

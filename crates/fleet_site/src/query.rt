@@ -11,8 +11,8 @@ use fleet_pending::Entry;
 use fleet_wire::write_query;
 use std::alloc::{AllocError, Allocator};
 
-/// The octets of an entry's query. All who wait asked the same in lower case, so the first one's
-/// question tells it.
+/// The octets of an entry's query. All who wait asked the same in lower case, so it is made of the
+/// first one's question.
 pub(crate) fn entry_query<A: Allocator + Copy>(
     alloc: A,
     id: u16,

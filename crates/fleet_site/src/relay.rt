@@ -38,7 +38,7 @@ pub(crate) struct Relay<A: Allocator> {
     observed: Vec<Observation<A>, A>,
 }
 
-/// The octets that a reply is told to a waiter as.
+/// The octets of the reply for a waiter.
 fn relay_octets<A: Allocator + Copy>(
     alloc: A,
     digest: &Digest<A>,
@@ -50,7 +50,7 @@ fn relay_octets<A: Allocator + Copy>(
     Ok(Octets::new(octets))
 }
 
-/// What a reply is told to waiters as, in their order.
+/// The packets of the reply for waiters, in their order.
 fn relay_packets<A: Allocator + Copy>(
     alloc: A,
     digest: &Digest<A>,

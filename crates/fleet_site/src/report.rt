@@ -18,7 +18,7 @@ pub struct Report {
     pub faults: u64,
     /// Datagrams that the site refused.
     pub refused: u64,
-    /// Steps of the site that found no memory.
+    /// Steps of the site that ran out of memory.
     pub short: u64,
 }
 
@@ -82,7 +82,7 @@ impl Report {
         self.refused = self.refused.saturating_add(1);
     }
 
-    /// A step that found no memory.
+    /// A step that ran out of memory.
     pub(crate) fn count_short(&mut self)
         ensures { self.new ≡ record self.old { short = one_more self.old.short } }
     {

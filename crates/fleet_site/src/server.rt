@@ -25,7 +25,7 @@ const BUFFER: usize = LONGEST_FRAME + 1;
 
 /// Sends octets, and counts them.
 fn send<P: Port>(port: &mut P, to: Addr, bytes: &[u8], report: &mut Report)
-    ensures { Sends (P.tells port.old) (P.tells port.new)
+    ensures { Sends (P.state port.old) (P.state port.new)
         (record { to = to; octets = bytes.now } ∷ []) report.old report.new }
 {
     match port.send(to, bytes) {
@@ -36,7 +36,7 @@ fn send<P: Port>(port: &mut P, to: Addr, bytes: &[u8], report: &mut Report)
 
 /// Sends packets in their order.
 fn send_packets<P: Port, A: Allocator>(port: &mut P, packets: &[Packet<A>], report: &mut Report)
-    ensures { Sends (P.tells port.old) (P.tells port.new)
+    ensures { Sends (P.state port.old) (P.state port.new)
         packets.now report.old report.new }
 {
     for packet in packets {
@@ -46,7 +46,7 @@ fn send_packets<P: Port, A: Allocator>(port: &mut P, packets: &[Packet<A>], repo
 
 /// Sends a frame to each peer.
 fn send_to_each<P: Port>(port: &mut P, frame: &[u8], peers: &[Addr], report: &mut Report)
-    ensures { Sends (P.tells port.old) (P.tells port.new)
+    ensures { Sends (P.state port.old) (P.state port.new)
         (to_each frame.now peers.now) report.old report.new }
 {
     for peer in peers {
@@ -61,7 +61,7 @@ fn send_frames<P: Port, A: Allocator>(
     peers: &[Addr],
     report: &mut Report,
 )
-    ensures { Sends (P.tells port.old) (P.tells port.new)
+    ensures { Sends (P.state port.old) (P.state port.new)
         (to_peers peers.now frames.now) report.old report.new }
 {
     for frame in frames {
@@ -85,7 +85,7 @@ fn carry_out<P: Port, A: Allocator>(
     answer: Result<Outcome<A>, SiteFault>,
     report: &mut Report,
 ) -> bool
-    ensures carried { CarriesOut (P.tells port.old) (P.tells port.new) peers.now
+    ensures carried { CarriesOut (P.state port.old) (P.state port.new) peers.now
         answer report.old report.new }
     ensures more { result ≡ goes_on answer }
 {
@@ -110,7 +110,7 @@ fn carry_out_sweep<P: Port, A: Allocator>(
     frames: Result<Vec<Octets<A>, A>, AllocError>,
     report: &mut Report,
 )
-    ensures { CarriesOut (P.tells port.old) (P.tells port.new) peers.now
+    ensures { CarriesOut (P.state port.old) (P.state port.new) peers.now
         (sweep_outcome frames) report.old report.new }
 {
     match frames {
@@ -130,8 +130,8 @@ fn give<P: Port, A: Allocator + Copy>(
     reply: &mut Vec<u8, A>,
     report: &mut Report,
 )
-    ensures { GivenOne (record { port = P.tells port.old; site = site.old; report = report.old })
-        (record { port = P.tells port.new; site = site.new; report = report.new })
+    ensures { GivenOne (record { port = P.state port.old; site = site.old; report = report.old })
+        (record { port = P.state port.new; site = site.new; report = report.new })
         now from bytes.now word }
 {
     match site.datagram_into(now, from, bytes, word, reply) {
@@ -153,8 +153,8 @@ fn receive<P: Port, A: Allocator + Copy>(
     reply: &mut Vec<u8, A>,
     report: &mut Report,
 )
-    ensures { Heard (record { port = P.tells port.old; site = site.old; report = report.old })
-        (record { port = P.tells port.new; site = site.new; report = report.new })
+    ensures { Heard (record { port = P.state port.old; site = site.old; report = report.old })
+        (record { port = P.state port.new; site = site.new; report = report.new })
         now word }
 {
     match port.recv(buffer) {
@@ -174,8 +174,8 @@ fn tick_all<P: Port, A: Allocator + Copy>(
     now: Moment,
     report: &mut Report,
 )
-    ensures { TickedAll (record { port = P.tells port.old; site = site.old; report = report.old })
-        (record { port = P.tells port.new; site = site.new; report = report.new })
+    ensures { TickedAll (record { port = P.state port.old; site = site.old; report = report.old })
+        (record { port = P.state port.new; site = site.new; report = report.new })
         now }
 {
     // At most `MOST_ENTRIES` are due, so there is an end.
@@ -204,8 +204,8 @@ fn sweep_if_due<P: Port, A: Allocator + Copy>(
     every: u32,
     report: &mut Report,
 ) -> Moment
-    ensures { SweptOnce (record { port = P.tells port.old; site = site.now; report = report.old })
-        (record { port = P.tells port.new; site = site.now; report = report.new })
+    ensures { SweptOnce (record { port = P.state port.old; site = site.now; report = report.old })
+        (record { port = P.state port.new; site = site.now; report = report.new })
         every since now result }
 {
     if is_sweep_due(now, since, every) {
@@ -228,8 +228,8 @@ fn turn<P: Port, A: Allocator + Copy>(
     reply: &mut Vec<u8, A>,
     report: &mut Report,
 ) -> Moment
-    ensures { Turned (record { port = P.tells port.old; site = site.old; report = report.old })
-        (record { port = P.tells port.new; site = site.new; report = report.new })
+    ensures { Turned (record { port = P.state port.old; site = site.old; report = report.old })
+        (record { port = P.state port.new; site = site.new; report = report.new })
         now word every since result }
 {
     report.count_turns();
@@ -238,12 +238,12 @@ fn turn<P: Port, A: Allocator + Copy>(
     sweep_if_due(port, site, now, since.unwrap_or(now), every, report)
 }
 
-/// Serves a site over a port for so many turns, and tells what it counted.
+/// Serves a site over a port for a number of turns, and returns what it counted.
 ///
 /// A turn reads the clock once and draws one word; receives at most one datagram, into 16385
-/// octets, and gives it to the site with the low 16 bits of that word; sends its packets, then its frames, each to the
-/// peers in their order; ticks, sending after each tick, until no other entry is due or a tick
-/// finds no memory; and sweeps where `sweep_every` (seconds) is not 0 and the moment is at least
+/// octets, and gives it to the site with the low 16 bits of that word; sends its packets, then its
+/// frames, each to the peers in their order; ticks, sending after each tick, until no other entry
+/// is due or a tick runs out of memory; and sweeps where `sweep_every` (seconds) is not 0 and the moment is at least
 /// that many seconds after that of the last sweep, or of the first turn. A send that fails counts
 /// as lost, a receive that fails as a fault, a step without memory as short, and the loop goes on.
 pub fn serve<P: Port, C: Clock, R: Rng, A: Allocator + Copy>(
@@ -254,14 +254,14 @@ pub fn serve<P: Port, C: Clock, R: Rng, A: Allocator + Copy>(
     turns: u32,
     sweep_every: u32,
 ) -> Report
-    ensures run { Served (P.tells port.old) (P.tells port.new) (C.moments clock.old)
+    ensures run { Served (P.state port.old) (P.state port.new) (C.moments clock.old)
         (R.stream rng.old) turns sweep_every site.old site.new result }
     ensures follows { FollowsSteps site.old site.new }
     ensures moments { HasPassed (C.moments clock.old) turns (C.moments clock.new) }
     ensures words { R.stream rng.new ≡ left_after turns (R.stream rng.old) }
     ensures failures { result.lost < MOST_COUNTED → result.faults < MOST_COUNTED
-        → (P.tells port.new).failed < MOST_COUNTED
-        → (P.tells port.new).failed ≡ (P.tells port.old).failed + (result.lost + result.faults) }
+        → (P.state port.new).failed < MOST_COUNTED
+        → (P.state port.new).failed ≡ (P.state port.old).failed + (result.lost + result.faults) }
 {
     let mut counted = Report::new();
     let mut buffer = [0u8; BUFFER];

@@ -57,17 +57,6 @@ impl<A: Allocator> Model for Site<A> {
     ghost invariant = { λ s. IsSiteData (site_data s.config s.cache s.clock s.pending) };
 }
 
-/// The later of two moments.
-fn later_moment(one: Moment, other: Moment) -> Moment
-    ensures { result ≡ max one other }
-{
-    if one.value() < other.value() {
-        other
-    } else {
-        one
-    }
-}
-
 /// Where a datagram comes from.
 #[derive(Clone, Copy)]
 enum Sender {
@@ -147,7 +136,7 @@ impl<A: Allocator + Copy> Site<A> {
         self.clock
     }
 
-    /// Whom it tells, in this order.
+    /// Whom it sends frames to, in this order.
     pub(crate) fn peers(&self) -> &[Addr]
         ensures { result.now ≡ self.now.config.peers }
     {
@@ -210,7 +199,7 @@ impl<A: Allocator + Copy> Site<A> {
         if !is_asker(sender) {
             return whole(self.hear(sender, now, from, bytes, word));
         }
-        let clock = later_moment(self.clock, now);
+        let clock = self.clock.later(now);
         self.clock = clock;
         let arrival = Arrival { clock, from, word };
         take_question_into(
@@ -238,7 +227,7 @@ impl<A: Allocator + Copy> Site<A> {
             → Follows m (a_datagram now from bytes.now word) result self.new }
         ensures config { self.new.config ≡ self.old.config }
     {
-        self.clock = later_moment(self.clock, now);
+        self.clock = self.clock.later(now);
         match sender {
             Sender::Upstream(place) => {
                 take_reply(
@@ -290,7 +279,7 @@ impl<A: Allocator + Copy> Site<A> {
         ensures fewer { IfOk result (λ o.
             IsTrue o.more → LeavesFewer self.old.pending self.new.pending self.new.clock) }
     {
-        self.clock = later_moment(self.clock, now);
+        self.clock = self.clock.later(now);
         self.cache.purge(self.clock);
         serve_due(
             self.alloc,
@@ -306,18 +295,18 @@ impl<A: Allocator + Copy> Site<A> {
             → Follows m (a_frame now bytes.now) result self.new }
         ensures config { self.new.config ≡ self.old.config }
     {
-        self.clock = later_moment(self.clock, now);
+        self.clock = self.clock.later(now);
         take_frame(self.alloc, &mut self.cache, bytes)
     }
 
-    /// Takes the observations of a reply in, whoever it is from: `Read` or `Digest` where it has
-    /// none to tell. It matches no open question and sends nothing.
+    /// Takes the observations of a reply in, whoever it is from: `Read` or `Digest` where it is no
+    /// reply that has any. It matches no open question and sends nothing.
     pub fn learn(&mut self, now: Moment, bytes: &[u8]) -> Result<Outcome<A>, SiteFault>
         ensures follows { (m : SiteModel) → StandsFor self.old m
             → Follows m (a_reply now bytes.now) result self.new }
         ensures config { self.new.config ≡ self.old.config }
     {
-        self.clock = later_moment(self.clock, now);
+        self.clock = self.clock.later(now);
         learn_reply(self.alloc, &mut self.cache, self.clock, bytes)
     }
 
@@ -329,7 +318,7 @@ impl<A: Allocator + Copy> Site<A> {
             → Follows m (a_flush now name.now) result self.new }
         ensures config { self.new.config ≡ self.old.config }
     {
-        self.clock = later_moment(self.clock, now);
+        self.clock = self.clock.later(now);
         flush_name(self.alloc, &mut self.cache, self.clock, name)
     }
 
@@ -342,7 +331,7 @@ impl<A: Allocator + Copy> Site<A> {
         ensures memory { IfErr result (λ _. IsAsking bytes.now) }
         ensures config { self.new.config ≡ self.old.config }
     {
-        self.clock = later_moment(self.clock, now);
+        self.clock = self.clock.later(now);
         match decide(self.alloc, &self.cache, self.clock, bytes)? {
             Decision::Dropped => Ok(Looked::Dropped),
             Decision::Reply(octets) => Ok(Looked::Reply(octets)),
@@ -371,7 +360,7 @@ impl<A: Allocator + Copy> Site<A> {
         let count = other.cache.len();
         match self.cache.merge(&other.cache) {
             Ok(()) => {
-                self.clock = later_moment(self.clock, self.cache.floor());
+                self.clock = self.clock.later(self.cache.floor());
                 Ok(count)
             }
             Err(stopped) => Err(SiteFault::OutOfMemory {

@@ -32,7 +32,7 @@ pub(crate) enum Plan<A: Allocator> {
     Fail(u16, Outcome<A>),
 }
 
-/// The octets that tell a waiter that no upstream answered.
+/// The octets of the server failure for a waiter.
 fn failure_octets<A: Allocator + Copy>(
     alloc: A,
     waiter: &Waiter<A>,
@@ -51,7 +51,7 @@ fn failure_octets<A: Allocator + Copy>(
     Ok(Octets::new(write_reply(alloc, &outline)?))
 }
 
-/// What waiters are told where no upstream answered, in their order.
+/// The packets for waiters where no upstream answered, in their order.
 fn failure_packets<A: Allocator + Copy>(
     alloc: A,
     waiters: &[Waiter<A>],
@@ -121,7 +121,7 @@ fn plan_due<A: Allocator + Copy>(
 }
 
 /// Serves the first due entry: its query goes to the next upstream, or after the last all waiters
-/// are told so.
+/// get a server failure.
 pub(crate) fn serve_due<A: Allocator + Copy>(
     alloc: A,
     pending: &mut Pending<A>,

@@ -73,7 +73,7 @@ fn decide_unread<A: Allocator + Copy>(
     fault: ReadFault,
 ) -> Result<Decision<A>, AllocError>
     requires { header.opcode < 16 }
-    ensures told { IfOk result (λ d. SaysUnread header fault (verdict d)) }
+    ensures unread { IfOk result (λ d. SaysUnread header fault (verdict d)) }
     ensures askable { IfOk result (λ d. IsAskable d) }
 {
     if fault == ReadFault::OutOfMemory {

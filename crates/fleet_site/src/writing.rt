@@ -23,7 +23,7 @@ pub(crate) fn is_miss<A: Allocator>(answer: &Answer<'_, A>) -> bool
     matches!(answer, Answer::Miss)
 }
 
-/// The reply that tells an answer, in memory of its own.
+/// The reply with an answer, in memory of its own.
 pub(crate) fn reply_with_answer<A: Allocator + Copy>(
     alloc: A,
     header: Header,
@@ -40,8 +40,8 @@ pub(crate) fn reply_with_answer<A: Allocator + Copy>(
     finish(alloc, &outline)
 }
 
-/// The reply that tells an answer, in place of what `out` holds.
-pub(crate) fn tell_into<'a, A: Allocator + Copy>(
+/// The reply with an answer, in place of what `out` holds.
+pub(crate) fn write_answer_into<'a, A: Allocator + Copy>(
     out: &mut Vec<u8, A>,
     alloc: A,
     header: Header,
@@ -58,7 +58,7 @@ pub(crate) fn tell_into<'a, A: Allocator + Copy>(
     write_reply_into(out, &outline)
 }
 
-/// The RCODE of a reply that tells an answer.
+/// The RCODE of a reply with an answer.
 fn rcode_of<A: Allocator>(answer: &Answer<'_, A>) -> u8
     ensures rcode { result ≡ answer_rcode (answer_data answer.now) }
     ensures short { result < 16 }

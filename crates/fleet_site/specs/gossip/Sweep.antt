@@ -1,4 +1,4 @@
--- What a site tells of all that it holds.
+-- What a site sends of all that it holds.
 -- Serves `Site::sweep`.
 use Rattle.std.specs.Prelude.{List}
 use Rattle.fleet_name.specs.Types.{OctetList}

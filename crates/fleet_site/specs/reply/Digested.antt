@@ -16,14 +16,14 @@ use Rattle.fleet_site.specs.declared.outcome.Refusal.TheVariants.{Read, Digest}
 abbrev pub HasBadChain : MessageData → Type 0
 HasBadChain r = AsksWalk r × (¬ IsWalkable r)
 
--- the octets can't be read, or what stands below holds of the reply that they are
+-- the octets can't be read, or what follows holds of the reply that they are
 abbrev pub ReadThen : PendingData → OctetList → Effect → (MessageData → Type 0) → Type 0
 ReadThen o octets d Then =
     when ¬ HasReply octets
     then ((f : ReadFault) × ReplyFails octets f × (d ≡ refuses (Read f) o)) otherwise
     ((r : MessageData) × IsReply octets r × Then r)
 
--- it is no reply to a question that is served, or its aliases lead nowhere, or what stands below
+-- it is no reply to a question that is served, or its aliases lead nowhere, or what follows
 -- holds of its meaning
 abbrev pub DigestedThen : PendingData → MessageData → Effect → (DigestData → Type 0) → Type 0
 DigestedThen o r d Then =

@@ -29,7 +29,7 @@ pub record IsReplying (octets : OctetList) : Type 0 where
   pub answering : IsAnswering octets
   pub reads : HasReply octets
 
--- what a waiter is told of the reply: with its own id and spelling, and RD set
+-- the relay for a waiter: with its own id and spelling, and RD set
 abbrev pub relay_to : DigestData → WaiterData → PacketData
 relay_to g w = record {
   to = w.from;
@@ -37,7 +37,7 @@ relay_to g w = record {
       (relay_outline g w.question w.id true);
 }
 
--- every waiter is told in order of joining, the observations go out packed and are taken, the entry
+-- every waiter gets it in order of joining, the observations go out packed and are taken, the entry
 -- is settled
 pub record Relays (o : PendingData) (t : Seconds) (e : EntryData) (g : DigestData) (d : Effect) : Type 0
   where

@@ -21,16 +21,16 @@ call_of (note.Fault asked) = Fault asked
 call_of (note.Sent to octets) = PacketSent (record { to = to; octets = octets })
 call_of (note.Lost to octets) = PacketLost (record { to = to; octets = octets })
 
--- what is told of these notes
+-- the record that these notes make
 abbrev pub record_of_notes : {A : Type 0} → Bool → List (Note A) → Option (List PortCall)
 record_of_notes true notes = Some (map call_of notes)
 record_of_notes false notes = None
 
 -- the record of a port over memory
 abbrev pub record_of : {A : Type 0} → MemoryPort A → Option (List PortCall)
-record_of p = record_of_notes p.tells p.notes.items
+record_of p = record_of_notes p.is_noting p.notes.items
 
--- the arrival whose turn it is comes, cut to so many octets; nothing comes where none is left
+-- the arrival whose turn it is comes, cut to the room; nothing comes where none is left
 abbrev pub Arrives : ℕ → List (Option (Addr × OctetList)) → Option (Addr × ℕ) → OctetList → Type 0
 Arrives asked [] got buffer = got ≡ None
 Arrives asked (None ∷ behind) got buffer = got ≡ None
@@ -51,20 +51,20 @@ one_call_fewer (Some zero) = None
 one_call_fewer (Some (suc zero)) = None
 one_call_fewer (Some (suc (suc n))) = Some (suc n)
 
--- a call fails where it is the one that is to fail, and where it could not be noted: from then on no
--- record is told, and it is told on behind every other call
+-- a call fails where it is the one that is to fail, and where it could not be noted: from then on
+-- there is no record, and behind every other call there still is one
 pub record IsCall {A T : Type 0} (old new : MemoryPort A) (r : Result T PortFault) : Type 0 where
   pub counts : new.fails_in ≡ one_call_fewer old.fails_in
   pub chosen : old.fails_in ≡ Some 1 → IsErr r
-  pub other : IsErr r → (old.fails_in ≡ Some 1) ⊎ ((old.tells ≡ true) × (new.tells ≡ false))
-  pub tells : IsOk r → new.tells ≡ old.tells
+  pub other : IsErr r → (old.fails_in ≡ Some 1) ⊎ ((old.is_noting ≡ true) × (new.is_noting ≡ false))
+  pub noting : IsOk r → new.is_noting ≡ old.is_noting
 
 -- What follows, private contracts alone cite.
 
--- nothing changed but the notes: where it was not noted, no record is told from now on
+-- nothing changed but the notes: where it was not noted, there is no record from now on
 pub record NotesAlone {A : Type 0} (old new : MemoryPort A) (noted : Bool) : Type 0 where
   pub arrivals : new.arrivals.items ≡ old.arrivals.items
   pub fails_in : new.fails_in ≡ old.fails_in
   pub failed : new.failed ≡ old.failed
-  pub told : noted ≡ true → new.tells ≡ old.tells
-  pub silent : noted ≡ false → (old.tells ≡ true) × (new.tells ≡ false)
+  pub noting : noted ≡ true → new.is_noting ≡ old.is_noting
+  pub silent : noted ≡ false → (old.is_noting ≡ true) × (new.is_noting ≡ false)

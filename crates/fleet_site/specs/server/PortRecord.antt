@@ -16,19 +16,19 @@ pub data PortCall : Type 0 where
   PacketSent : PacketData → PortCall
   PacketLost : PacketData → PortCall
 
--- where the port still tells its record, it told it before, and these calls are the last ones
+-- where the port still has its record, it had it before, and these calls are the last ones
 abbrev pub NotesAll : Option (List PortCall) → List PortCall → Option (List PortCall) → Type 0
 NotesAll old calls None = Unit {0}
 NotesAll old calls (Some now) =
     (before : List PortCall) × (old ≡ Some before) × (now ≡ before ++ calls)
 
--- what a receive into a buffer of so many octets was, which holds these octets afterwards
+-- what a receive into a buffer of this length was, which holds these octets afterwards
 abbrev pub receive_of : ℕ → Result (Option (Addr × ℕ)) PortFault → OctetList → PortCall
 receive_of asked (Ok None) buffer = NoDatagram asked
 receive_of asked (Ok (Some p)) buffer = Received asked p.0 (take p.1 buffer)
 receive_of asked (Err e) buffer = Fault asked
 
--- a receive that asked for so many octets
+-- a receive that asked for this number of octets
 abbrev pub HasRoomFor : ℕ → PortCall → Type 0
 HasRoomFor n (Received asked from octets) = asked ≡ n
 HasRoomFor n (NoDatagram asked) = asked ≡ n
@@ -59,12 +59,12 @@ failures_of (Fault asked ∷ calls) n = failures_of calls (one_more n)
 failures_of (PacketSent s ∷ calls) n = failures_of calls n
 failures_of (PacketLost s ∷ calls) n = failures_of calls (one_more n)
 
--- what a port may tell: its record, while it tells it, and how many of its calls failed
+-- what may be known of a port: its record, while it keeps one, and how many of its calls failed
 pub record PortState : Type 0 where
-  pub told : Option (List PortCall)
+  pub noted : Option (List PortCall)
   pub failed : ℕ
 
 -- between these two states a port made these calls
 pub record Made (old new : PortState) (calls : List PortCall) : Type 0 where
-  pub told : NotesAll old.told calls new.told
+  pub noted : NotesAll old.noted calls new.noted
   pub failed : new.failed ≡ failures_of calls old.failed

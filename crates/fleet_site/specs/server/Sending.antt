@@ -53,7 +53,7 @@ abbrev pub count_refusal_in : Bool → Report → Report
 count_refusal_in true r = record r { refused = one_more r.refused }
 count_refusal_in false r = r
 
--- it counts a step: a refusal, and want of memory as short
+-- it counts a step: a refusal, and one that ran out of memory as short
 abbrev pub count_step : Result OutcomeData SiteFault → Report → Report
 count_step (Ok e) r = count_refusal_in (is_some e.refused) r
 count_step (Err f) r = record r { short = one_more r.short }

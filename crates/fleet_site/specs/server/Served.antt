@@ -10,7 +10,7 @@ use Rattle.fleet_site.specs.server.PortRecord.{PortState, Made}
 use Rattle.fleet_site.specs.server.Turn.{Action, ActionsLead, ServerState, Turns, start_of}
 use Rattle.fleet_site.specs.declared.report.Report.{Report}
 
--- the run of a server: these turns were made, and where the port tells its record, their calls are
+-- the run of a server: these turns were made, and where the port keeps its record, their calls are
 -- its last ones
 pub record Served (old new : PortState) (moments : Option (ℕ → ℕ)) (s : Stream) (turns : ℕ) (every : Seconds)
     (site after : SiteData) (report : Report) : Type 0 where

@@ -84,7 +84,7 @@ pub data Ticks (t : Seconds) : List Action → Bool → Type 0 where
   next_tick : {actions : List Action} (a : Action) → Ticks t actions true → a.step ≡ calling (tick t)
       → Ticks t (actions ++ a ∷ []) (goes_on a.answer)
 
--- it is time to sweep: so many seconds after a moment, where they are not 0
+-- it is time to sweep: this number of seconds after a moment, where it is not 0
 pub record IsSweepDue (every since t : Seconds) : Type 0 where
   pub some : 0 < every
   pub passed : since + every ≤ t
@@ -96,7 +96,7 @@ SweepsWhenDue every since t actions last =
     then ((a : Action) × (actions ≡ a ∷ []) × (a.step ≡ sweeping) × (last ≡ t)) otherwise
     ((actions ≡ []) × (last ≡ since))
 
--- what stands between two turns: the site, the calls of the port so far, the moment that the next
+-- the state between two turns: the site, the calls of the port so far, the moment that the next
 -- sweep is counted from, and the report
 pub record ServerState : Type 0 where
   pub site : SiteData
@@ -138,18 +138,18 @@ left_after (suc n) s = (next_u32 (left_after n s)).1
 abbrev pub word_of : Stream → ℕ → ℕ
 word_of s n = (next_u32 (left_after n s)).0 % 65536
 
--- the moment of the turn with this number, where the clock tells its moments
+-- the moment of the turn with this number, where the moments of the clock are known
 abbrev pub IsMomentOfTurn : Option (ℕ → ℕ) → ℕ → Seconds → Type 0
 IsMomentOfTurn None n t = Unit {0}
 IsMomentOfTurn (Some moments) n t = t ≡ moments n
 
--- what a clock is going to tell after so many moments, where it tells that before
+-- the moments of a clock after this number of them, where they are known before
 abbrev pub HasPassed : Option (ℕ → ℕ) → ℕ → Option (ℕ → ℕ) → Type 0
 HasPassed None n now = Unit {0}
 HasPassed (Some moments) n now =
     (rest : ℕ → ℕ) × (now ≡ Some rest) × ((k : ℕ) → rest k ≡ moments (n + k))
 
--- so many turns in a row, each with its moment and its word
+-- this number of turns in a row, each with its moment and its word
 abbrev pub Turns : Option (ℕ → ℕ) → Stream → Seconds → ℕ → ServerState → ServerState → Type 0
 Turns moments s every zero a b = b ≡ a
 Turns moments s every (suc n) a b = (mid : ServerState) × (t : Seconds) × Turns moments s every n a mid

@@ -70,11 +70,11 @@ IsAnswered (Reply octets) = Unit {0}
 IsAnswered (Unread octets f) = Unit {0}
 IsAnswered (Miss h q) = Unit {0}
 
--- the reply says that the octets can't be read, for this fault, which is not want of memory
+-- the reply says that the octets can't be read, for this fault, which is not out of memory
 abbrev pub SaysUnread : Header → ReadFault → Verdict → Type 0
 SaysUnread h f v = (f ≢ NoMemory) × (v ≡ Unreadable (bare_octets h FORMAT_ERROR None) f)
 
--- a waiter that was not taken is told so, or no memory was found
+-- a waiter that was not taken gets a server failure, or memory ran out
 abbrev pub TurnsAway : Addr → Header → QuestionData → PendingFault
     → Result OutcomeData SiteFault → Type 0
 TurnsAway from h q f (Ok o) = (f ≢ NoRoom) × (o ≡ turns_away from h q)
@@ -86,7 +86,7 @@ SendsFirst upstreams q (Some id) e =
     (there : Addr) × At upstreams 0 there × (e ≡ sends there (query_octets id q))
 SendsFirst upstreams q None e = e ≡ nothing
 
--- the same with the id that the table tells
+-- the same with the id that the table gives
 abbrev pub IsFirstSaid : List Addr → PendingData → ℕ → QuestionData → OutcomeData → Type 0
 IsFirstSaid upstreams o word q e =
     (told : Option ℕ) × IsQueryId o q word told × SendsFirst upstreams q told e

@@ -23,7 +23,7 @@ pub record IsRetry (upstreams : List Addr) (o : PendingData) (t : Seconds) (id :
     pub further : entry.upstream + 1 < o.upstreams
     pub says : e ≡ sends there (query_octets id (question_of entry))
 
--- the entry is the first due one, and its waiters are told that it failed
+-- the entry is the first due one, and its waiters get a server failure
 pub record IsFailure (o : PendingData) (t : Seconds) (id : ℕ) (e : OutcomeData) : Type 0 where
   pub entry : EntryData
   pub due : IsFirstDue o.entries t entry

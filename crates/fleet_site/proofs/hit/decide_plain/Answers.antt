@@ -19,9 +19,9 @@ returns-clause-decides g c = λ s cached.
     let later : max c.args.cache.now.floor c.args.clock ≡ c.args.clock = omega (arith, c.requires) in
     let told = rw later at (c.answer_lent-answer.ensures.answer s cached) in
     let a = answer_data c.answer_lent-answer.result in
-    let reply = c.tell_into.new.out.items in
+    let reply = c.write_answer_into.new.out.items in
     plain_decided s c.args.clock c.args.octets.now c.in-Some.header c.in-Some.question a
     (Answer reply) c.in-Some.ensures.found (c.is_asking.ensures.0 c.if-not-is_asking.false)
     (c.is_served.ensures.0 c.if-not-is_served.false) told
     (answer_decided c.in-Some.header c.in-Some.question a reply
-    (rw c.in_ok-tell_into.was at c.tell_into.ensures))
+    (rw c.in_ok-write_answer_into.was at c.write_answer_into.ensures))

@@ -5,7 +5,7 @@ use Rattle.fleet_site.proofs.server.send.Goals as goal
 pub returns-in-Ok : goal.returns-in-Ok
 returns-in-Ok g c = record {
   calls = PacketSent (record { to = c.args.to; octets = c.args.bytes.now }) ∷ [];
-  made = record { told = c.in-Ok.ensures.told; failed = c.in-Ok.ensures.failed };
+  made = record { noted = c.in-Ok.ensures.noted; failed = c.in-Ok.ensures.failed };
   sent = (inl refl, tt);
   report = c.count_sent.ensures;
 }
@@ -13,7 +13,7 @@ returns-in-Ok g c = record {
 pub returns-in-Err : goal.returns-in-Err
 returns-in-Err g c = record {
   calls = PacketLost (record { to = c.args.to; octets = c.args.bytes.now }) ∷ [];
-  made = record { told = c.in-Err.ensures.told; failed = c.in-Err.ensures.failed };
+  made = record { noted = c.in-Err.ensures.noted; failed = c.in-Err.ensures.failed };
   sent = (inr refl, tt);
   report = c.count_lost.ensures;
 }

@@ -5,5 +5,5 @@ use Rattle.fleet_site.proofs.server.send_frames.Given as goal
 
 abbrev pub invariant-loop-frame : goal.invariant-loop-frame
 invariant-loop-frame g l =
-    Sends (g.P.Port.tells l.fn.port) (g.P.Port.tells l.port)
+    Sends (g.P.Port.state l.fn.port) (g.P.Port.state l.port)
     (to_peers l.peers (take l.frame-index l.frames)) l.fn.report l.report

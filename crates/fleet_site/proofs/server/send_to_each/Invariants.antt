@@ -5,5 +5,5 @@ use Rattle.fleet_site.proofs.server.send_to_each.Given as goal
 
 abbrev pub invariant-loop-peer : goal.invariant-loop-peer
 invariant-loop-peer g l =
-    Sends (g.P.Port.tells l.fn.port) (g.P.Port.tells l.port)
+    Sends (g.P.Port.state l.fn.port) (g.P.Port.state l.port)
     (to_each l.frame (take l.peer-index l.peers)) l.fn.report l.report

@@ -13,7 +13,7 @@ pub returns-clause-follows : goal.returns-clause-follows
 returns-clause-follows g c =
     let i = c.self.inside in
     let old = site_data i.config i.cache i.clock i.pending in
-    let new = site_data i.config c.flush_name.new.cache c.later_moment-self-inside.result
+    let new = site_data i.config c.flush_name.new.cache c.later-self-inside.result
     i.pending in
     let call = flush c.args.now c.args.name.now in
     let P : SiteModel → Type 0 = λ m. Follows m call c.flush_name.result new in
@@ -24,7 +24,7 @@ returns-clause-follows g c =
         arith,
         c.self.invariant.reached,
         c.flush_name.ensures.floor,
-        c.later_moment-self-inside.ensures,
+        c.later-self-inside.ensures,
       );
       questions = c.self.invariant.questions;
     } in
@@ -38,8 +38,8 @@ returns-clause-follows g c =
       upstreams = refl;
       peers = refl;
       floor = sym c.flush_name.ensures.floor;
-      clock = sym c.later_moment-self-inside.ensures;
+      clock = sym c.later-self-inside.ensures;
       state = kept;
     })
-    (subst (R taken) c.later_moment-self-inside.ensures
+    (subst (R taken) c.later-self-inside.ensures
     (c.flush_name.ensures.flushed i.pending taken cached)))
