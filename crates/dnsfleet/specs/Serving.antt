@@ -24,5 +24,11 @@ pub record ServesNew (old new : PortState) (moments : Option (ℕ → ℕ)) (key
   pub site : SiteData
   pub after : SiteData
   pub opens : StandsFor site (opening settings.config.upstreams settings.config.peers)
-  pub run : Served old new moments (key_stream key) turns settings.sweep site after report
+  pub run : Served old new site after
+      (record {
+        moments = moments;
+        words = key_stream key;
+        turns = turns;
+        every = settings.sweep;
+      }) report
   pub follows : FollowsSteps site after

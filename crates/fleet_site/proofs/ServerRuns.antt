@@ -129,7 +129,8 @@ serves_more old mid new ms s n every t w last a b c swept r q k m e x =
 
 pub serves_run : (old new : PortState) (ms : Option (ℕ → ℕ)) (s : Stream) (n every : ℕ)
     (a b : SiteData) (swept : Option ℕ) (r : Report)
-    → Serves old new ms s n every a b swept r → Served old new ms s n every a b r
+    → Serves old new ms s n every a b swept r → Served old new a b
+    (record { moments = ms; words = s; turns = n; every = every }) r
 serves_run old new ms s n every a b swept r k =
     record { end = k.end; run = k.run; made = k.made; is_site = k.is_site; is_report = k.is_report }
 

@@ -254,8 +254,13 @@ pub fn serve<P: Port, C: Clock, R: Rng, A: Allocator + Copy>(
     turns: u32,
     sweep_every: u32,
 ) -> Report
-    ensures run { Served (P.state port.old) (P.state port.new) (C.moments clock.old)
-        (R.stream rng.old) turns sweep_every site.old site.new result }
+    ensures run { Served (P.state port.old) (P.state port.new) site.old site.new
+        (record {
+          moments = C.moments clock.old;
+          words = R.stream rng.old;
+          turns = turns;
+          every = sweep_every;
+        }) result }
     ensures follows { FollowsSteps site.old site.new }
     ensures moments { HasPassed (C.moments clock.old) turns (C.moments clock.new) }
     ensures words { R.stream rng.new ≡ left_after turns (R.stream rng.old) }

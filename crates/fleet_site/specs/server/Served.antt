@@ -10,12 +10,20 @@ use Rattle.fleet_site.specs.server.PortRecord.{PortState, Made}
 use Rattle.fleet_site.specs.server.Turn.{Action, ActionsLead, ServerState, Turns, start_of}
 use Rattle.fleet_site.specs.declared.report.Report.{Report}
 
+-- what a run is given: the moments of its clock, where they are known, the words of its generator, the
+-- number of its turns, and the seconds between two sweeps
+pub record RunInput : Type 0 where
+  pub moments : Option (ℕ → ℕ)
+  pub words : Stream
+  pub turns : ℕ
+  pub every : Seconds
+
 -- the run of a server: these turns were made, and where the port keeps its record, their calls are
 -- its last ones
-pub record Served (old new : PortState) (moments : Option (ℕ → ℕ)) (s : Stream) (turns : ℕ) (every : Seconds)
-    (site after : SiteData) (report : Report) : Type 0 where
+pub record Served (old new : PortState) (site after : SiteData) (i : RunInput) (report : Report)
+    : Type 0 where
   pub end : ServerState
-  pub run : Turns moments s every turns (start_of site) end
+  pub run : Turns i.moments i.words i.every i.turns (start_of site) end
   pub made : Made old new end.calls
   pub is_site : after ≡ end.site
   pub is_report : report ≡ end.report
