@@ -10,8 +10,8 @@ use Rattle.fleet_site.specs.server.PortRecord.{PortState, Made}
 use Rattle.fleet_site.specs.server.Turn.{Action, ActionsLead, ServerState, Turns, start_of}
 use Rattle.fleet_site.specs.declared.report.Report.{Report}
 
--- what a run is given: the moments of its clock, where they are known, the words of its generator, the
--- number of its turns, and the seconds between two sweeps
+-- what a run is given: the moments of its clock, where they are known, the words of its generator,
+-- the number of its turns, and the seconds between two sweeps
 pub record RunInput : Type 0 where
   pub moments : Option (ℕ → ℕ)
   pub words : Stream
