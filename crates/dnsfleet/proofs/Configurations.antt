@@ -23,9 +23,6 @@ pub record Remains (all rest : Items) (done : List Addr) : Type 0 where
       → (more : List Addr) × SpellAddresses rest more
   pub texts : AreTexts rest
 
-pub all_remain : (all : Items) → AreTexts all → Remains all all []
-all_remain all texts = record { keeps = λ more h. h; needs = λ addrs h. (addrs, h); texts = texts }
-
 one_read : (all : Items) (value : Data) (rest : Items) (done : List Addr) (addr : Addr)
     → Remains all (item value rest) done → ReadsAddress value (Ok addr)
     → Remains all rest (done ++ addr ∷ [])

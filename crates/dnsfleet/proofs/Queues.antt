@@ -60,9 +60,6 @@ keeps_takes old d fits new k = by_size (cases_lt LONGEST_MESSAGE (length d.1))
       frames = pushed old.frames d fits new.frames (k.frame large).0;
     }
 
-leaves_same : (a : List Datagram) → Leaves a a
-leaves_same a = record { sent = []; split = refl }
-
 pub leaves_nothing : (a b : List Datagram) → b ≡ a → Leaves a b
 leaves_nothing a b e = record { sent = []; split = sym e }
 

@@ -10,7 +10,8 @@ use std::fmt::Display;
 use std::process::ExitCode;
 use thiserror::Error;
 
-/// What is wrong with a line, in the order in which faults are reported.
+/// What is wrong with a line. Faults are reported in this order, but those of words, `BadNumber` to
+/// `BadName`, word by word, and `OutOfMemory` at the allocation that failed.
 #[derive(Clone, Copy, Debug, PartialEq, Eq, Error)]
 pub enum LineFault {
     /// The reader failed, or was called too often.

@@ -42,7 +42,7 @@ and less where some do. It prints `listening ADDR`, and after N turns
 Keys of the configuration, a TOML file:
   listen     where the site listens, an address of 127.0.0.1 with a port
   upstreams  1 to 4 addresses that are asked, in this order
-  peers      at most 16 addresses that are told what was learnt; none if absent
+  peers      at most 16 addresses that are sent what was learnt; none if absent
   sweep      0 to 3600, the seconds between two sweeps of all that is held; 0 is never, 30 if absent
 
 Example, a site that asks the server at port 5301; with nothing to do it ends after an hour:

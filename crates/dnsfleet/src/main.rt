@@ -61,7 +61,7 @@ fn program<'a>(alloc: Global, version: &'a str) -> Result<Command<'a>, AllocErro
         .about("Runs a script of a fleet: events from standard input, one a line")
         .after_help(help::SCRIPT);
     let serve = Command::new(alloc, "serve")
-        .about("Serves a site on loopback, for so many turns")
+        .about("Serves a site on loopback, for a number of turns")
         .after_help(help::SERVE);
     let serve = serve::options(alloc, serve)?;
     let program = Command::new(alloc, "dnsfleet")

@@ -78,8 +78,9 @@ pub struct Settings {
 }
 
 /// Reads a configuration, a TOML text with the keys `listen`, `upstreams`, `peers` and `sweep`. Of
-/// several faults the first is returned, in the order of `SettingsFault`, but the faults of values
-/// come key by key, and `OutOfMemory` at the allocation that failed.
+/// several faults the first is returned: `TooLong`, `NotToml`, `UnknownKey`; then `MissingKey` to
+/// `BadSweep`, key by key in this order; then those of upstreams and peers together. `OutOfMemory`
+/// comes at the allocation that failed.
 pub fn read_settings(alloc: Global, octets: &[u8]) -> Result<Settings, SettingsFault>
     ensures { ReadsSettings octets.now result }
 {

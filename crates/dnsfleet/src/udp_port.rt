@@ -93,7 +93,7 @@ impl<'a, C: time::Clock, A: Allocator + Copy> UdpPort<'a, C, A> {
         self.address
     }
 
-    /// Sends all that waits to be sent.
+    /// Sends all that waits to be sent; what the system refuses is lost, and counts as failed.
     pub fn finish(&mut self) {
         for _ in 0..MOST_WAITING {
             if self.leaving.is_empty() {
@@ -299,8 +299,9 @@ impl<C: time::Clock, A: Allocator + Copy> Port for UdpPort<'_, C, A> {
     /// It keeps no record of its calls, and counts those that failed.
     ghost state = { λ p. record { noted = None; failed = p.failed } };
 
-    /// Hands on what waits, each datagram whole and once, messages first; where nothing waits it
-    /// waits itself.
+    /// Hands on the next datagram that waits, once and cut to the buffer, messages first. While
+    /// frames wait to be sent it sends of them too, and fails where the system refuses one. Where
+    /// nothing waits it waits for a datagram.
     #[tactic(auto, using(crate::proofs::Queues::leaves_nothing, crate::proofs::Queues::receives_nothing))]
     fn recv(&mut self, buffer: &mut [u8]) -> Result<Option<(Addr, usize)>, PortFault>
         ensures within { IfOk result (λ got. IfSome got (λ p. p.1 ≤ length buffer.old)) }

@@ -20,7 +20,7 @@ use Rattle.fleet_cache.specs.steps.Packed.{octet_words, words_of, IsPackable}
 use Rattle.fleet_cache.specs.Cached.{item_order, IsCovered}
 use Rattle.fleet_cache.specs.steps.Slots.{items_of, concat, is_nil, IsSlot, IsLaid, IsPut}
 use Rattle.fleet_cache.proofs.Packed.{packed_cmp, packed_exact}
-use Rattle.fleet_cache.specs.steps.Orders.{row_laws, over_from}
+use Rattle.fleet_cache.specs.steps.Orders.{cut_laws, over_from}
 use Rattle.fleet_cache.proofs.Keys.{place_of_name, place_before}
 use Rattle.fleet_cache.proofs.Places.{place_laws}
 use Rattle.std.proofs.lemmas.Bool.{cases_Bool}
@@ -66,10 +66,10 @@ nil_front R D = record {
 -- a set with a member has some front
 pub some_of : (s items : List ObservationData) (x : ObservationData) → Has s x
     → IsFront row dominates s items → is_nil items ≡ false
-some_of s [] x h front = elim (climb row_laws s x).1 [
-  | inl same ↦ absurd (front.whole (climb row_laws s x).0 (subst (Has s) (sym same) h)
-      (climb row_laws s x).2)
-  | inr far ↦ absurd (front.whole (climb row_laws s x).0 far.0 (climb row_laws s x).2)
+some_of s [] x h front = elim (climb cut_laws s x).1 [
+  | inl same ↦ absurd (front.whole (climb cut_laws s x).0 (subst (Has s) (sym same) h)
+      (climb cut_laws s x).2)
+  | inr far ↦ absurd (front.whole (climb cut_laws s x).0 far.0 (climb cut_laws s x).2)
 ]
 some_of s (y ∷ items) x h front = refl
 
@@ -443,7 +443,7 @@ module _ {K : Type 0} (octets : K → List ℕ) where
                     subst (λ (v : ObservationData). IsPackable v.name) e fits
                 | inr old ↦ in_fits y old
               ];
-              own_front = front_itself row_laws (x ∷ f) g new;
+              own_front = front_itself cut_laws (x ∷ f) g new;
             })
             | inr r ↦ a.laid_post.slots e r
           ]

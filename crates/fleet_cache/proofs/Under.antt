@@ -1,11 +1,10 @@
 -- The tests for names and for those below them.
-use Rattle.std.proofs.Common.{ℕ, ◌≡◌, Bool, true, false, List, [], ◌∷◌, ◌++◌, ◌↔◌, IsTrue, inl, inr, refl, sym, ap, ◌∙◌}
-use mathlib.Core.Bool.{false≢true}
+use Rattle.std.proofs.Common.{ℕ, ◌≡◌, true, List, [], ◌∷◌, ◌++◌, inl, inr, refl, sym, ap, ◌∙◌}
 use Rattle.std.specs.Ordering.{is_eq}
 use Rattle.std.specs.Cmp.{Equal-is}
 use Rattle.std.proofs.lemmas.Cmp.{tied_itself, nat_list_cmp_total}
 use Rattle.std.proofs.lemmas.Map.Lookups.{exact_bytes}
-use Rattle.std.proofs.lemmas.Bool.{cases_Bool, or_cases, or_left, or_right}
+use Rattle.std.proofs.lemmas.Bool.{or_cases, or_left, or_right}
 use Rattle.fleet_name.specs.Name.{wire, IsUnder}
 use Rattle.fleet_name.proofs.Lemmas.{wire_exact}
 use Rattle.fleet_observe.specs.Preference.{octets_cmp}
@@ -31,11 +30,3 @@ under_to [] a (l ∷ front) e = absurd (cc)
 under_to (m ∷ n) a [] e = or_left (is_name (m ∷ n) a) (is_under n a) (name_to (m ∷ n) a (sym e))
 under_to (m ∷ n) a (l ∷ front) e = let t : n ≡ front ++ a = cc
     in or_right (is_name (m ∷ n) a) (is_under n a) (under_to n a front t)
-
--- a test for being at or below a name is `is_under`
-pub under_test : (b : Bool) (n a : List (List ℕ)) → IsTrue b ↔ IsUnder n a → b ≡ is_under n a
-under_test true n a t = let u = t.0 refl in sym (under_to n a u.0 u.1)
-under_test false n a t = elim (cases_Bool (is_under n a)) [
-  | inr e ↦ sym e
-  | inl e ↦ absurd (false≢true (t.1 (under_from n a e)))
-]

@@ -1,6 +1,6 @@
 -- What hides observations of a name.
 -- Serves `Cache::answer`, `Cache::purge`.
-use Rattle.std.specs.Prelude.{ℕ, Bool, false, not, ◌&&◌, ◌||◌, nat_le, Option, Some, None}
+use Rattle.std.specs.Prelude.{Bool, false, not, ◌&&◌, ◌||◌, nat_le, Option, Some, None}
 use Rattle.fleet_wire.specs.Types.{Seconds}
 use Rattle.fleet_observe.specs.Observation.{ObservationData}
 use Rattle.fleet_cache.specs.Void.{is_flush}
@@ -13,7 +13,7 @@ pub record CutData : Type 0 where
   pub flushed : Option Seconds
 
 -- o is no flush, and not stamped after this
-abbrev pub is_flushed : Option ℕ → ObservationData → Bool
+abbrev pub is_flushed : Option Seconds → ObservationData → Bool
 is_flushed None o = false
 is_flushed (Some stamp) o = not (is_flush o.kind) && nat_le o.stamp stamp
 

@@ -49,7 +49,8 @@ pub enum Answer<'a, A: Allocator = Global> {
         /// The denial, with its SOA.
         soa: Shown<'a, A>,
     },
-    /// Nothing is known of the name, or of one that an alias leads to, or a ninth alias is met.
+    /// No live observation decides the question at the name, or at one that an alias leads to, or a
+    /// ninth alias is met.
     Miss,
 }
 

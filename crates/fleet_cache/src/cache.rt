@@ -34,9 +34,9 @@ pub struct Stopped {
 /// eight octets to a word.
 ///
 /// What is in memory may have ended by the floor, or be withdrawn by a flush that is held. No call
-/// shows it, and a sweep, which goes on at the cursor, drops some of it at each purge. `most` is
-/// how many observations are held at most, so that they can be counted: at the greatest number,
-/// which no machine reaches, nothing more is taken.
+/// shows it, and each purge drops some of it, going on at the cursor. `most` counts the observations
+/// that were given to the map since it was empty, kept or not, so that no more are held and they can
+/// be counted: at the greatest number, which no machine reaches, nothing more is taken.
 #[derive(Drop)]
 pub struct Cache<A: Allocator = Global> {
     floor: Moment,
@@ -161,8 +161,8 @@ impl<A: Allocator> Cache<A> {
 
     /// Raises the floor to the moment, if that is later: what has ended by then is not held any
     /// more. A part of it leaves the memory at once, and of what is withdrawn, the rest at further
-    /// purges: each one that raises the floor looks at 4096 fronts, or at the 256th part of them
-    /// where that is more, in turn.
+    /// purges. Each one that raises the floor looks at up to 4096 fronts, or at the 256th part of
+    /// them where that is more. It goes on where the last one ended, and ends at the last front.
     pub fn purge(&mut self, moment: Moment)
         ensures purged { (s : Observations) → IsCached s self.old.floor self.old.items
             → IsCached s self.new.floor self.new.items }

@@ -69,7 +69,8 @@ impl<A: Allocator> Held<A> {
     }
 
     /// Takes an observation into the front of its name. `false` where it is there or dominated.
-    /// `Err` where an allocation fails; nothing changes.
+    /// `Err` where an allocation fails; the observations are then as before, and the length of the
+    /// name may stay noted.
     pub(crate) fn take(&mut self, alloc: A, observation: Observation<A>) -> Result<bool, AllocError>
     where
         A: Copy,
@@ -131,7 +132,7 @@ impl<A: Allocator> Held<A> {
         front.items()
     }
 
-    /// The items of a name, by its octets, where there may be one among them that speaks of the
+    /// The items of a name, by its octets, where there may be one among them that decides for the
     /// names below it too: a name error or a flush.
     pub(crate) fn heads(&self, name: &[u8]) -> &[Item<A>]
         requires { IsWire name.now }
@@ -189,6 +190,7 @@ impl<A: Allocator> Held<A> {
     {
         self.flushed.has_length_of(name)
     }
+
     /// Whether a name error may be held of a name of fewer octets.
     pub(crate) fn may_deny_above(&self, name: &[u8]) -> bool
         ensures none { result ≡ false → HasNoneShorter NameError (length name.now) self.now }

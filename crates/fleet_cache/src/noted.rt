@@ -14,7 +14,7 @@ use std::marker::Model;
 /// The number of lengths of names, in octets: 0 to `LONGEST_NAME`.
 const LENGTHS: usize = LONGEST_NAME + 1;
 
-/// The lengths, in octets, of the names with an observation of a kind that was taken in. A name
+/// The lengths, in octets, of the names of all observations of a kind that came, kept or not. A name
 /// whose length is not noted need not be looked up for one; nor do the names above it, where no
 /// shorter length is noted. A length stays noted when its observations are gone.
 #[derive(Drop)]

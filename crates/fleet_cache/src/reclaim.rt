@@ -12,13 +12,13 @@ use crate::words::MOST_WORDS;
 use fleet_observe::{Moment, Observation};
 use std::alloc::{AllocError, Allocator};
 
-/// A sweep looks at one front of this many, ..
+/// A purge looks at one in this many fronts, ..
 const SHARE: usize = 256;
 
-/// .. and at least at this many fronts.
+/// .. and at this many at least, if there are as many.
 const LEAST: usize = 4096;
 
-/// Where a sweep stopped: the key of the front that it looked at last, or no words at the start.
+/// Where reclaiming stopped: the key of the front that it looked at last, or no words at the start.
 #[derive(Drop)]
 pub(crate) struct Cursor<A: Allocator> {
     key: Key<A>,
@@ -67,8 +67,8 @@ impl<A: Allocator> Cursor<A> {
 }
 
 /// Drops what is not live at the moment, in a part of the fronts: those behind the cursor, which
-/// goes on with them, and back to the start behind the last one. Fronts without items are dropped
-/// too.
+/// goes on with them, and back to the start behind the last one. A front of which
+/// nothing is left is dropped too.
 pub(crate) fn reclaim<A: Allocator>(held: &mut Held<A>, cursor: &mut Cursor<A>, moment: Moment)
     ensures reclaimed { IsReclaimed moment held.old held.new }
     ensures own { IsHeld held.old }
@@ -80,7 +80,7 @@ pub(crate) fn reclaim<A: Allocator>(held: &mut Held<A>, cursor: &mut Cursor<A>, 
     }
 }
 
-/// Drops what is not live at the moment of the front of a name.
+/// Drops, of the front of a name, what is not live at the moment.
 fn trim<A: Allocator>(held: &mut Held<A>, key: &Key<A>, moment: Moment)
     ensures reclaimed { IsReclaimed moment held.old held.new }
     ensures live { AllLive key.now.items moment held.old held.new }

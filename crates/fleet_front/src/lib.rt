@@ -18,7 +18,7 @@ use std::alloc::{AllocError, Allocator, Global};
 use std::cmp::Ordering;
 use std::marker::Model;
 
-/// Values with a preference, some of which make others needless.
+/// Values with a preference, some of which dominate others.
 ///
 /// Its laws: the order is total, and equal only on equal values; what dominates is greater than
 /// what it dominates, and dominates what that dominates; and what hides a value hides all that it
@@ -37,7 +37,7 @@ pub trait Ranked: Drop {
     fn order(&self, other: &Self) -> Ordering
         ensures { result ≡ order self.now other.now };
 
-    /// Whether this value makes the other needless.
+    /// Whether this value dominates the other.
     fn dominates(&self, other: &Self) -> bool
         ensures { result ≡ dominates self.now other.now };
 

@@ -41,7 +41,7 @@ IsKindIn version NoData = Unit {0}
 IsKindIn version NameError = Unit {0}
 IsKindIn version Flush = FLUSH_VERSION ≤ version
 
--- an observation that entries of a version have, and many of them
+-- an observation that a frame of the version may have, and a list of such
 abbrev pub IsIn : ℕ → ObservationData → Type 0
 IsIn version o = IsObservation o × IsKindIn version o.kind
 
@@ -60,7 +60,7 @@ IsKindNumber version number = (kind : Kind) × IsKind number kind × IsKindIn ve
 abbrev pub IsMoment : Seconds → Type 0
 IsMoment moment = moment ≤ LATEST
 
--- RDATAs that those of a type may begin with
+-- RDATAs with which a lawful list of the type may begin
 pub record AreFirstRdatas (rtype : RType) (rdatas : List OctetList) : Type 0 where
   pub ascending : IsAscending rdatas
   pub plain : (rdata : OctetList) → Has rdatas rdata → IsPlain rtype rdata

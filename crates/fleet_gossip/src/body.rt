@@ -1,7 +1,7 @@
 //! Reading the body of an entry. Nothing here allocates.
 
-ghost use Rattle.std.specs.Prelude.{◌≡◌, ◌≤◌, ◌++◌, ◌∷◌, [], ◌↔◌, length, IsTrue, MatchOption, MatchResult};
-ghost use Rattle.fleet_name.specs.Types.{Labels};
+ghost use Rattle.std.specs.Prelude.{◌≡◌, ◌≤◌, List, ◌++◌, ◌∷◌, [], ◌↔◌, length, IsTrue, MatchOption, MatchResult};
+ghost use Rattle.fleet_name.specs.Types.{Labels, OctetList};
 ghost use Rattle.fleet_name.specs.Name.{wire, IsName, IsWire};
 ghost use Rattle.fleet_observe.specs.Body.{octets_with_length, positive_body, IsPositiveBody, IsNegativeBody};
 ghost use Rattle.fleet_observe.specs.declared.bounds.TheConstants.{LONGEST_BODY};
@@ -28,7 +28,7 @@ pub(crate) fn read_sized<'a>(reader: &mut Reader<'a>) -> Result<&'a [u8], FrameF
 
 /// Whether the RDATA is greater than the last one, if there is one.
 fn is_above(last: Option<&[u8]>, rdata: &[u8]) -> bool
-    ensures { (before : Labels)
+    ensures { (before : List OctetList)
         → MatchOption last.entry (before ≡ []) (λ r. HasLast before r.now)
         → (IsTrue result ↔ ComesAfterLast before rdata.now) }
 {
@@ -41,7 +41,7 @@ fn is_above(last: Option<&[u8]>, rdata: &[u8]) -> bool
 /// Whether the RDATA may follow others, whose last one is `last` and whose body has `size` octets.
 fn is_next(rtype: u16, last: Option<&[u8]>, size: usize, rdata: &[u8]) -> bool
     requires { size ≤ LONGEST_BODY }
-    ensures { (before : Labels)
+    ensures { (before : List OctetList)
         → MatchOption last.entry (before ≡ []) (λ r. HasLast before r.now)
         → AreFirstRdatas rtype before → size ≡ length (positive_body before)
         → (IsTrue result ↔ AreFirstRdatas rtype (before ++ rdata.now ∷ [])) }

@@ -10,7 +10,7 @@ use thiserror::Error;
 /// in order.
 #[derive(Clone, Copy, Debug, PartialEq, Eq, Error)]
 pub enum FrameFault {
-    /// It doesn't begin with the octets 44 47.
+    /// It doesn't begin with the octets 44 47 (hex).
     #[error("bad magic")]
     BadMagic,
     /// Its version is not 1 or 2.

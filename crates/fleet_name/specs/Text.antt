@@ -1,4 +1,4 @@
--- The text of a name, as master files have it (RFC 1035 5.1).
+-- The text of a name, with the escapes of master files (RFC 1035 5.1).
 -- Serves `Name::write_text`.
 use Rattle.std.specs.Prelude.{ℕ, ◌+◌, ◌/◌, ◌%◌, [], ◌∷◌, ◌++◌, if◌then◌else◌, nat_eq, nat_le, ◌||◌, ◌&&◌}
 use Rattle.std.specs.List.{flat_map}

@@ -1,4 +1,5 @@
-//! The text of a name, as master files have it (RFC 1035 5.1).
+//! The text of a name, with the escapes of master files (RFC 1035 5.1). It is for reading: `"`, `;`,
+//! `(`, `)`, `@` and `$` are not escaped.
 
 ghost use Rattle.std.specs.Prelude.{◌≡◌, ◌++◌, ◌∷◌, [], OnOk};
 ghost use Rattle.std.specs.String.{string_bytes};

@@ -24,9 +24,6 @@ use Rattle.fleet_observe.specs.declared.observation.kind.Kind.TheVariants.{NameE
 living_is : (f : ObservationData) → ¬ (f.life ≡ 0) → living_observation f ≡ f ∷ []
 living_is f some = let a : nat_eq f.life 0 ≡ false = grind (arith, nat_tests) in rw a refl
 
-lifeless_is : (f : ObservationData) → f.life ≡ 0 → living_observation f ≡ []
-lifeless_is f none = let a : nat_eq f.life 0 ≡ true = grind (arith, nat_tests) in rw a refl
-
 fitting_is : (f : ObservationData) → length f.body ≤ LONGEST_BODY
     → fitting_observation f ≡ living_observation f
 fitting_is f fits = let a : nat_lt LONGEST_BODY (length f.body) ≡ false =

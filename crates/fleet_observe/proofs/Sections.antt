@@ -3,7 +3,7 @@ use Rattle.std.proofs.Common.{◌≡◌, ℕ, ◌⊎◌, inl, inr, List, [], ◌
 use Rattle.std.proofs.lemmas.List.{take-append-drop}
 use Rattle.fleet_name.proofs.Lemmas.{has_left, has_right}
 use Rattle.fleet_wire.specs.Record.{RecordData}
-use Rattle.fleet_observe.specs.RrSet.{Belongs, InSet, IsEmpty, IsOnly}
+use Rattle.fleet_observe.specs.RrSet.{IsOfRrSet, InSet, IsEmpty, IsOnly}
 use Rattle.fleet_observe.specs.steps.Following.{IsOf}
 use Rattle.fleet_observe.proofs.Lists.{has_push}
 
@@ -16,7 +16,7 @@ in_left s more n t d h = record {
   rdata = h.rdata;
 }
 
-pub in_last : (s : List RecordData) (n : List (List ℕ)) (t : ℕ) (r : RecordData) → Belongs n t r
+pub in_last : (s : List RecordData) (n : List (List ℕ)) (t : ℕ) (r : RecordData) → IsOfRrSet n t r
     → InSet (s ++ r ∷ []) n t r.rdata
 in_last s n t r b = record {
   carrier = r;
@@ -26,17 +26,17 @@ in_last s n t r b = record {
 }
 
 pub in_cases : (s : List RecordData) (n : List (List ℕ)) (t : ℕ) (r : RecordData) (d : List ℕ)
-    → InSet (s ++ r ∷ []) n t d → InSet s n t d ⊎ (Belongs n t r × (r.rdata ≡ d))
+    → InSet (s ++ r ∷ []) n t d → InSet s n t d ⊎ (IsOfRrSet n t r × (r.rdata ≡ d))
 in_cases s n t r d h = elim (has_push s r h.carrier h.member) [
   | inl a ↦ inl (record { carrier = h.carrier; member = a; is_of_rrset = h.is_of_rrset; rdata = h.rdata })
   | inr e ↦ inr (
-    subst (λ (x : RecordData). Belongs n t x) (sym e) h.is_of_rrset,
+    subst (λ (x : RecordData). IsOfRrSet n t x) (sym e) h.is_of_rrset,
     ap (λ (x : RecordData). x.rdata) e ∙ h.rdata,
   )
 ]
 
 pub empty_more : (s : List RecordData) (n : List (List ℕ)) (t : ℕ) (r : RecordData) → IsEmpty s n t
-    → ¬ Belongs n t r → IsEmpty (s ++ r ∷ []) n t
+    → ¬ IsOfRrSet n t r → IsEmpty (s ++ r ∷ []) n t
 empty_more s n t r none not_here d h = elim (in_cases s n t r d h) [
   | inl a ↦ none d a
   | inr b ↦
@@ -44,7 +44,7 @@ empty_more s n t r none not_here d h = elim (in_cases s n t r d h) [
 ]
 
 pub only_first : (s : List RecordData) (n : List (List ℕ)) (t : ℕ) (r : RecordData) → IsEmpty s n t
-    → Belongs n t r → IsOnly (s ++ r ∷ []) n t r.rdata
+    → IsOfRrSet n t r → IsOnly (s ++ r ∷ []) n t r.rdata
 only_first s n t r none b = record {
   member = in_last s n t r b;
   only = λ e h. elim (in_cases s n t r e h) [ inl a ↦ absurd (none e a) | inr k ↦ k.1 ];
@@ -58,7 +58,7 @@ only_same s n t r d is same = record {
 }
 
 pub only_more : (s : List RecordData) (n : List (List ℕ)) (t : ℕ) (r : RecordData) (d : List ℕ)
-    → IsOnly s n t d → ¬ Belongs n t r → IsOnly (s ++ r ∷ []) n t d
+    → IsOnly s n t d → ¬ IsOfRrSet n t r → IsOnly (s ++ r ∷ []) n t d
 only_more s n t r d is not_here = record {
   member = in_left s (r ∷ []) n t d is.member;
   only = λ e h. elim (in_cases s n t r e h) [ inl a ↦ is.only e a | inr k ↦ absurd (not_here k.0) ];
@@ -77,7 +77,7 @@ pub of_left : (s more : List RecordData) (n : List (List ℕ)) (t : ℕ) (r : Re
     → IsOf s n t r → IsOf (s ++ more) n t r
 of_left s more n t r h = record { member = has_left s more r h.member; is_of_rrset = h.is_of_rrset }
 
-pub of_last : (s : List RecordData) (n : List (List ℕ)) (t : ℕ) (r : RecordData) → Belongs n t r
+pub of_last : (s : List RecordData) (n : List (List ℕ)) (t : ℕ) (r : RecordData) → IsOfRrSet n t r
     → IsOf (s ++ r ∷ []) n t r
 of_last s n t r b = record { member = has_right s (r ∷ []) r (inl refl); is_of_rrset = b }
 
@@ -86,7 +86,7 @@ pub in_of : (s : List RecordData) (n : List (List ℕ)) (t : ℕ) (r : RecordDat
 in_of s n t r h = record { carrier = r; member = h.member; is_of_rrset = h.is_of_rrset; rdata = refl }
 
 pub one_first : (s : List RecordData) (n : List (List ℕ)) (t : ℕ) (r : RecordData) → IsEmpty s n t
-    → Belongs n t r → IsOne (s ++ r ∷ []) n t r
+    → IsOfRrSet n t r → IsOne (s ++ r ∷ []) n t r
 one_first s n t r none b = record { of_set = of_last s n t r b; only = only_first s n t r none b }
 
 pub one_same : (s : List RecordData) (n : List (List ℕ)) (t : ℕ) (r held : RecordData)
@@ -97,7 +97,7 @@ one_same s n t r held is same = record {
 }
 
 pub one_more : (s : List RecordData) (n : List (List ℕ)) (t : ℕ) (r held : RecordData)
-    → IsOne s n t held → ¬ Belongs n t r → IsOne (s ++ r ∷ []) n t held
+    → IsOne s n t held → ¬ IsOfRrSet n t r → IsOne (s ++ r ∷ []) n t held
 one_more s n t r held is out = record {
   of_set = of_left s (r ∷ []) n t held is.of_set;
   only = only_more s n t r held.rdata is.only out;

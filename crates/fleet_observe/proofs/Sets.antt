@@ -11,7 +11,7 @@ use Rattle.std.proofs.lemmas.Cmp.{nat_list_cmp_total}
 use Rattle.std.proofs.lemmas.Map.Lookups.{exact_bytes}
 use Rattle.fleet_wire.specs.Record.{RecordData}
 use Rattle.fleet_observe.specs.Members.{Has, IsAscending}
-use Rattle.fleet_observe.specs.RrSet.{Belongs, InSet, IsTtl, read_ttl, count_below}
+use Rattle.fleet_observe.specs.RrSet.{IsOfRrSet, InSet, IsTtl, read_ttl, count_below}
 use Rattle.fleet_name.proofs.Lemmas.{has_left, has_right}
 use Rattle.fleet_observe.proofs.Lists.{has_push}
 use Rattle.fleet_observe.proofs.Sections.{in_left, in_last, in_cases}
@@ -114,7 +114,7 @@ those_none n t rdatas e = rw e (record {
 })
 
 pub those_kept : (s : List RecordData) (n : List (List ℕ)) (t : ℕ) (r : RecordData)
-    (rdatas : List (List ℕ)) → AreThose s n t rdatas → ¬ Belongs n t r
+    (rdatas : List (List ℕ)) → AreThose s n t rdatas → ¬ IsOfRrSet n t r
     → AreThose (s ++ r ∷ []) n t rdatas
 those_kept s n t r rdatas is out = record {
   ascending = is.ascending;
@@ -123,7 +123,7 @@ those_kept s n t r rdatas is out = record {
 }
 
 pub those_more : (s : List RecordData) (n : List (List ℕ)) (t : ℕ) (r : RecordData)
-    (old new : List (List ℕ)) → AreThose s n t old → Belongs n t r
+    (old new : List (List ℕ)) → AreThose s n t old → IsOfRrSet n t r
     → IsAscending new → ((d : List ℕ) → (Has new d → Has old d ⊎ (r.rdata ≡ d))
     × (Has old d ⊎ (r.rdata ≡ d) → Has new d)) → AreThose (s ++ r ∷ []) n t new
 those_more s n t r old new is b up same = record {
@@ -142,17 +142,17 @@ those_more s n t r old new is b up same = record {
 -- the least TTL so far, at first the longest life
 pub record IsLeast (s : List RecordData) (n : List (List ℕ)) (t least : ℕ) : Type 0 where
   pub bound : least ≤ LONGEST_LIFE
-  pub under : (r : RecordData) → Has s r → Belongs n t r → least ≤ read_ttl r.ttl
-  pub found : (least ≡ LONGEST_LIFE) ⊎ ((r : RecordData) × Has s r × Belongs n t r
+  pub under : (r : RecordData) → Has s r → IsOfRrSet n t r → least ≤ read_ttl r.ttl
+  pub found : (least ≡ LONGEST_LIFE) ⊎ ((r : RecordData) × Has s r × IsOfRrSet n t r
       × (least ≡ read_ttl r.ttl))
 
 pub least_kept : (s : List RecordData) (n : List (List ℕ)) (t : ℕ) (r : RecordData) (least : ℕ)
-    → IsLeast s n t least → ¬ Belongs n t r → IsLeast (s ++ r ∷ []) n t least
+    → IsLeast s n t least → ¬ IsOfRrSet n t r → IsLeast (s ++ r ∷ []) n t least
 least_kept s n t r least is out = record {
   bound = is.bound;
   under = λ x h b. elim (has_push s r x h) [
     | inl a ↦ is.under x a b
-    | inr e ↦ absurd (out (subst (λ (y : RecordData). Belongs n t y) (sym e) b))
+    | inr e ↦ absurd (out (subst (λ (y : RecordData). IsOfRrSet n t y) (sym e) b))
   ];
   found = elim is.found [
     | inl e ↦ inl e
@@ -166,7 +166,7 @@ least_kept s n t r least is out = record {
 }
 
 pub least_more : (s : List RecordData) (n : List (List ℕ)) (t : ℕ) (r : RecordData) (least new : ℕ)
-    → IsLeast s n t least → Belongs n t r → new ≡ min (read_ttl r.ttl) least
+    → IsLeast s n t least → IsOfRrSet n t r → new ≡ min (read_ttl r.ttl) least
     → IsLeast (s ++ r ∷ []) n t new
 least_more s n t r least new is b e =
     let one : new ≤ read_ttl r.ttl = rw e (omega arith) in
@@ -201,9 +201,9 @@ least_more s n t r least new is b e =
     min_is a b = elim (le_or a b) [ inl h ↦ inl (omega arith) | inr h ↦ inr (omega arith) ]
 
     which : (a b new : ℕ) → new ≡ min a b → (b ≡ LONGEST_LIFE)
-        ⊎ ((x : RecordData) × Has s x × Belongs n t x × (b ≡ read_ttl x.ttl))
-        → ((x : RecordData) × Has (s ++ r ∷ []) x × Belongs n t x × (a ≡ read_ttl x.ttl))
-        → (new ≡ LONGEST_LIFE) ⊎ ((x : RecordData) × Has (s ++ r ∷ []) x × Belongs n t x
+        ⊎ ((x : RecordData) × Has s x × IsOfRrSet n t x × (b ≡ read_ttl x.ttl))
+        → ((x : RecordData) × Has (s ++ r ∷ []) x × IsOfRrSet n t x × (a ≡ read_ttl x.ttl))
+        → (new ≡ LONGEST_LIFE) ⊎ ((x : RecordData) × Has (s ++ r ∷ []) x × IsOfRrSet n t x
         × (new ≡ read_ttl x.ttl))
     which a b new e old here = elim (min_is a b) [
       | inl k ↦ inr (here.0, here.1, here.2, e ∙ (k ∙ here.3))

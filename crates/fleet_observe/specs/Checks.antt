@@ -47,15 +47,15 @@ pub data IsFirstToFail (rank life rtype body : Type 0) (f : ObservationFault) : 
   bad_body : rank → life → rtype → ¬ body → f ≡ BadBody → IsFirstToFail rank life rtype body f
 
 -- the type of a denial: none for a name error, else that of the data that isn't there
-abbrev pub IsDeniedType : Option ℕ → Type 0
+abbrev pub IsDeniedType : Option RType → Type 0
 IsDeniedType None = Unit {0}
 IsDeniedType (Some rtype) = IsDataType rtype
 
-abbrev pub denied_kind : Option ℕ → Kind
+abbrev pub denied_kind : Option RType → Kind
 denied_kind None = NameError
 denied_kind (Some rtype) = NoData
 
-abbrev pub denied_type : Option RType → ℕ
+abbrev pub denied_type : Option RType → RType
 denied_type rtype = unwrap_or rtype 0
 
 -- these values make a positive observation
@@ -65,6 +65,7 @@ pub record MakesPositive (rtype : RType) (rank : ℕ) (life : Seconds) (rdatas :
   pub typed : IsDataType rtype
   pub body : AreRdatas rtype rdatas
 
+-- the fault of the first check that fails
 abbrev pub IsPositiveFault : RType → ℕ → Seconds → List OctetList → ObservationFault → Type 0
 IsPositiveFault rtype rank life rdatas =
     IsFirstToFail (IsRank rank) (IsLife LONGEST_LIFE life) (IsDataType rtype)
@@ -78,6 +79,7 @@ pub record MakesNegative (name : Labels) (rtype : Option RType) (rank : ℕ) (li
   pub typed : IsDeniedType rtype
   pub body : IsDenial name owner rdata
 
+-- the fault of the first check that fails
 abbrev pub IsNegativeFault : Labels → Option RType → ℕ → Seconds → Labels → OctetList
     → ObservationFault → Type 0
 IsNegativeFault name rtype rank life owner rdata = IsFirstToFail (IsDenialRank rank)

@@ -38,7 +38,7 @@ end_data (NxDomain soa) = WithoutName soa
 end_data (Code c) = WithCode c
 end_data Truncated = CutOff
 
--- the target of an alias: the name that its RDATA is
+-- the target of an alias at n: the name that its RDATA is, or n where there is none
 abbrev pub target_of : Labels → Labels → Labels
 target_of n [] = n
 target_of n (d ∷ ds) = labels_of d

@@ -48,6 +48,7 @@ pub data IsFault (r : MessageData) (f : DigestFault) : Type 0 where
   bad_chain : IsServed r → AsksWalk r → ¬ IsWalkable r → f ≡ BadChain → IsFault r f
   no_memory : IsSound r → f ≡ OutOfMemory → IsFault r f
 
+-- an SOA record of the class IN
 pub record IsSoaRecord (r : RecordData) : Type 0 where
   pub class : r.class ≡ IN
   pub rtype : r.rtype ≡ SOA
@@ -73,6 +74,7 @@ pub record CountsFor (s : List RecordData) (n : Labels) (r : RecordData) : Type 
   pub first : IsFirstSoa s r
   pub under : IsUnder n r.name
 
+-- x is the SOA that counts for the name n, as a denial has it
 pub record IsSoaOf (s : List RecordData) (n : Labels) (x : SoaData) : Type 0 where
   pub carrier : RecordData
   pub counts : CountsFor s n carrier
@@ -80,6 +82,7 @@ pub record IsSoaOf (s : List RecordData) (n : Labels) (x : SoaData) : Type 0 whe
   pub ttl : x.ttl ≡ soa_ttl carrier
   pub rdata : x.rdata ≡ carrier.rdata
 
+-- the SOA that counts for the name n, if there is one
 abbrev pub IsSoa : List RecordData → Labels → Option SoaData → Type 0
 IsSoa s n None = (r : RecordData) → ¬ CountsFor s n r
 IsSoa s n (Some x) = IsSoaOf s n x
@@ -134,6 +137,7 @@ AreOwners q before (r ∷ rs) os =
     × AreOwners q (before ++ r ∷ []) rs rest))
     ⊎ (((¬ IsNs q r) ⊎ IsRepeated q before r) × AreOwners q (before ++ r ∷ []) rs os)
 
+-- the names that have these RRsets
 abbrev pub owners_of : List RrSetData → List Labels
 owners_of [] = []
 owners_of (x ∷ xs) = x.name ∷ owners_of xs

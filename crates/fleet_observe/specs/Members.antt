@@ -1,5 +1,5 @@
 -- Distinct members of lists, and lists of octets in ascending order.
--- Serves every module below.
+-- Serves `digest`, `observations`, and every call of `Observation` and `RrSet`.
 use Rattle.std.specs.Prelude.{◌≡◌, List, [], ◌∷◌}
 use Rattle.std.specs.declared.cmp.Ordering.TheVariants.{Less}
 use Rattle.std.specs.Ordering.{nat_cmp}

@@ -39,7 +39,7 @@ abbrev pub IsNegativeKind : Kind → Type 0
 IsNegativeKind kind = (kind ≡ NameError) ⊎ (kind ≡ NoData)
 
 -- the moment at which it ends
-abbrev pub expires : ObservationData → ℕ
+abbrev pub expires : ObservationData → Seconds
 expires o = o.stamp + o.life
 
 -- the octets of a key: the name in full, the kind's number, the type in two octets
@@ -63,7 +63,7 @@ abbrev pub IsDenialRank : ℕ → Type 0
 IsDenialRank rank = (rank ≡ OTHER) ⊎ (rank ≡ ANSWER)
 
 -- a life, in seconds
-abbrev pub IsLife : ℕ → Seconds → Type 0
+abbrev pub IsLife : Seconds → Seconds → Type 0
 IsLife most life = (1 ≤ life) × (life ≤ most)
 
 -- a type that data can have: not 0, not OPT (41) and not one of 128 to 255 (RFC 6895 3.1)

@@ -20,11 +20,11 @@ use Rattle.fleet_observe.specs.declared.observation.kind.Kind.TheVariants.{NameE
 
 -- the observation alone; none where it has no life
 abbrev pub living_observation : ObservationData → Observations
-living_observation f = if nat_eq f.life 0 then [] else f ∷ []
+living_observation o = if nat_eq o.life 0 then [] else o ∷ []
 
 -- the same; none where its body passes LONGEST_BODY
 abbrev pub fitting_observation : ObservationData → Observations
-fitting_observation f = if nat_lt LONGEST_BODY (length f.body) then [] else living_observation f
+fitting_observation o = if nat_lt LONGEST_BODY (length o.body) then [] else living_observation o
 
 -- the observation of an RRset
 abbrev pub set_observation : RrSetData → ℕ → Seconds → ObservationData
@@ -38,6 +38,7 @@ set_observation x rank stamp = record {
   life = x.ttl;
 }
 
+-- the same, of an RRset that is kept: none without a life, or with too long a body
 abbrev pub positive_observations : RrSetData → ℕ → Seconds → Observations
 positive_observations x rank stamp = fitting_observation (set_observation x rank stamp)
 
@@ -53,7 +54,7 @@ soa_observation kind n t rank stamp x = record {
   life = x.ttl;
 }
 
--- none without an SOA
+-- the same, of a denial that is kept: none without an SOA or a life
 abbrev pub denial_observations : Kind → Labels → RType → ℕ → Seconds → Option SoaData
     → Observations
 denial_observations kind n t rank stamp None = []
@@ -69,11 +70,13 @@ abbrev pub denial_rank : Bool → List RrSetData → ℕ
 denial_rank aa [] = if aa then ANSWER else OTHER
 denial_rank aa (x ∷ xs) = OTHER
 
+-- those of the links, in their order
 abbrev pub link_observations : Bool → Labels → Seconds → List RrSetData → Observations
 link_observations aa q stamp [] = []
 link_observations aa q stamp (x ∷ xs) =
     positive_observations x (answer_rank aa q x.name) stamp ++ link_observations aa q stamp xs
 
+-- that of the end, if it is kept
 abbrev pub end_observations : DigestData → Seconds → EndData → Observations
 end_observations d stamp (WithRecords x) = positive_observations x (answer_rank d.aa d.name x.name)
     stamp
@@ -103,7 +106,7 @@ pub record IsObserved (r : MessageData) (stamp : Seconds) (os : Observations) : 
   pub meaning : IsDigest r digest
   pub are : os ≡ reply_observations digest stamp
 
--- a reply means one thing
+-- a reply has one digest at most
 abbrev pub OneDigest : Type 0
 OneDigest = (r : MessageData) (a b : DigestData) → IsDigest r a → IsDigest r b → a ≡ b
 

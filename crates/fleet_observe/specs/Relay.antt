@@ -19,6 +19,7 @@ code_of (WithoutName soa) = NAME_ERROR
 code_of (WithCode c) = c
 code_of CutOff = NO_ERROR
 
+-- whether the reply was cut off
 abbrev pub is_cut : EndData → Bool
 is_cut (WithRecords x) = false
 is_cut (WithoutData soa) = false
@@ -30,9 +31,11 @@ is_cut CutOff = true
 abbrev pub set_lines : RrSetData → List RecordData
 set_lines x = map (line x.name x.rtype x.ttl) x.rdatas
 
+-- the records of the links
 abbrev pub chain_lines : List RrSetData → List RecordData
 chain_lines chain = flat_map set_lines chain
 
+-- an end's records for the answer section
 abbrev pub answer_lines : EndData → List RecordData
 answer_lines (WithRecords x) = set_lines x
 answer_lines (WithoutData soa) = []
@@ -40,10 +43,12 @@ answer_lines (WithoutName soa) = []
 answer_lines (WithCode c) = []
 answer_lines CutOff = []
 
+-- the SOA record, if there is one
 abbrev pub soa_lines : Option SoaData → List RecordData
 soa_lines None = []
 soa_lines (Some x) = line x.owner SOA x.ttl x.rdata ∷ []
 
+-- an end's records for the authority section
 abbrev pub authority_lines : EndData → List RecordData
 authority_lines (WithRecords x) = []
 authority_lines (WithoutData soa) = soa_lines soa

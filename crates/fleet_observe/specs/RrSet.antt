@@ -14,7 +14,7 @@ use Rattle.fleet_observe.specs.declared.bounds.TheConstants.{LONGEST_LIFE}
 use Rattle.fleet_observe.specs.declared.reply.rows.Rows.{Rows}
 
 -- the record is of the RRset at name n and type t
-pub record Belongs (n : Labels) (t : RType) (r : RecordData) : Type 0 where
+pub record IsOfRrSet (n : Labels) (t : RType) (r : RecordData) : Type 0 where
   pub class : r.class ≡ IN
   pub rtype : r.rtype ≡ t
   pub typed : IsDataType t
@@ -24,7 +24,7 @@ pub record Belongs (n : Labels) (t : RType) (r : RecordData) : Type 0 where
 pub record InSet (s : List RecordData) (n : Labels) (t : RType) (d : OctetList) : Type 0 where
   pub carrier : RecordData
   pub member : Has s carrier
-  pub is_of_rrset : Belongs n t carrier
+  pub is_of_rrset : IsOfRrSet n t carrier
   pub rdata : carrier.rdata ≡ d
 
 -- there is no RRset
@@ -44,9 +44,9 @@ read_ttl ttl = if nat_le 2147483648 ttl then 0 else min ttl LONGEST_LIFE
 pub record IsTtl (s : List RecordData) (n : Labels) (t : RType) (ttl : Seconds) : Type 0 where
   pub carrier : RecordData
   pub member : Has s carrier
-  pub is_of_rrset : Belongs n t carrier
+  pub is_of_rrset : IsOfRrSet n t carrier
   pub is : ttl ≡ read_ttl carrier.ttl
-  pub least : (r : RecordData) → Has s r → Belongs n t r → ttl ≤ read_ttl r.ttl
+  pub least : (r : RecordData) → Has s r → IsOfRrSet n t r → ttl ≤ read_ttl r.ttl
 
 -- an RRset, as plain data
 pub record RrSetData : Type 0 where

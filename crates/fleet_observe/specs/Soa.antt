@@ -3,7 +3,7 @@
 use Rattle.fleet_name.specs.Types.{Labels, OctetList}
 use Rattle.fleet_wire.specs.Types.{Seconds}
 
--- an SOA: its owner, its TTL and its RDATA
+-- the SOA of a denial: its owner, for how many seconds the denial holds, and its RDATA (RFC 2308 5)
 pub record SoaData : Type 0 where
   pub owner : Labels
   pub ttl : Seconds

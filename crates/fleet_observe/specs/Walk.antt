@@ -9,8 +9,8 @@ use Rattle.fleet_wire.specs.declared.rtype.TheConstants.{CNAME}
 use Rattle.fleet_observe.specs.RrSet.{InSet, IsEmpty, IsOnly, RrSetData, IsRrSet}
 use Rattle.fleet_observe.specs.declared.bounds.TheConstants.{MOST_LINKS}
 
--- at name n the walk goes on to name m: no RRset of the type wanted, and an alias with this target
--- alone
+-- at name n the walk goes on to name m: no RRset of the question's type, and an alias with this
+-- target alone
 pub record GoesOn (s : List RecordData) (t : RType) (n m : Labels) : Type 0 where
   pub without : IsEmpty s n t
   pub target : IsOnly s n CNAME (wire m)
@@ -26,6 +26,7 @@ pub record EndsBare (s : List RecordData) (t : RType) (n : Labels) : Type 0 wher
   pub without : IsEmpty s n t
   pub no_alias : IsEmpty s n CNAME
 
+-- at name n the walk ends
 abbrev pub Ends : List RecordData → RType → Labels → Type 0
 Ends s t n = EndsFound s t n ⊎ EndsBare s t n
 
@@ -46,9 +47,11 @@ pub record IsWalk (s : List RecordData) (t : RType) (n : Labels) (later : List L
   pub ends : Ends s t (last n later)
   pub short : length later ≤ MOST_LINKS
 
+-- there is a walk from n
 abbrev pub HasWalk : List RecordData → RType → Labels → Type 0
 HasWalk s t n = (later : List Labels) × IsWalk s t n later
 
+-- from a name there is one walk at most
 abbrev pub OneWalk : Type 0
 OneWalk = (s : List RecordData) (t : RType) (n : Labels) (a b : List Labels)
     → IsWalk s t n a

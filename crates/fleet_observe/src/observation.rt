@@ -57,9 +57,11 @@ impl<A: Allocator> Model for Observation<A> {
 impl<A: Allocator> Observation<A> {
     /// The RDATAs that a name has of a type.
     ///
-    /// The rank is 1, 2 or 3, the life 1 to `LONGEST_LIFE` seconds, and the RDATAs are in strictly
-    /// ascending order, as octets, a proper prefix first. The errors come in the order of
-    /// `ObservationFault`; the arguments are then dropped. This allocates nothing.
+    /// The rank is 1, 2 or 3, the life 1 to `LONGEST_LIFE` seconds, and the type one that data can
+    /// have. The RDATAs are in strictly ascending order, as octets, a proper prefix first; there is
+    /// at least one, and of an alias one alone. Each is plain for its type, and their body has at
+    /// most `LONGEST_BODY` octets. The errors come in the order of `ObservationFault`; the arguments
+    /// are then dropped. This allocates nothing.
     pub fn positive(
         name: Name<A>,
         rtype: u16,
@@ -110,9 +112,10 @@ impl<A: Allocator> Observation<A> {
     /// That a name has no data of a type, or for `None` that there is no such name, on the word of
     /// an SOA.
     ///
-    /// The rank is 1 or 3 and the life 1 to `LONGEST_DENIAL` seconds (RFC 2308 5). The SOA's TTL is
-    /// not kept. The errors come in the order of `ObservationFault`; the arguments are then
-    /// dropped. This allocates nothing.
+    /// The rank is 1 or 3, the life 1 to `LONGEST_DENIAL` seconds (RFC 2308 5), and the type, if
+    /// any, one that data can have. The SOA's owner is the name or an ancestor, and its RDATA is
+    /// plain. Its TTL is not kept. The errors come in the order of `ObservationFault`; the arguments
+    /// are then dropped. This allocates nothing.
     pub fn negative(
         name: Name<A>,
         rtype: Option<u16>,
@@ -162,7 +165,7 @@ impl<A: Allocator> Observation<A> {
     }
 
     /// That what was observed of a name, and of those below it, up to a moment is withdrawn. It has
-    /// the greatest rank and the longest life, so that it outlives all that it withdraws, and an
+    /// the greatest rank and the longest life, so that nothing that it withdraws outlives it, and an
     /// empty body. This allocates nothing.
     pub fn flush(name: Name<A>, stamp: Moment) -> Observation<A>
         ensures { result ≡ flush_at name stamp }
@@ -205,7 +208,7 @@ impl<A: Allocator> Observation<A> {
         self.rtype
     }
 
-    /// How far it is trusted: 1, 2 or 3, the greatest first (after RFC 2181 5.4.1).
+    /// How far it is trusted: 1 to 3, and 3 the most (after RFC 2181 5.4.1).
     pub fn rank(&self) -> u8
         ensures value { result ≡ self.now.rank }
         ensures lawful { IsObservation self.now }

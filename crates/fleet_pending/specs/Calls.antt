@@ -55,8 +55,8 @@ waiters_cleared (settle id r) = []
 waiters_cleared (advance id moment r) = []
 waiters_cleared (clear ws) = ws
 
--- the waiters accepted are those given back, those cleared away and those still open, each as
--- often: by every test as many
+-- those who waited at first and those accepted are those given back, those cleared away and those
+-- still open, each as often: by every test as many
 abbrev pub EachAsOften : Type 0
 EachAsOften =
     (o n : PendingData) (calls : List Call) → Run o calls n → (test : WaiterData → Bool)

@@ -1,5 +1,5 @@
 -- The id of the query that asking would send.
--- Serves `Pending::query_id`.
+-- Serves `Pending::query_id`, law `asking_uses_query_id`.
 use Rattle.std.specs.Prelude.{◌≡◌, ◌≢◌, ◌⊎◌, ℕ, ◌<◌, ◌≤◌, Option, Some, None, Result, Ok, Err, length}
 use Rattle.fleet_wire.specs.Types.{Seconds}
 use Rattle.fleet_wire.specs.Question.{QuestionData}

@@ -13,8 +13,8 @@ pub fn refusals_are_exact()
     ensures { RefusesExactly }
 {}
 
-/// Over any list of calls each waiter that was accepted is given back by `settle`, went with a
-/// `clear` or still waits, as often as it was accepted.
+/// Over any list of calls each waiter that waited at first or was accepted is given back by
+/// `settle`, went with a `clear` or still waits, each as often.
 pub fn waiters_kept()
     ensures { EachAsOften }
 {}

@@ -52,9 +52,6 @@ made_both old mid new cs ds a b = record {
   failed = b.failed ∙ ap (failures_of ds) a.failed ∙ sym (failures_of-append cs ds old.failed);
 }
 
-pub sends_none : (old : PortState) (r : Report) → Sends old old [] r r
-sends_none old r = record { calls = []; made = made_none old; sent = tt; report = refl }
-
 pub sends_more : (old mid new : PortState) (ss ts us : List PacketData) (r q p : Report)
     → us ≡ ss ++ ts → Sends old mid ss r q → Sends mid new ts q p → Sends old new us r p
 sends_more old mid new ss ts us r q p e a b = record {

@@ -18,7 +18,7 @@ use Rattle.fleet_site.specs.server.PortRecord.{PortCall, Received, NoDatagram, F
 use Rattle.fleet_site.specs.server.Sending.{AreSent, packets_of, count_call, count_calls, count_step, goes_on}
 use Rattle.fleet_site.specs.steps.Sends.{sweep_outcome, Sends, CarriesOut}
 use Rattle.fleet_site.specs.server.Turn.{TurnStep, calling, sweeping, Action, calls_of, count_actions, AllSent, ActionsLead, HasActed, ROOM, no_tick, next_tick, IsSweepDue}
-use Rattle.fleet_site.specs.steps.Turned.{Turned, Took, GivenOne, Heard, TickedAll, SweptOnce}
+use Rattle.fleet_site.specs.steps.Turned.{Turned, Took, GivenOne, ReceivedOne, TickedAll, SweptOnce}
 use Rattle.fleet_site.specs.declared.outcome.SiteFault.{SiteFault}
 use Rattle.fleet_site.specs.declared.report.Report.{Report}
 use Rattle.fleet_site.proofs.ServerLists.{made_none, made_both}
@@ -118,7 +118,7 @@ pub heard_one : (old mid new : PortState) (asked t w : ℕ) (s u : SiteData) (r 
     (from : Addr) (octets : List ℕ) → asked ≡ ROOM
     → NotesAll old.noted (Received asked from octets ∷ []) mid.noted → mid.failed ≡ old.failed
     → q ≡ count_call (Received asked from octets) r → GivenOne (loop_state mid s q) (loop_state new u p) t from octets w
-    → Heard (loop_state old s r) (loop_state new u p) t w
+    → ReceivedOne (loop_state old s r) (loop_state new u p) t w
 heard_one old mid new asked t w s u r q p from octets m n i e g = record {
   arrival = Received asked from octets;
   asks = m;
@@ -133,7 +133,7 @@ heard_one old mid new asked t w s u r q p from octets m n i e g = record {
 pub heard_none : (old new : PortState) (asked t w : ℕ) (s : SiteData) (r q : Report)
     → asked ≡ ROOM
     → NotesAll old.noted (NoDatagram asked ∷ []) new.noted → new.failed ≡ old.failed → q ≡ r
-    → Heard (loop_state old s r) (loop_state new s q) t w
+    → ReceivedOne (loop_state old s r) (loop_state new s q) t w
 heard_none old new asked t w s r q m n i e =
     record {
       arrival = NoDatagram asked;
@@ -148,7 +148,7 @@ heard_none old new asked t w s r q m n i e =
 pub heard_fault : (old new : PortState) (asked t w : ℕ) (s : SiteData) (r q : Report)
     → asked ≡ ROOM
     → NotesAll old.noted (Fault asked ∷ []) new.noted → new.failed ≡ one_more old.failed
-    → q ≡ count_call (Fault asked) r → Heard (loop_state old s r) (loop_state new s q) t w
+    → q ≡ count_call (Fault asked) r → ReceivedOne (loop_state old s r) (loop_state new s q) t w
 heard_fault old new asked t w s r q m n i e =
     record {
       arrival = Fault asked;
@@ -246,7 +246,7 @@ ticks_all old new t b s u r q e k =
 -- a turn
 turns_parts : (old one two new : PortState) (t w every last : ℕ) (since : Option ℕ)
     (s u v : SiteData) (r q p z : Report)
-    → Heard (loop_state old s (record r { turns = one_more r.turns })) (loop_state one u q) t w
+    → ReceivedOne (loop_state old s (record r { turns = one_more r.turns })) (loop_state one u q) t w
     → TickedAll (loop_state one u q) (loop_state two v p) t
     → SweptOnce (loop_state two v p) (loop_state new v z) every (unwrap_or since t) t last
     → Turned (loop_state old s r) (loop_state new v z) t w every since last
@@ -288,10 +288,10 @@ turns_parts old one two new t w every last since s u v r q p z a b c =
 pub turned_at : (old one two new : PortState) (t w every last from : ℕ) (since : Option ℕ)
     (s u v : SiteData) (r k q p z : Report)
     → k ≡ record r { turns = one_more r.turns } → from ≡ unwrap_or since t
-    → Heard (loop_state old s k) (loop_state one u q) t w → TickedAll (loop_state one u q) (loop_state two v p) t
+    → ReceivedOne (loop_state old s k) (loop_state one u q) t w → TickedAll (loop_state one u q) (loop_state two v p) t
     → SweptOnce (loop_state two v p) (loop_state new v z) every from t last
     → Turned (loop_state old s r) (loop_state new v z) t w every since last
 turned_at old one two new t w every last from since s u v r k q p z d e a b c =
     turns_parts old one two new t w every last since s u v r q p z
-    (subst (λ (y : Report). Heard (loop_state old s y) (loop_state one u q) t w) d a) b
+    (subst (λ (y : Report). ReceivedOne (loop_state old s y) (loop_state one u q) t w) d a) b
     (subst (λ (y : ℕ). SweptOnce (loop_state two v p) (loop_state new v z) every y t last) e c)

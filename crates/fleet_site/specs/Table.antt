@@ -8,7 +8,7 @@ use Rattle.fleet_name.specs.Places.{At}
 use Rattle.fleet_pending.specs.Waiting.{IsWaiting}
 use Rattle.fleet_pending.specs.declared.addr.Addr.{Addr}
 
--- so did all who wait
+-- all who wait asked a question of class IN
 abbrev pub AskClassOne : PendingData → Type 0
 AskClassOne o = (w : WaiterData) → IsWaiting o w → w.question.class ≡ IN
 
@@ -20,7 +20,7 @@ pub record IsTableOf (upstreams : List Addr) (o : PendingData) : Type 0 where
 
 -- What follows, private contracts alone cite.
 
--- who waits for it asked a question of the Internet (IN)
+-- the same of an entry: all who wait for it did
 abbrev pub IsOfClassOne : EntryData → Type 0
 IsOfClassOne e = (i : ℕ) (w : WaiterData) → At e.waiters i w → w.question.class ≡ IN
 

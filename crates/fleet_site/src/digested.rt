@@ -3,29 +3,20 @@
 ghost use Rattle.std.specs.Prelude.{◌≡◌, IfOk, IfErr};
 ghost use Rattle.fleet_wire.specs.Message.{IsReply};
 ghost use Rattle.fleet_observe.specs.DigestOf.{IsDigest, IsSound};
-ghost use Rattle.fleet_site.specs.declared.digested.ReplyFault.TheVariants.{NoMemory};
 ghost use Rattle.fleet_site.specs.steps.ReplyFault.{IsUnread, IsUndigested};
 
 use crate::outcome::Refusal;
 use fleet_observe::{Digest, DigestFault, digest, digest_or_fault};
 use fleet_wire::{Message, ReadFault, read_reply};
-use std::alloc::{AllocError, Allocator};
+use std::alloc::Allocator;
 
-/// Why a reply is not heard.
+/// Why nothing is done with a reply.
 #[derive(Clone, Copy, Debug, PartialEq, Eq)]
 pub(crate) enum ReplyFault {
     /// It is refused.
     Refused(Refusal),
     /// There was no memory for it.
     NoMemory,
-}
-
-impl From<AllocError> for ReplyFault {
-    ghost from_gives = { λ _ e. e ≡ NoMemory };
-
-    fn from(_error: AllocError) -> ReplyFault {
-        ReplyFault::NoMemory
-    }
 }
 
 /// The reply that octets are.

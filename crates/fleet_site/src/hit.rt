@@ -3,14 +3,14 @@
 ghost use Rattle.std.specs.Prelude.{◌≡◌, ◌≤◌, ◌↔◌, IsTrue, IfOk, OnErr};
 ghost use Rattle.fleet_observe.specs.Observation.{Observations};
 ghost use Rattle.fleet_cache.specs.Cached.{IsCached};
-ghost use Rattle.fleet_site.specs.question.Verdict.{IsAsking, IsPlainAsking};
+ghost use Rattle.fleet_site.specs.question.Verdict.{IsAsking, IsStandardQuery};
 ghost use Rattle.fleet_site.specs.steps.Plain.{DecidesPlain, IsPlainMiss};
 
 use crate::verdict::is_served;
 use crate::writing::{is_miss, write_answer_into};
 use fleet_cache::Cache;
 use fleet_observe::Moment;
-use fleet_wire::{Header, Question, read_plain_query};
+use fleet_wire::{Header, Question, one_query, read_plain_query};
 use std::alloc::{AllocError, Allocator};
 
 /// What is made of octets that may be a plain question.
@@ -24,9 +24,9 @@ pub(crate) enum Plain<A: Allocator> {
     Miss(Header, Question<A>),
 }
 
-/// Whether a header is that of a plain question: QR is clear and the Opcode is 0.
-fn is_asking(header: Header) -> bool
-    ensures { IsTrue result ↔ IsPlainAsking header }
+/// Whether a header is that of a standard query (RFC 1035 4.1.1): QR is clear and the Opcode is 0.
+fn is_standard_query(header: Header) -> bool
+    ensures { IsTrue result ↔ IsStandardQuery header }
 {
     !header.response && header.opcode == 0
 }
@@ -51,7 +51,8 @@ pub(crate) fn decide_plain<A: Allocator + Copy>(
     let Some((header, question)) = read_plain_query(octets) else {
         return Ok(Plain::Other);
     };
-    if !is_asking(header) || !is_served(&question) {
+    if !is_standard_query(header) || !is_served(&question) {
+        one_query();
         return Ok(Plain::Other);
     }
     let answer = cache.answer_lent(&question, clock);

@@ -45,7 +45,7 @@ pub enum Refusal {
     /// The message can't be read.
     #[error("read: {0}")]
     Read(ReadFault),
-    /// It is no reply to a question that is served, or its aliases lead nowhere.
+    /// It is no reply to a question that is served, or its aliases fork, loop or have a ninth link.
     #[error("digest: {0}")]
     Digest(DigestFault),
     /// The frame can't be read.
@@ -54,7 +54,8 @@ pub enum Refusal {
     /// Too many questions are open, or too many wait for this one.
     #[error("full")]
     Full,
-    /// The datagram is neither a question nor a reply.
+    /// It has fewer than 12 octets, or it is a reply that no upstream sent, or a question that an
+    /// upstream sent.
     #[error("dropped")]
     Dropped,
 }

@@ -9,10 +9,10 @@ ghost use Rattle.fleet_cache.specs.Cached.{IsCached};
 ghost use Rattle.fleet_pending.specs.Asking.{Asks, ask_result};
 ghost use Rattle.fleet_site.specs.steps.Carried.{SaysOrStops, IsAskable, IsAnswered, TurnsAway, IsFirstSaid};
 ghost use Rattle.fleet_site.specs.OutcomeData.{sends};
-ghost use Rattle.fleet_site.specs.question.Handling.{handled_result};
+ghost use Rattle.fleet_site.specs.question.Handling.{handled_result, IsInPlace};
 ghost use Rattle.fleet_site.specs.question.Question.{Reacts, Forwards, Questioned, turns_away};
 ghost use Rattle.fleet_site.specs.Table.{IsTableOf, KeepsTable};
-ghost use Rattle.fleet_site.specs.question.Verdict.{IsAsking, verdict};
+ghost use Rattle.fleet_site.specs.question.Verdict.{IsAsking, IsPlainHit, verdict};
 
 use crate::config::addr_of;
 use crate::handled::Handled;
@@ -27,7 +27,7 @@ use fleet_pending::{
     Addr, Asked, Pending, PendingFault, Unasked, Waiter, asking_uses_query_id, waiters_stay,
 };
 use fleet_wire::rcode::{REFUSED, SERVER_FAILURE};
-use fleet_wire::{Header, Question, write_query};
+use fleet_wire::{Header, Question, one_query, write_query};
 use std::alloc::{AllocError, Allocator};
 
 /// When a question came, from whom, and where the search for the id of its query begins.
@@ -65,7 +65,7 @@ pub(crate) fn take_question<A: Allocator + Copy>(
 }
 
 /// The same, with the reply of a hit written in place of what `out` holds, where the octets are a
-/// question in full and in lower case. Such a question is read, and looked up, once.
+/// plain question (`IsPlainQuestion`). Such a question is read and looked up once.
 pub(crate) fn take_question_into<A: Allocator + Copy>(
     alloc: A,
     cache: &Cache<A>,
@@ -82,6 +82,8 @@ pub(crate) fn take_question_into<A: Allocator + Copy>(
         (Questioned s upstreams.now pending.old arrival.clock arrival.from arrival.word octets.now)
         (IsAsking octets.now) pending.old (handled_result arrival.from out.new.items result)
         pending.new }
+    ensures in_place { (s : Observations) → IsCached s cache.now.floor cache.now.items
+        → IsPlainHit s arrival.clock octets.now → IfOk result (λ h. IsInPlace h) }
     ensures table { KeepsTable pending.old pending.new }
 {
     match decide_plain(alloc, cache, arrival.clock, octets, out) {
@@ -90,6 +92,7 @@ pub(crate) fn take_question_into<A: Allocator + Copy>(
         }
         Ok(Plain::Hit) => Ok(Handled::Reply),
         Ok(Plain::Miss(header, question)) => {
+            one_query();
             let miss = Decision::Miss(header, question);
             whole(respond(alloc, pending, upstreams, arrival, miss))
         }

@@ -127,7 +127,7 @@ fn relay_of_reply<A: Allocator + Copy>(
 {
     let message = match message_in(alloc, octets) {
         Ok(message) => message,
-        Err(unheard) => return Err(unheard),
+        Err(fault) => return Err(fault),
     };
     let id = message.header().id;
     let question = message.question();
@@ -165,7 +165,7 @@ pub(crate) fn take_reply<A: Allocator + Copy>(
 {
     match relay_of(alloc, pending, upstream, clock, octets) {
         Ok(relay) => carry_out(cache, pending, relay),
-        Err(unheard) => refuse(alloc, unheard),
+        Err(fault) => refuse(alloc, fault),
     }
 }
 
@@ -218,7 +218,7 @@ fn read_observations<A: Allocator + Copy>(
 {
     let message = match message_in(alloc, octets) {
         Ok(message) => message,
-        Err(unheard) => return Err(unheard),
+        Err(fault) => return Err(fault),
     };
     let digest = match digest_of(alloc, &message) {
         Ok(digest) => digest,
@@ -257,15 +257,15 @@ pub(crate) fn learn_reply<A: Allocator + Copy>(
 {
     match read_observations(alloc, clock, octets) {
         Ok(observed) => take_all(alloc, cache, observed),
-        Err(unheard) => refuse(alloc, unheard),
+        Err(fault) => refuse(alloc, fault),
     }
 }
 
-/// A reply that is not heard.
-fn refuse<A: Allocator + Copy>(alloc: A, unheard: ReplyFault) -> Result<Outcome<A>, SiteFault>
-    ensures { SaysRefusal unheard result }
+/// A reply that is refused, or that there is no memory for.
+fn refuse<A: Allocator + Copy>(alloc: A, fault: ReplyFault) -> Result<Outcome<A>, SiteFault>
+    ensures { SaysRefusal fault result }
 {
-    match unheard {
+    match fault {
         ReplyFault::Refused(refusal) => Ok(Outcome::without_packets(alloc, 0, Some(refusal))),
         ReplyFault::NoMemory => Err(SiteFault::OutOfMemory { taken: 0 }),
     }

@@ -10,11 +10,11 @@ pub struct Report {
     pub turns: u64,
     /// Datagrams that were received.
     pub received: u64,
-    /// Packets that were sent.
+    /// Packets whose send succeeded; a port may have put a long one in a queue of its own.
     pub sent: u64,
     /// Packets whose send failed.
     pub lost: u64,
-    /// Receives that failed.
+    /// Receives that failed, also where a packet of that queue could not be sent.
     pub faults: u64,
     /// Datagrams that the site refused.
     pub refused: u64,

@@ -6,7 +6,7 @@ ghost use Rattle.fleet_site.specs.server.Sending.{to_each, to_peers, count_refus
 ghost use Rattle.fleet_site.specs.steps.Sends.{Sends, CarriesOut, sweep_outcome};
 ghost use Rattle.fleet_site.specs.server.Turn.{IsSweepDue, HasPassed, left_after};
 ghost use Rattle.fleet_site.specs.server.Served.{Served, FollowsSteps};
-ghost use Rattle.fleet_site.specs.steps.Turned.{Turned, GivenOne, Heard, TickedAll, SweptOnce};
+ghost use Rattle.fleet_site.specs.steps.Turned.{Turned, GivenOne, ReceivedOne, TickedAll, SweptOnce};
 
 use crate::handled::Handled;
 use crate::outcome::{Outcome, Packet, Refusal, SiteFault};
@@ -153,7 +153,7 @@ fn receive<P: Port, A: Allocator + Copy>(
     reply: &mut Vec<u8, A>,
     report: &mut Report,
 )
-    ensures { Heard (record { port = P.state port.old; site = site.old; report = report.old })
+    ensures { ReceivedOne (record { port = P.state port.old; site = site.old; report = report.old })
         (record { port = P.state port.new; site = site.new; report = report.new })
         now word }
 {

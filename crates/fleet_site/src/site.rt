@@ -1,15 +1,16 @@
 //! A site.
 
 ghost use Rattle.std.specs.Prelude.{◌≡◌, ◌≢◌, ◌↔◌, max, IsTrue, false, IfOk, IfErr, OnErr, []};
+ghost use Rattle.fleet_site.specs.ConfigData.{IsAmong};
 ghost use Rattle.fleet_site.specs.SiteModel.{SiteModel};
 ghost use Rattle.fleet_site.specs.StandsFor.{StandsFor, Follows, Answers, Gathers, opening};
 ghost use Rattle.fleet_site.specs.steps.Sender.{IsSender};
 ghost use Rattle.fleet_site.specs.SiteData.{IsSiteData};
-ghost use Rattle.fleet_site.specs.question.Handling.{handled_result};
+ghost use Rattle.fleet_site.specs.question.Handling.{handled_result, IsInPlace};
 ghost use Rattle.fleet_site.specs.Step.{datagram as a_datagram, tick as a_tick, frame as a_frame, learn as a_reply, flush as a_flush};
 ghost use Rattle.fleet_site.specs.gossip.Sweep.{IsSweep};
 ghost use Rattle.fleet_site.specs.Tick.{LeavesFewer};
-ghost use Rattle.fleet_site.specs.question.Verdict.{IsAsking};
+ghost use Rattle.fleet_site.specs.question.Verdict.{IsAsking, IsPlainHit};
 ghost use Rattle.fleet_site.specs.declared.site.Sender.TheVariants.{Other};
 ghost use Rattle.fleet_site.specs.declared.outcome.SiteFault.TheVariants.{OutOfMemory};
 
@@ -36,8 +37,8 @@ use std::marker::Model;
 /// upstream.
 ///
 /// Each call with a moment first raises the clock to it, if that is later, and takes the clock for
-/// stamps, answers and deadlines. What a call sends is made before the cache or the open questions
-/// change.
+/// stamps, answers and deadlines. What a call sends is made before an observation is taken and
+/// before an open question changes; a tick has dropped what has ended before.
 #[derive(Drop)]
 pub struct Site<A: Allocator = Global> {
     alloc: A,
@@ -128,7 +129,7 @@ impl<A: Allocator + Copy> Site<A> {
         &self.cache
     }
 
-    /// The greatest moment so far.
+    /// The greatest moment that it was given, or purged to by a merge, since it last began.
     pub fn clock(&self) -> Moment
         ensures clock { result ≡ self.now.clock }
         ensures lawful { IsSiteData self.now }
@@ -154,8 +155,8 @@ impl<A: Allocator + Copy> Site<A> {
     /// RCODE 2 and `Full`.
     ///
     /// A reply, in this order. Under 12 octets or with QR clear: `Dropped`. What can't be read:
-    /// `Read`. What no open question waits for at this upstream: `Unmatched`. What means nothing:
-    /// `Digest`. Else it is relayed to all who wait, in order of joining, each with its own id and
+    /// `Read`. What no open question waits for at this upstream: `Unmatched`. What is no reply to a
+    /// served question, or has a bad chain of aliases: `Digest`. Else it is relayed to all who wait, in order of joining, each with its own id and
     /// spelling and with RD set; its observations go out as frames and into the cache, and the
     /// question is settled.
     ///
@@ -173,15 +174,15 @@ impl<A: Allocator + Copy> Site<A> {
         ensures config { self.new.config ≡ self.old.config }
     {
         let sender = sender_of(&self.config, from);
-        self.hear(sender, now, from, bytes, word)
+        self.dispatch(sender, now, from, bytes, word)
     }
 
-    /// `datagram`, whose reply may be in a buffer. The reply of a hit is written in place of what
-    /// `out` holds, where the question is in full and in lower case. Such a question is read, and
-    /// looked up, once, also where it is a miss.
+    /// `datagram`, whose reply may be in a buffer. A standard query of class 1 (IN), of a type that
+    /// data can have, with its name in full and in lower case, is read and looked up once. Where
+    /// the cache answers it, the reply is written in place of what `out` holds.
     ///
-    /// Where `out` has room for 512 octets, a hit takes no memory for up to four records in a
-    /// section. Whatever is no `Reply` leaves anything in `out`.
+    /// Where `out` has room for 512 octets, such a hit takes no memory for up to four records in a
+    /// section. Where the result is no `Reply`, `out` holds anything.
     pub fn datagram_into(
         &mut self,
         now: Moment,
@@ -193,11 +194,14 @@ impl<A: Allocator + Copy> Site<A> {
         ensures follows { (m : SiteModel) → StandsFor self.old m
             → Follows m (a_datagram now from bytes.now word)
             (handled_result from out.new.items result) self.new }
+        ensures in_place { (m : SiteModel) → StandsFor self.old m → ¬ IsAmong m.upstreams from
+            → ¬ IsAmong m.peers from → IsPlainHit m.taken (max m.clock now) bytes.now
+            → IfOk result (λ h. IsInPlace h) }
         ensures config { self.new.config ≡ self.old.config }
     {
         let sender = sender_of(&self.config, from);
         if !is_asker(sender) {
-            return whole(self.hear(sender, now, from, bytes, word));
+            return whole(self.dispatch(sender, now, from, bytes, word));
         }
         let clock = self.clock.later(now);
         self.clock = clock;
@@ -213,8 +217,8 @@ impl<A: Allocator + Copy> Site<A> {
         )
     }
 
-    /// What comes from such a sender.
-    fn hear(
+    /// Does with a datagram what its sender calls for.
+    fn dispatch(
         &mut self,
         sender: Sender,
         now: Moment,
@@ -299,8 +303,9 @@ impl<A: Allocator + Copy> Site<A> {
         take_frame(self.alloc, &mut self.cache, bytes)
     }
 
-    /// Takes the observations of a reply in, whoever it is from: `Read` or `Digest` where it is no
-    /// reply that has any. It matches no open question and sends nothing.
+    /// Takes the observations of a reply in, whoever it is from; it may have none. `Read` where it
+    /// can't be read. `Digest` where it is no reply to a question that is served, or its aliases
+    /// fork, loop or have a ninth link. It matches no open question and sends nothing.
     pub fn learn(&mut self, now: Moment, bytes: &[u8]) -> Result<Outcome<A>, SiteFault>
         ensures follows { (m : SiteModel) → StandsFor self.old m
             → Follows m (a_reply now bytes.now) result self.new }

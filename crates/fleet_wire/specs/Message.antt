@@ -93,6 +93,7 @@ SectionsAt m past true a b = (a ≡ []) × (b ≡ [])
 SectionsAt m past false a b = (middle : Place) × (end : Place) × RecordsAt m past a middle
     × (length a ≡ u16_at m 6) × RecordsAt m middle b end × (length b ≡ u16_at m 8)
 
+-- their first fault; none where the message was cut off
 abbrev pub SectionsFail : OctetList → Place → Bool → ReadFault → Type 0
 SectionsFail m past true f = ⊥
 SectionsFail m past false f = RecordsFail m past (u16_at m 6) f

@@ -93,7 +93,7 @@ unfoldable pub octets_of_outline : OutlineData → OctetList
 octets_of_outline o =
     if nat_le (length (whole_octets o)) LONGEST_MESSAGE then whole_octets o else cut_octets o
 
--- a line: its owner is a name
+-- a line: its owner is a name, and its class IN
 pub record IsLine (r : RecordData) : Type 0 where
   pub name : IsName r.name
   pub class : r.class ≡ IN

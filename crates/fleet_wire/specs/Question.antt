@@ -1,5 +1,6 @@
 -- What a question is, without where it lies in memory (RFC 1035 4.1.2).
--- Serves `read_query`, `read_plain_query`, `read_reply`.
+-- Serves `read_query`, `read_plain_query`, `read_reply`, and every call of `Question` and
+-- `LentQuestion`.
 use Rattle.std.specs.Prelude.{◌≡◌, ℕ, ◌+◌, ◌<◌, ◌≤◌, ◌⊎◌, length}
 use Rattle.fleet_name.specs.Types.{Labels, OctetList}
 use Rattle.fleet_wire.specs.Types.{Place, RType}

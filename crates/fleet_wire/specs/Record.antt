@@ -58,7 +58,7 @@ abbrev pub RecordsFail : OctetList → Place → ℕ → ReadFault → Type 0
 RecordsFail m p count f = (rs : List RecordData) × (past : Place) × RecordsAt m p rs past
     × (length rs < count) × RecordFails m past f
 
--- a record whose RDATA has no pointer: its names in full and in lower case
+-- a record whose owner is a name, and whose RDATA is plain for its type
 pub record IsPlainRecord (r : RecordData) : Type 0 where
   pub name : IsName r.name
   pub rdata : IsPlain r.rtype r.rdata

@@ -14,10 +14,11 @@ use Rattle.fleet_wire.specs.declared.rtype.TheConstants.{NS, MD, MF, CNAME, SOA,
 use Rattle.fleet_wire.specs.declared.shape.Part.{Part}
 use Rattle.fleet_wire.specs.declared.shape.Part.TheVariants.{Plain, Name}
 
--- The parts of a type's RDATA, for the types with names in it: NS, MD, MF, CNAME, MB, MG, MR and
--- PTR one name, SOA two names and five numbers of 32 bits, MINFO two names, MX a number of 16 bits
--- and a name, SRV three of them and a name. The RDATA of any other type is plain octets.
-abbrev pub shape_of : ℕ → Option (List Part)
+-- The parts of RDATA, for the types whose names a receiver expands here: those of RFC 1035 3.3 with
+-- names, and SRV. NS, MD, MF, CNAME, MB, MG, MR and PTR have one name, SOA two names and five
+-- numbers of 32 bits, MINFO two names, MX a number of 16 bits and a name, SRV three of them and a
+-- name. RDATA of any other type is opaque octets, also where there are names in it (RFC 3597 4).
+abbrev pub shape_of : RType → Option (List Part)
 shape_of t =
     if nat_eq t NS || nat_eq t MD || nat_eq t MF || nat_eq t CNAME || nat_eq t MB || nat_eq t MG
     || nat_eq t MR || nat_eq t PTR then Some (Name ∷ []) else
@@ -66,7 +67,8 @@ abbrev pub HasShape : Option (List Part) → OctetList → Type 0
 HasShape None octets = Unit {0}
 HasShape (Some parts) octets = ArePlain parts octets
 
--- RDATA of a type, without pointers and in lower case
+-- RDATA of a type: where the type has a shape, with each name in full and in lower case, and else
+-- any octets
 abbrev pub IsPlain : RType → OctetList → Type 0
 IsPlain rtype octets = HasShape (shape_of rtype) octets
 

@@ -6,7 +6,8 @@ ghost use Rattle.fleet_wire.specs.declared.fault.ReadFault.TheVariants.{OutOfMem
 use std::alloc::{AllocError, AllocFailed};
 use thiserror::Error;
 
-/// Why a message can't be read: its first fault, in the order of its octets.
+/// Why a message can't be read: its first fault. Its length is checked first, then its octets in
+/// their order.
 #[derive(Clone, Copy, Debug, PartialEq, Eq, Error)]
 pub enum ReadFault {
     /// It has under 12 octets, so no header (RFC 1035 4.1.1).

@@ -18,7 +18,7 @@ pub struct Header {
     pub aa: bool,
     /// TC: whether the message was cut off.
     pub tc: bool,
-    /// RD: whether recursion is wanted.
+    /// RD: whether recursion is desired.
     pub rd: bool,
     /// RCODE, 0 to 15: 0 is no error, 3 a name error.
     pub rcode: u8,

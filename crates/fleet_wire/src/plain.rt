@@ -58,7 +58,7 @@ fn are_plain(parts: &[Part], octets: &[u8]) -> bool
 }
 
 /// Whether RDATA has the shape of its type, with each name in full and in lower case. RDATA of a
-/// type without names is plain, whatever it holds.
+/// type without a shape is plain, whatever it holds.
 pub fn plain_rdata(rtype: u16, rdata: &[u8]) -> bool
     ensures { IsTrue result ↔ IsPlain rtype rdata.now }
 {

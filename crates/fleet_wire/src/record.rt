@@ -24,7 +24,8 @@ pub struct Record<A: Allocator = Global> {
     pub class: u16,
     /// TTL in seconds, all 32 bits as the message has them.
     pub ttl: u32,
-    /// RDATA. Where its type has names in it, each name is in full and in lower case.
+    /// RDATA. Where its type has a shape, each name is in full and in lower case; of any other type
+    /// the octets are as they came.
     pub rdata: Octets<A>,
 }
 

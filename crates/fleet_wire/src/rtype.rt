@@ -1,4 +1,4 @@
-//! The types of records with names in their RDATA (RFC 1035 3.2.2, RFC 2782).
+//! The types whose RDATA is read by its parts (RFC 1035 3.2.2, RFC 2782).
 
 /// An authoritative name server of the owner (RFC 1035 3.3.11).
 pub const NS: u16 = 2;

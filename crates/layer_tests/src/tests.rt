@@ -2,7 +2,7 @@
 //!
 //! `messages` has the octets that more than one row is about, by their names. `rows`, `tables`,
 //! `calls` and `observations` read rows, make their calls and compare their output. Each other file
-//! has tests: of names and octets; of messages that are cut off or lie (`faults`), that servers
+//! has tests: of names and octets; of lists of items; of messages that are cut off or lie (`faults`), that servers
 //! sent (`captures`) and that are read in place; of what replies say, and of observations that are
 //! made; of fronts; of caches, flushes, exchanges between caches and the memory that purges give
 //! back; of frames and their second entries; of open questions.

@@ -191,7 +191,7 @@ taken 0
 refused unmatched
 > tick 0 102
 idle
-= so is one that tells a server failure
+= so is one that reports a server failure
 > datagram 0 100 127.0.0.1:6001 4660 <question>
 send 127.0.0.1:5301 <query>
 taken 0

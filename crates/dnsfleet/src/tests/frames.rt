@@ -234,7 +234,7 @@ taken 1
 > # Site 0 learns a reply at moment 100: example.com. has the address 192.0.2.1, for 300 seconds.
 > learn 0 100 <learnt>
 taken 1
-> # It tells its peers all that it holds, which is one frame.
+> # It sends its peers all that it holds, which is one frame.
 > sweep 0
 frame 0 <older>
 swept 1

@@ -1,6 +1,6 @@
 -- What cuts the items of a name.
 -- Serves the look-ups of `Cache::answer`.
-use Rattle.std.specs.Prelude.{◌≡◌, ℕ, Bool, not, Option, Some, None}
+use Rattle.std.specs.Prelude.{◌≡◌, Bool, not, Option, Some, None}
 use Rattle.fleet_name.specs.Types.{Labels}
 use Rattle.fleet_wire.specs.Types.{Seconds}
 use Rattle.fleet_observe.specs.Members.{Has}
@@ -9,7 +9,7 @@ use Rattle.fleet_cache.specs.Live.{is_live}
 use Rattle.fleet_cache.specs.Cut.{CutData, is_hidden}
 
 -- the stamp of an observation, if there is one
-abbrev pub stamp_of : Option ObservationData → Option ℕ
+abbrev pub stamp_of : Option ObservationData → Option Seconds
 stamp_of None = None
 stamp_of (Some o) = Some o.stamp
 

@@ -33,11 +33,11 @@ abbrev pub HasNoneShorter : Kind → ℕ → Observations → Type 0
 HasNoneShorter kind size items =
     (o : ObservationData) → Has items o → o.kind ≡ kind → size ≤ length (wire o.name)
 
--- a kind that speaks of the names below its own too
+-- a kind that decides for the names below its own too
 abbrev pub IsHead : Kind → Type 0
 IsHead kind = (kind ≡ NameError) ⊎ (kind ≡ Flush)
 
--- none of the items that speak of the name n is of one above it
+-- no name error or flush among the items is of a name above n
 abbrev pub HasNoneAbove : Observations → Labels → Type 0
 HasNoneAbove items n =
     (o : ObservationData) → Has items o → IsHead o.kind → IsUnder n o.name → o.name ≡ n

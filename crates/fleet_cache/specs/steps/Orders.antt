@@ -1,4 +1,4 @@
--- The order of a name, dominance and what has ended keep the laws of a ranked type. This is a
+-- The order of a name, dominance and what a cut hides keep the laws of a ranked type. This is a
 -- proof: it is in specs/ since the laws of a trait may cite nothing else of their own crate.
 -- Serves the fronts below `Cache`.
 use Rattle.std.specs.Prelude.{◌≡◌, true, not, ◌&&◌, nat_le, Option, Some, None}
@@ -100,15 +100,6 @@ row_over x y e =
     let a = over_from x y e in
     let k = key_exact x.name y.name x.kind y.kind x.rtype y.rtype a.same_key in
     row_of_key x y k.1 k.2 ∙ a.preferred
-
-pub row_laws : RankedLaws row dominates has_ended
-row_laws = record {
-  total = row_total;
-  exact = row_exact;
-  chained = over_chain;
-  greater = row_over;
-  hides_below = ended_below;
-}
 
 -- what is dominated is of the same kind
 same_kind : (x y : ObservationData) → dominates x y ≡ true → x.kind ≡ y.kind

@@ -29,7 +29,7 @@ octet_words octets = octet_words_within MOST_WORDS octets
 abbrev pub words_of : ObservationData → List ℕ
 words_of o = octet_words (wire o.name)
 
--- the name that words spell
+-- a name that can be packed: each of its octets in full is below 256
 pub record IsPackable (name : Labels) : Type 0 where
   pub bytes : AllByRecursion (λ x. x < 256) (wire name)
   pub named : IsName name

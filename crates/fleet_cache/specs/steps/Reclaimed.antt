@@ -1,7 +1,8 @@
--- What a sweep does to what is held.
--- Serves `Cache::take` and `Cache::purge`, where they free memory.
+-- What reclaiming does to what is held.
+-- Serves `Cache::purge`, where it frees memory.
 use Rattle.std.specs.Prelude.{◌≡◌, ℕ, Bool, true, false, not, List, ◌≤◌, length}
 use Rattle.std.specs.List.{filter}
+use Rattle.fleet_wire.specs.Types.{Seconds}
 use Rattle.fleet_observe.specs.Members.{Has}
 use Rattle.fleet_observe.specs.Observation.{ObservationData, Observations}
 use Rattle.fleet_cache.specs.Live.{is_live, live_of}
@@ -16,13 +17,13 @@ pub record IsThinned (lives : ObservationData → Bool) (items rest : Observatio
     pub size : length rest ≤ length items
 
 -- of the items, none was dropped but what is not live at the moment m
-pub record IsReclaimed (m : ℕ) (items rest : Observations) : Type 0 where
+pub record IsReclaimed (m : Seconds) (items rest : Observations) : Type 0 where
   pub live_still : live_of rest m ≡ live_of items m
   pub of_items : (x : ObservationData) → Has rest x → Has items x
   pub size : length rest ≤ length items
 
--- of the items none was dropped of those that live, whatever lives, where the cut hides just what does
--- not, of those of the name with these words
+-- For every test of what lives: if the cut hides exactly those items of the name with these words
+-- that fail the test, then no item that passes it was dropped.
 abbrev pub IsTrimmed : List ℕ → CutData → Observations → Observations → Type 0
 IsTrimmed words cut items rest = (lives : ObservationData → Bool)
     → ((o : ObservationData) → Has items o → words_of o ≡ words → is_hidden cut o ≡ not (lives o))
@@ -34,6 +35,6 @@ IsCleared words cut items =
     (o : ObservationData) → Has items o → words_of o ≡ words → is_hidden cut o ≡ false
 
 -- what is left of the name with these words lives at the moment m, as the items say
-abbrev pub AllLive : List ℕ → ℕ → Observations → Observations → Type 0
+abbrev pub AllLive : List ℕ → Seconds → Observations → Observations → Type 0
 AllLive words m items rest =
     (o : ObservationData) → Has rest o → words_of o ≡ words → is_live items m o ≡ true

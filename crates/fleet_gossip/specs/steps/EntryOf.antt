@@ -1,5 +1,5 @@
 -- The observation of an entry that was read.
--- Serves the writers of an entry.
+-- Serves `decode`: the reader of an entry.
 use Rattle.std.specs.Prelude.{◌≡◌}
 use Rattle.fleet_name.specs.Name.{wire}
 use Rattle.fleet_observe.specs.Observation.{ObservationData, IsObservation}

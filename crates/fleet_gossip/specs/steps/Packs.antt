@@ -9,8 +9,8 @@ use Rattle.fleet_gossip.specs.declared.frame.TheConstants.{VERSION}
 use Rattle.fleet_gossip.specs.declared.packer.Packer.{Packer}
 use Rattle.fleet_gossip.specs.declared.bounds.TheConstants.{LONGEST_FRAME}
 
--- These finished frames, and the `count` entries of the one that is not finished, hold what was
--- taken: whatever comes, with its frames after them they pack it all.
+-- The finished frames, and the `count` entries of the unfinished one, hold what was taken. Whatever
+-- follows: where some frames pack those entries and it, the finished frames and these pack all.
 pub record Hold (frames : List OctetList) (octets : OctetList) (count : ℕ)
     (taken : Observations)
     : Type 0 where

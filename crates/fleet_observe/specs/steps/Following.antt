@@ -7,7 +7,7 @@ use Rattle.fleet_name.specs.Name.{labels_of}
 use Rattle.fleet_wire.specs.Record.{RecordData, IsPlainRecord}
 use Rattle.fleet_wire.specs.declared.rtype.TheConstants.{CNAME}
 use Rattle.fleet_observe.specs.Members.{Has}
-use Rattle.fleet_observe.specs.RrSet.{Belongs, InSet, IsEmpty, IsOnly, SpellsName}
+use Rattle.fleet_observe.specs.RrSet.{IsOfRrSet, InSet, IsEmpty, IsOnly, SpellsName}
 use Rattle.fleet_observe.specs.declared.reply.summary.Followed.{Followed}
 use Rattle.fleet_observe.specs.declared.reply.walk.Found.{Found}
 use Rattle.fleet_observe.specs.declared.reply.walk.Found.TheVariants.{Nothing, One, Several}
@@ -18,7 +18,7 @@ use Rattle.fleet_observe.specs.Walk.{GoesOn, EndsFound, EndsBare, Ends, last, Is
 -- r is a record of the RRset
 pub record IsOf (s : List RecordData) (n : Labels) (t : RType) (r : RecordData) : Type 0 where
   pub member : Has s r
-  pub is_of_rrset : Belongs n t r
+  pub is_of_rrset : IsOfRrSet n t r
 
 -- what is found of an RRset
 abbrev pub IsFound : {A : Type 0} → List RecordData → Labels → RType → Found A → Type 0

@@ -13,8 +13,9 @@ use thiserror::Error;
 pub enum End<A: Allocator = Global> {
     /// The RRset of the question's type where the walk ended.
     Records(RrSet<A>),
-    /// RCODE 0 and no such RRset: the name where the walk ended has no data of the type. The SOA
-    /// that counts, if any.
+    /// RCODE 0, and neither such an RRset nor an alias: the name where the walk ended has no data of
+    /// the type (RFC 2308 2.2), or the reply is a referral, which has no SOA. The SOA that counts,
+    /// if any.
     NoData(Option<Soa<A>>),
     /// RCODE 3 and no such RRset: the name where the walk ended does not exist. The SOA that
     /// counts, if any.

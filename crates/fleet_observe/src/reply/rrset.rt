@@ -4,7 +4,7 @@ ghost use Rattle.std.specs.Prelude.{◌≡◌, ◌≤◌, ◌⊎◌, ◌↔◌, 
 ghost use Rattle.fleet_name.specs.Types.{OctetList};
 ghost use Rattle.fleet_name.specs.Name.{labels_of};
 ghost use Rattle.fleet_observe.specs.Members.{Has, IsAscending};
-ghost use Rattle.fleet_observe.specs.RrSet.{SpellsName, Belongs, InSet, IsTtl, IsRrSet, read_ttl, rrset_of_rows, count_below};
+ghost use Rattle.fleet_observe.specs.RrSet.{SpellsName, IsOfRrSet, InSet, IsTtl, IsRrSet, read_ttl, rrset_of_rows, count_below};
 
 use crate::bounds::LONGEST_LIFE;
 use crate::items::Items;
@@ -59,7 +59,7 @@ impl<A: Allocator> RrSet<A> {
 /// Whether the record is of the class IN and of the RRset at this name, in full, and type.
 pub(crate) fn is_of_rrset<A: Allocator>(candidate: &Record<A>, name: &[u8], rtype: u16) -> bool
     requires { SpellsName name.now }
-    ensures { IsTrue result ↔ Belongs (labels_of name.now) rtype candidate.now }
+    ensures { IsTrue result ↔ IsOfRrSet (labels_of name.now) rtype candidate.now }
 {
     if candidate.class != IN {
         return false;

@@ -13,7 +13,12 @@ abbrev pub handled_data : {A : Type 0} → Addr → OctetList → Handled A → 
 handled_data from octets Reply = sends from octets
 handled_data from octets (Outcome o) = o
 
--- the same of a call that may be stopped
+-- the reply is in the buffer
+abbrev pub IsInPlace : {A : Type 0} → Handled A → Type 0
+IsInPlace Reply = Unit {0}
+IsInPlace (Outcome o) = ⊥
+
+-- what is given, of a call that may be stopped
 abbrev pub handled_result : {A : Type 0} → Addr → OctetList → Result (Handled A) SiteFault
     → Result OutcomeData SiteFault
 handled_result from octets (Ok h) = Ok (handled_data from octets h)

@@ -1,5 +1,5 @@
 -- What a site does with a question.
--- Serves `Site::datagram`.
+-- Serves `Site::datagram`, `Site::datagram_into`.
 use Rattle.std.specs.Prelude.{◌≡◌, ◌≢◌, ◌⊎◌, ℕ, List, Some, false, Result, Ok, Err}
 use Rattle.fleet_name.specs.Types.{OctetList}
 use Rattle.fleet_wire.specs.Types.{Seconds}
@@ -34,7 +34,7 @@ turns_away from h q = record (sends from (bare_octets h SERVER_FAILURE (Some q))
     { refused = Some Full }
 
 -- what is said where the table of open questions answered this: a new entry's query goes to the
--- upstream at its place, one who waits hears nothing yet, and one who was refused is turned away
+-- upstream at its place, one who waits is sent nothing yet, and one who was refused is turned away
 pub data Forwarded (upstreams : List Addr) (from : Addr) (h : Header) (q : QuestionData)
     (answer : Result Opened PendingFault) (e : OutcomeData) : Type 0 where
   is_asked : (upstream id : ℕ) (there : Addr) → At upstreams upstream there

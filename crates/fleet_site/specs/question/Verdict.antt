@@ -1,10 +1,10 @@
 -- What a site that took in a set of observations makes of octets that are asked, before it looks at
 -- open questions.
--- Serves `Site::datagram`, `Site::ask`.
+-- Serves `Site::datagram`, `Site::datagram_into`, `Site::ask`.
 use Rattle.std.specs.Prelude.{◌≡◌, ◌≢◌, ◌<◌, ◌≤◌, Some, None, false, IsTrue, length}
 use Rattle.fleet_name.specs.Types.{OctetList}
 use Rattle.fleet_wire.specs.Types.{Place, Seconds}
-use Rattle.fleet_wire.specs.Message.{header_of, IsQuery, HasQuery, QueryFails}
+use Rattle.fleet_wire.specs.Message.{header_of, IsQuery, IsPlainQuery, HasQuery, QueryFails}
 use Rattle.fleet_wire.specs.Question.{QuestionData}
 use Rattle.fleet_wire.specs.declared.fault.ReadFault.{ReadFault}
 use Rattle.fleet_wire.specs.declared.header.Header.{Header}
@@ -51,7 +51,8 @@ DecidesQuestion s t h q v =
     when ¬ IsServedQuestion q then v ≡ Answer (bare_octets h NOT_IMPLEMENTED (Some q)) otherwise
     DecidesAnswer h q (answer_of s t q.name q.rtype) v
 
--- octets
+-- What is made of octets, the first that fits: under 12 octets or a reply, silence; another Opcode
+-- than 0, not implemented; no query, a format error; else it is decided by the question.
 abbrev pub Decides : Observations → Seconds → OctetList → Verdict → Type 0
 Decides s t octets v =
     when length octets < 12 then v ≡ Silence otherwise
@@ -64,6 +65,24 @@ Decides s t octets v =
     ((q : QuestionData) × (past : Place) × IsQuery octets (header_of octets) q past
     × DecidesQuestion s t (header_of octets) q v)
 
+-- the header of a standard query (RFC 1035 4.1.1): QR is clear, and the Opcode is 0
+pub record IsStandardQuery (h : Header) : Type 0 where
+  pub question : h.response ≡ false
+  pub plain : h.opcode ≡ 0
+
+-- octets that are a standard query in full and in lower case, which data could answer
+pub record IsPlainQuestion (octets : OctetList) (h : Header) (q : QuestionData) : Type 0 where
+  pub spelled : IsPlainQuery octets h q
+  pub standard : IsStandardQuery h
+  pub served : IsServedQuestion q
+
+-- octets that are such a question, which the set answers at the moment
+pub record IsPlainHit (s : Observations) (t : Seconds) (octets : OctetList) : Type 0 where
+  pub header : Header
+  pub question : QuestionData
+  pub plain : IsPlainQuestion octets header question
+  pub known : answer_of s t question.name question.rtype ≢ Missed
+
 -- What follows, private contracts alone cite.
 
 abbrev pub verdict : {A : Type 0} → Decision A → Verdict
@@ -71,8 +90,3 @@ verdict Dropped = Silence
 verdict (Reply octets) = Answer octets
 verdict (Unread octets f) = Unreadable octets f
 verdict (Miss h q) = Unknown h q
-
--- the header of a plain question: QR is clear, and the Opcode is 0
-pub record IsPlainAsking (h : Header) : Type 0 where
-  pub question : h.response ≡ false
-  pub plain : h.opcode ≡ 0

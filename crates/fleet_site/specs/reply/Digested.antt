@@ -23,8 +23,8 @@ ReadThen o octets d Then =
     then ((f : ReadFault) × ReplyFails octets f × (d ≡ refuses (Read f) o)) otherwise
     ((r : MessageData) × IsReply octets r × Then r)
 
--- it is no reply to a question that is served, or its aliases lead nowhere, or what follows
--- holds of its meaning
+-- it is no reply to a question that is served, or it has a bad chain of aliases, or what follows
+-- holds of its digest
 abbrev pub DigestedThen : PendingData → MessageData → Effect → (DigestData → Type 0) → Type 0
 DigestedThen o r d Then =
     when ¬ IsServed r then d ≡ refuses (Digest NotReply) o otherwise

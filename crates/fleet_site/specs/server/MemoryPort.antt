@@ -2,6 +2,7 @@
 -- Serves `MemoryPort`, `ListClock`.
 use Rattle.std.specs.Prelude.{◌≡◌, ◌⊎◌, ℕ, zero, suc, ◌-◌, min, Bool, true, false, List, [], ◌∷◌, map, get_or, length, take, drop, Option, Some, None, Result, Ok, Err, IsOk, IsErr}
 use Rattle.fleet_name.specs.Types.{OctetList}
+use Rattle.fleet_wire.specs.Types.{Seconds}
 use Rattle.fleet_pending.specs.declared.addr.Addr.{Addr}
 use Rattle.fleet_site.specs.server.PortRecord.{PortCall, Received, NoDatagram, Fault, PacketSent, PacketLost}
 use Rattle.fleet_site.specs.declared.port.PortFault.{PortFault}
@@ -10,7 +11,7 @@ use Rattle.fleet_site.specs.declared.memory_port.Note.TheVariants as note
 use Rattle.fleet_site.specs.declared.memory_port.MemoryPort.{MemoryPort}
 
 -- the moment at a place of a list, and the last one from there on; 0 where there is none
-abbrev pub moment_of : OctetList → ℕ → ℕ
+abbrev pub moment_of : List Seconds → ℕ → Seconds
 moment_of moments i = get_or moments (min i (length moments - 1)) 0
 
 -- a note as a call of a port

@@ -3,16 +3,20 @@
 use Rattle.std.specs.Prelude.{◌≡◌, ◌<◌}
 use Rattle.fleet_name.specs.Types.{OctetList}
 use Rattle.fleet_wire.specs.Types.{Seconds}
+use Rattle.fleet_wire.specs.Question.{QuestionData}
 use Rattle.fleet_wire.specs.declared.class.TheConstants.{IN}
+use Rattle.fleet_wire.specs.declared.header.Header.{Header}
 use Rattle.fleet_observe.specs.Observation.{Observations}
-use Rattle.fleet_site.specs.question.Verdict.{Answer, Unknown, IsAsking, Decides}
+use Rattle.fleet_site.specs.question.Verdict.{Answer, Unknown, IsAsking, IsPlainQuestion, Decides}
 use Rattle.fleet_site.specs.declared.hit.Plain.{Plain}
 use Rattle.fleet_site.specs.declared.hit.Plain.TheVariants.{Other, Hit, Miss}
 
--- of a hit the buffer holds the reply; of octets that are no plain question nothing is said yet
+-- of a hit the buffer holds the reply; what is left to the longer way is no plain question that data
+-- could answer
 abbrev pub DecidesPlain : {A : Type 0} → Observations → Seconds → OctetList → OctetList → Plain A
     → Type 0
-DecidesPlain s t octets out Other = Unit {0}
+DecidesPlain s t octets out Other =
+    (h : Header) (q : QuestionData) → ¬ IsPlainQuestion octets h q
 DecidesPlain s t octets out Hit = Decides s t octets (Answer out)
 DecidesPlain s t octets out (Miss h q) = Decides s t octets (Unknown h q)
 

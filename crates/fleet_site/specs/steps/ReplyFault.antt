@@ -1,5 +1,5 @@
--- Why a reply is not heard.
--- Serves `Site::datagram`, where a reply comes.
+-- Why nothing is done with a reply.
+-- Serves `Site::datagram`, `Site::datagram_into`, `Site::learn`.
 use Rattle.std.specs.Prelude.{◌≡◌}
 use Rattle.fleet_name.specs.Types.{OctetList}
 use Rattle.fleet_wire.specs.Message.{MessageData, HasReply, ReplyFails}
@@ -17,8 +17,8 @@ pub data IsUnread (octets : OctetList) (e : ReplyFault) : Type 0 where
       → IsUnread octets e
   no_memory_to_read : HasReply octets → e ≡ NoMemory → IsUnread octets e
 
--- it is no reply to a question that is served, or its aliases lead nowhere; or memory runs out for
--- its digest
+-- it is no reply to a question that is served, or it has a bad chain of aliases; or memory runs out
+-- for its digest
 pub data IsUndigested (r : MessageData) (e : ReplyFault) : Type 0 where
   not_served : ¬ IsServed r → e ≡ Refused (Digest NotReply) → IsUndigested r e
   aliases_nowhere : IsServed r → HasBadChain r → e ≡ Refused (Digest BadChain) → IsUndigested r e

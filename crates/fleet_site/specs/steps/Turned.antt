@@ -41,7 +41,7 @@ pub record GivenOne (a b : LoopState) (t : Seconds) (from : Addr) (octets : Octe
   pub took : Took a b (action ∷ [])
 
 -- what was received was given to the site
-pub record Heard (a b : LoopState) (t : Seconds) (word : ℕ) : Type 0 where
+pub record ReceivedOne (a b : LoopState) (t : Seconds) (word : ℕ) : Type 0 where
   pub arrival : PortCall
   pub actions : List Action
   pub asks : HasRoomFor ROOM arrival

@@ -82,7 +82,7 @@ fn questions_of_another_form(rt: HostRuntime) -> Result<(), Fail> {
         &rt,
         rt.alloc(),
         "\
-0 datagram 6001 0 inverse => 6001 inverse-denial
+0 datagram 6001 0 status => 6001 status-denial
 0 datagram 6001 65535 no-question => 6001 unread refused Read(QuestionCount)
 0 datagram 6001 65535 two-questions => 6001 unread refused Read(QuestionCount)
 0 datagram 6001 0 local => 6001 local-denial

@@ -75,7 +75,7 @@ const OTHERS: &str = "\
 110 handle 6001 0 any => 6001 any-denial clock 110
 
 100 learn reply => taken 1
-110 handle 6001 0 inverse => 6001 inverse-denial clock 110
+110 handle 6001 0 status => 6001 status-denial clock 110
 
 100 learn reply => taken 1
 110 handle 6001 0 relay => refused Dropped clock 110

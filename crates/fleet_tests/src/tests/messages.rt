@@ -67,9 +67,9 @@ chaos-denial: 0007 8184 0001 0000 0000 0000 example.com 0001 0003
 # id 7 qr rd ra NOERROR: example.com. CH A
 chaos-reply: 0007 8180 0001 0000 0000 0000 example.com 0001 0003
 # id 7 rd opcode 2: example.com. IN A
-inverse: 0007 1100 0001 0000 0000 0000 example.com 0001 0001
+status: 0007 1100 0001 0000 0000 0000 example.com 0001 0001
 # id 7 qr rd ra opcode 2 NOTIMP, QDCOUNT 0
-inverse-denial: 0007 9184 0000 0000 0000 0000
+status-denial: 0007 9184 0000 0000 0000 0000
 # id 7 rd, QDCOUNT 0: example.com. IN A
 no-question: 0007 0100 0000 0000 0000 0000 example.com 0001 0001
 # id 7 rd, QDCOUNT 2: example.com. IN A
@@ -100,7 +100,7 @@ empty-frame: 4447 01 0000
 other-magic: 4448 01 0000
 # frame cut off after 2 octets
 half-frame: 4447
-# id 17476 aa z opcode 8, QDCOUNT 17476; no label 44
+# 16385 octets: one more than a frame may have
 long-frame: 44*16385
 # id 4660 qr rd ra NOERROR: example.com. IN AAAA; answer example.com. 300 IN A 192.0.2.1
 other-type: 1234 8180 0001 0001 0000 0000 example.com 001c 0001 c00c 0001 0001 0000012c 0004 \

@@ -35,7 +35,7 @@ longer
 0007 0100 0001 0000 0000 0000 example.com 0002 0001
 any
 chaos
-inverse
+status
 no-question
 two-questions
 local
@@ -172,7 +172,7 @@ relay-8
     026e73076578616d706c6503636f6d00
 any-denial
 chaos-denial
-inverse-denial
+status-denial
 local-denial
 no-data-relay
 failure

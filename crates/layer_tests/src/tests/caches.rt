@@ -67,7 +67,7 @@ answer example.com 1 150 => Miss";
     check_calls(&rt, rt.alloc(), rows)
 }
 
-/// An empty cache keeps no memory but the room for a key that its sweeps need.
+/// An empty cache keeps no memory but the room for a key that reclaiming needs.
 #[test]
 fn a_purge_shows_at_once_what_is_left(rt: HostRuntime) -> Result<(), Fail> {
     let rows = "

@@ -184,7 +184,7 @@ reply <aliases-reply> => 00028183000100020001000003'www'07'example'000001000103'
 # =>   300
 reply <no-name-reply> => 00038183000100000001000001'b'07'example'000001000107'example'000006000100\
     000e10001600000000000100000e1000000258000151800000012c
-# an answer at a long name
+# an answer at x.y.b.example
 # => id 4 qr rd ra NOERROR: x.y.b.example. IN A; answer x.y.b.example. 300 IN A 192.0.2.1
 reply <below-reply> => 00048180000100010000000001'x'01'y'01'b'07'example'000001000101'x'01'y'01'b'\
     07'example'00000100010000012c0004c0000201
@@ -474,7 +474,7 @@ fn read_with(alloc: Global, message: &[u8], at: usize, octet: u8) -> Result<(), 
     push_both(alloc, other.as_slice(), &mut output)
 }
 
-/// Reads a message with each octet at each place, and says how often that was.
+/// Reads a message with each octet at each place, and says how many places it has.
 fn read_with_each(alloc: Global, message: &[u8]) -> Result<usize, Fail> {
     for at in 0..message.len() {
         for octet in OCTETS {
@@ -484,7 +484,7 @@ fn read_with_each(alloc: Global, message: &[u8]) -> Result<usize, Fail> {
     Ok(message.len())
 }
 
-/// Reads the message of a row with each octet at each place, and says how often that was.
+/// Reads the message of a row with each octet at each place, and says how many places it has.
 fn read_row(alloc: Global, row: &str) -> Result<usize, Fail> {
     let asked = row.strip_prefix("reply ").ok_or("no reply")?;
     let (word, _) = asked.split_once(' ').ok_or("no message")?;
@@ -509,8 +509,8 @@ fn returns_whatever_an_octet_is(rt: HostRuntime) -> Result<(), Fail> {
     Ok(())
 }
 
-/// A reply with one record of a type, whose RDATA begins at its 42nd octet; its question is for
-/// a.example, whose name begins at the twelfth.
+/// A reply with one record of a type, whose RDATA begins at place 39; its question is for a.example,
+/// whose name begins at place 12.
 fn reply_with(alloc: Global, rtype: u16, rdata: &str) -> Result<Vec<u8>, Fail> {
     let length = octets_of(alloc, rdata)?.len();
     let text = format!(in alloc;

@@ -265,8 +265,7 @@ outline 2 4 => 000790840000000000000000";
 #[test]
 fn what_passes_512_octets_is_cut_off(rt: HostRuntime) -> Result<(), Fail> {
     let rows = "
-# => id 7 qr ra NOERROR, QDCOUNT 0: . IN TXT; answer . 3909091328 CLASS11265 A \\# 0 ; 484 octets
-# =>   more
+# => id 7 qr ra NOERROR, QDCOUNT 0; answer . 300 IN TXT \\# 489 00..
 outline 0 0 {00*489} => 00078080000000010000000000001000010000012c01e9{00*489}
 # => id 7 qr tc ra NOERROR, QDCOUNT 0
 outline 0 0 {00*489} -, => 000782800000000000000000";
@@ -277,7 +276,7 @@ outline 0 0 {00*489} -, => 000782800000000000000000";
 #[test]
 fn lines_keep_their_order(rt: HostRuntime) -> Result<(), Fail> {
     let rows = "
-# => id 7 qr ra NOERROR, QDCOUNT 0: . IN TXT; RDATA passes the end
+# => id 7 qr ra NOERROR, QDCOUNT 0; answer . 300 IN TXT \\# 1 61, and so on to \\# 1 66
 outline 0 0 61,62,63,64,65,66 => 000780800000000600000000\
     00001000010000012c000161\
     00001000010000012c000162\

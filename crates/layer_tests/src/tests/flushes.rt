@@ -141,7 +141,7 @@ take example.com 1 3 100 300 c0000201 => true";
 #[test]
 fn what_is_withdrawn_leaves_the_memory(rt: HostRuntime) -> Result<(), Fail> {
     let rows = "
-# The first flush makes room for the key of a sweep, the second one in the front of their key.
+# The first flush makes room for the cursor's key, the second one in the front of their key.
 flush com 90 => true
 flush com 91 => true
 mark => something

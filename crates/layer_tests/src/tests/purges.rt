@@ -61,7 +61,7 @@ fn go_round(rt: &impl Abort, global: Global, heap: &LocalHeap) -> Result<[usize;
     Ok([empty, all, first, second, third, last])
 }
 
-/// A purge sweeps 4096 fronts, so that the first one drops 2048 of the 2500 that ended, 81.92 of
+/// A purge reclaims from 4096 fronts, so that the first one drops 2048 of the 2500 that ended, 81.92 of
 /// 100; the next goes on behind them to the end.
 #[test]
 fn purges_go_round(rt: HostRuntime) -> Result<(), Fail> {

@@ -4,6 +4,7 @@ use Rattle.fleet_site.specs.question.Question.{Reacts, Questioned}
 use Rattle.fleet_site.specs.question.Verdict.{Answer, Unknown, IsAsking}
 use Rattle.fleet_site.specs.steps.Carried.{SaysOrStops}
 use Rattle.fleet_site.specs.declared.outcome.SiteFault.{SiteFault}
+use Rattle.fleet_site.proofs.Deciding.{known_decided}
 use Rattle.fleet_site.proofs.Following.{keeps_weaker}
 use Rattle.fleet_site.proofs.question.take_question_into.Goals as goal
 
@@ -29,3 +30,14 @@ returns-in-Ok-Miss-clause-questioned g c = λ s cached.
     (Questioned s c.args.upstreams.now old a.clock a.from a.word c.args.octets.now) (Unit {0})
     (IsAsking c.args.octets.now) old c.respond.new.pending c.respond.result
     (λ d k. (v, decides, k)) (λ u. miss.0) c.respond.ensures.reacts)
+
+pub returns-in-Ok-Other-clause-in_place : goal.returns-in-Ok-Other-clause-in_place
+returns-in-Ok-Other-clause-in_place g c = λ s cached hit.
+    let other = rw c.in-Ok-Other.field-0-is at (c.in-Ok-Other.ensures.decides s cached) in
+    absurd (other hit.header hit.question hit.plain)
+
+pub returns-in-Ok-Miss-clause-in_place : goal.returns-in-Ok-Miss-clause-in_place
+returns-in-Ok-Miss-clause-in_place g c = λ s cached hit.
+    let decides = rw c.in-Ok-Miss.field-0-is at (c.in-Ok-Miss.ensures.decides s cached) in
+    absurd (known_decided c.one_query.ensures s c.args.arrival.clock c.args.octets.now
+    c.in-Ok-Miss.header c.in-Ok-Miss.question hit decides)

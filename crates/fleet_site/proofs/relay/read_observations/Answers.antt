@@ -7,7 +7,7 @@ use Rattle.fleet_site.proofs.relay.read_observations.Goals as goal
 
 pub returns-in-Err-clause-refused : goal.returns-in-Err-clause-refused
 returns-in-Err-clause-refused g c =
-    λ o. unread_learnt o c.args.clock c.args.octets.now c.in-Err.unheard c.in-Err.ensures.refused
+    λ o. unread_learnt o c.args.clock c.args.octets.now c.in-Err.fault c.in-Err.ensures.refused
 
 pub returns-in-Err-digest_of-clause-refused : goal.returns-in-Err-digest_of-clause-refused
 returns-in-Err-digest_of-clause-refused g c =

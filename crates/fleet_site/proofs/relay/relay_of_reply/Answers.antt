@@ -4,7 +4,7 @@ use Rattle.fleet_site.proofs.relay.relay_of_reply.Goals as goal
 
 pub returns-in-Err-clause-refused : goal.returns-in-Err-clause-refused
 returns-in-Err-clause-refused g c =
-    unread_reply c.args.pending.now c.args.clock c.args.upstream c.args.octets.now c.in-Err.unheard
+    unread_reply c.args.pending.now c.args.clock c.args.upstream c.args.octets.now c.in-Err.fault
     c.requires c.in-Err.ensures.refused
 
 pub returns-in-None-clause-refused : goal.returns-in-None-clause-refused

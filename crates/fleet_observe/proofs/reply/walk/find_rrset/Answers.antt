@@ -5,7 +5,7 @@ use Rattle.std.proofs.lemmas.Bool.Decides.{Decides-eqb}
 use Rattle.std.proofs.lemmas.Bool.{not-false}
 use Rattle.fleet_name.specs.Name.{labels_of}
 use Rattle.fleet_wire.specs.Record.{RecordData}
-use Rattle.fleet_observe.specs.RrSet.{Belongs, InSet, IsEmpty}
+use Rattle.fleet_observe.specs.RrSet.{IsOfRrSet, InSet, IsEmpty}
 use Rattle.std.proofs.lemmas.List.{take_more, take_all}
 use Rattle.fleet_observe.proofs.Lists.{has_at}
 use Rattle.fleet_observe.proofs.Sections.{IsOne, in_whole, of_whole, one_first, one_same, one_more, empty_more}
@@ -13,7 +13,7 @@ use Rattle.fleet_observe.proofs.reply.walk.find_rrset.Goals as goal
 use Rattle.fleet_observe.proofs.reply.walk.find_rrset.Goals.{then-is_of_rrset+in-None, then-is_of_rrset+in-Some+else-ne, else-is_of_rrset}
 
 first_kept : (s : List RecordData) (n : List (List ℕ)) (t : ℕ) (r : RecordData)
-    (first : Option (Bor RecordData)) → ¬ Belongs n t r → MatchOption first (IsEmpty s n t)
+    (first : Option (Bor RecordData)) → ¬ IsOfRrSet n t r → MatchOption first (IsEmpty s n t)
     (λ x. IsOne s n t x.now)
     → MatchOption first (IsEmpty (s ++ r ∷ []) n t) (λ x. IsOne (s ++ r ∷ []) n t x.now)
 first_kept s n t r None out h = empty_more s n t r h out
