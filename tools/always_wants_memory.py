@@ -30,7 +30,7 @@ FAULTS = {
     "SiteFault": "SiteFault::OutOfMemory { taken: 0 }",
     "WorldFault": "WorldFault::Memory { taken: 0 }",
     "Halted": "Halted { at: 0, fault: WorldFault::Memory { taken: 0 } }",
-    "ScriptFault": "ScriptFault { line: 1, what: What::OutOfMemory }",
+    "ScriptFault": "ScriptFault { line: 1, what: LineFault::OutOfMemory }",
     "SettingsFault": "SettingsFault::OutOfMemory",
 }
 

@@ -175,8 +175,9 @@ DigestOrFault =
     (r : MessageData) (d : DigestData) (f : DigestFault) → IsDigest r d → IsFault r f
     → f ≡ OutOfMemory
 
-abbrev pub MeaningIsSound : Type 0
-MeaningIsSound = (r : MessageData) (d : DigestData) → IsDigest r d → IsSound r
+-- a reply with a digest is served, and has a walk where one is asked for
+abbrev pub DigestIsSound : Type 0
+DigestIsSound = (r : MessageData) (d : DigestData) → IsDigest r d → IsSound r
 
 -- What follows, private contracts alone cite.
 

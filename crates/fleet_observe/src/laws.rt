@@ -2,7 +2,7 @@
 
 ghost use Rattle.fleet_observe.specs.Observation.{OneKey};
 ghost use Rattle.fleet_observe.specs.Walk.{OneWalk};
-ghost use Rattle.fleet_observe.specs.DigestOf.{MeaningIsSound, DigestOrFault};
+ghost use Rattle.fleet_observe.specs.DigestOf.{DigestIsSound, DigestOrFault};
 ghost use Rattle.fleet_observe.specs.Observations.{OneDigest, OneObserved, EachOnce};
 
 /// A key is of one name, one kind and one type.
@@ -15,7 +15,7 @@ pub fn one_walk()
     ensures { OneWalk }
 {}
 
-/// A reply has one meaning at most, and one list of observations at a moment.
+/// A reply has one digest at most, and one list of observations at a moment.
 pub fn one_digest()
     ensures meaning { OneDigest }
     ensures observed { OneObserved }
@@ -23,7 +23,7 @@ pub fn one_digest()
 
 /// A reply with a digest has no fault but `OutOfMemory`.
 pub fn digest_or_fault()
-    ensures sound { MeaningIsSound }
+    ensures sound { DigestIsSound }
     ensures fault { DigestOrFault }
 {}
 
