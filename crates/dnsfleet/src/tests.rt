@@ -23,7 +23,6 @@ use readers::{Failing, Full, Slow};
 use std::alloc::Global;
 use std::io::Read;
 use std::process::{Abort, ExitCode};
-use std::test::Fail;
 
 /// Runs the lines that a reader gives, which are all done, and compares what they print.
 fn check_reader<R: Read>(
@@ -39,8 +38,8 @@ fn check_reader<R: Read>(
 }
 
 /// Runs an example: its lines at once, and octet by octet with an interruption.
-fn check_example(rt: &impl Abort, alloc: Global, example: &Example) -> Result<(), Fail> {
-    let (lines, wanted) = example.parts(alloc)?;
+fn check_example(rt: &impl Abort, alloc: Global, example: &Example) {
+    let (lines, wanted) = example.parts(rt, alloc);
     let mut slow = Slow {
         rest: lines.as_bytes(),
         interrupted: false,
@@ -53,17 +52,15 @@ fn check_example(rt: &impl Abort, alloc: Global, example: &Example) -> Result<()
         example.shows,
     );
     check_reader(rt, alloc, &mut slow, wanted.as_str(), example.shows);
-    Ok(())
 }
 
 #[test]
-fn prints_the_examples(rt: HostRuntime) -> Result<(), Fail> {
-    let examples = all_examples(rt.alloc())?;
+fn prints_the_examples(rt: HostRuntime) {
+    let examples = all_examples(&rt, rt.alloc());
     assert_eq!(rt; examples.len(), 58);
     for example in &examples {
-        check_example(&rt, rt.alloc(), example)?;
+        check_example(&rt, rt.alloc(), example);
     }
-    Ok(())
 }
 
 /// Runs lines that are all done, and compares what they print.
@@ -72,159 +69,165 @@ fn check_lines(rt: &impl Abort, alloc: Global, lines: &str, wanted: &str) {
 }
 
 /// Adds a line for each part of octets that begins with them and lacks some of their end.
-fn add_prefixes(lines: &mut String, event: &str, octets: &str) -> Result<(), Fail> {
+fn add_prefixes(rt: &impl Abort, lines: &mut String, event: &str, octets: &str) {
     let mut prefix = String::new(*lines.allocator());
     for digit in octets.chars() {
         if prefix.is_empty() {
-            writeln!(lines, "{event} -")?;
+            writeln!(lines, "{event} -").expect(rt, "memory");
         } else if prefix.len() % 2 == 0 {
-            writeln!(lines, "{event} {prefix}")?;
+            writeln!(lines, "{event} {prefix}").expect(rt, "memory");
         }
-        prefix.push(digit)?;
+        prefix.push(digit).expect(rt, "memory");
     }
-    Ok(())
 }
 
 /// Adds such lines for a message by its name.
-fn add_message_prefixes(lines: &mut String, event: &str, name: &str) -> Result<(), Fail> {
-    let octets = message_of(*lines.allocator(), name)?;
-    add_prefixes(lines, event, octets.as_str())
+fn add_message_prefixes(rt: &impl Abort, lines: &mut String, event: &str, name: &str) {
+    let octets = message_of(rt, *lines.allocator(), name);
+    add_prefixes(rt, lines, event, octets.as_str());
 }
 
 /// Adds lines with a reply and a frame that end early.
-fn add_early_ends(lines: &mut String) -> Result<(), Fail> {
-    add_message_prefixes(lines, "learn 0 100", "aliases-reply")?;
-    add_message_prefixes(lines, "frame 0 100", "first-100")?;
-    Ok(lines.push_str("show 0\n")?)
+fn add_early_ends(rt: &impl Abort, lines: &mut String) {
+    add_message_prefixes(rt, lines, "learn 0 100", "aliases-reply");
+    add_message_prefixes(rt, lines, "frame 0 100", "first-100");
+    lines.push_str("show 0\n").expect(rt, "memory");
 }
 
 /// Adds a line a number of times.
-fn add_times(text: &mut String, count: u32, line: &str) -> Result<(), Fail> {
+fn add_times(rt: &impl Abort, text: &mut String, count: u32, line: &str) {
     for _ in 0..count {
-        writeln!(text, "{line}")?;
+        writeln!(text, "{line}").expect(rt, "memory");
     }
-    Ok(())
 }
 
 /// Adds what these lines print.
-fn add_early_faults(text: &mut String) -> Result<(), Fail> {
-    add_times(text, 12, "refused read TooShort")?;
-    add_times(text, 87, "refused read Truncated")?;
-    add_times(text, 42, "refused frame Truncated")?;
-    Ok(text.push_str("floor 0\nitems 0\n")?)
+fn add_early_faults(rt: &impl Abort, text: &mut String) {
+    add_times(rt, text, 12, "refused read TooShort");
+    add_times(rt, text, 87, "refused read Truncated");
+    add_times(rt, text, 42, "refused frame Truncated");
+    text.push_str("floor 0\nitems 0\n").expect(rt, "memory");
 }
 
 #[test]
-fn reports_where_octets_end_early(rt: HostRuntime) -> Result<(), Fail> {
+fn reports_where_octets_end_early(rt: HostRuntime) {
     let mut lines = String::new(rt.alloc());
-    add_early_ends(&mut lines)?;
+    add_early_ends(&rt, &mut lines);
     let mut wanted = String::new(rt.alloc());
-    add_early_faults(&mut wanted)?;
+    add_early_faults(&rt, &mut wanted);
     check_lines(&rt, rt.alloc(), lines.as_str(), wanted.as_str());
-    Ok(())
 }
 
 /// Adds the label of decimal digits, in hexadecimal digits.
-fn add_label(text: &mut String, digits: &str) -> Result<(), Fail> {
+fn add_label(rt: &impl Abort, text: &mut String, digits: &str) {
     let length = digits.len();
-    write!(text, "{length:02x}")?;
+    write!(text, "{length:02x}").expect(rt, "memory");
     for digit in digits.chars() {
-        write!(text, "3{digit}")?;
+        write!(text, "3{digit}").expect(rt, "memory");
     }
-    Ok(())
 }
 
 /// Adds the entry of a frame, with an address of a name of seven digits.
-fn add_entry(text: &mut String, number: u16) -> Result<(), Fail> {
-    text.push_str("030300000000000000640000012c")?;
-    let digits = format!(in *text.allocator(); "{number:07}")?;
-    add_label(text, digits.as_str())?;
-    Ok(text.push_str("03636f6d00000100010004c0000201")?)
+fn add_entry(rt: &impl Abort, text: &mut String, number: u16) {
+    text.push_str("030300000000000000640000012c")
+        .expect(rt, "memory");
+    let digits = format!(in *text.allocator(); "{number:07}").expect(rt, "memory");
+    add_label(rt, text, digits.as_str());
+    text.push_str("03636f6d00000100010004c0000201")
+        .expect(rt, "memory");
 }
 
 /// Adds entries of frames, each with an address of its own name.
-fn add_entries(text: &mut String, first: u16, end: u16) -> Result<(), Fail> {
+fn add_entries(rt: &impl Abort, text: &mut String, first: u16, end: u16) {
     for number in first..end {
-        add_entry(text, number)?;
+        add_entry(rt, text, number);
     }
-    Ok(text.push_str("\n")?)
+    text.push_str("\n").expect(rt, "memory");
 }
 
 /// Adds the lines in which a site takes in more than a frame holds, and a frame that is too long.
-fn add_packing(lines: &mut String) -> Result<(), Fail> {
-    lines.push_str("frame 0 100 44470101ba")?;
-    add_entries(lines, 0, 442)?;
-    lines.push_str("frame 0 100 4447010001")?;
-    add_entries(lines, 442, 443)?;
-    lines.push_str("sweep 0\nframe 0 100 44470101bb")?;
-    add_entries(lines, 0, 443)
+fn add_packing(rt: &impl Abort, lines: &mut String) {
+    lines
+        .push_str("frame 0 100 44470101ba")
+        .expect(rt, "memory");
+    add_entries(rt, lines, 0, 442);
+    lines
+        .push_str("frame 0 100 4447010001")
+        .expect(rt, "memory");
+    add_entries(rt, lines, 442, 443);
+    lines
+        .push_str("sweep 0\nframe 0 100 44470101bb")
+        .expect(rt, "memory");
+    add_entries(rt, lines, 0, 443);
 }
 
 /// Adds what these lines print.
-fn add_packed(text: &mut String) -> Result<(), Fail> {
-    text.push_str("taken 442\ntaken 1\nframe 0 44470201ba")?;
-    add_entries(text, 0, 442)?;
-    text.push_str("frame 1 4447020001")?;
-    add_entries(text, 442, 443)?;
-    Ok(text.push_str("swept 2\nrefused frame TooLong\n")?)
+fn add_packed(rt: &impl Abort, text: &mut String) {
+    text.push_str("taken 442\ntaken 1\nframe 0 44470201ba")
+        .expect(rt, "memory");
+    add_entries(rt, text, 0, 442);
+    text.push_str("frame 1 4447020001").expect(rt, "memory");
+    add_entries(rt, text, 442, 443);
+    text.push_str("swept 2\nrefused frame TooLong\n")
+        .expect(rt, "memory");
 }
 
 #[test]
-fn packs_what_it_holds(rt: HostRuntime) -> Result<(), Fail> {
+fn packs_what_it_holds(rt: HostRuntime) {
     let mut lines = String::new(rt.alloc());
-    add_packing(&mut lines)?;
+    add_packing(&rt, &mut lines);
     let mut wanted = String::new(rt.alloc());
-    add_packed(&mut wanted)?;
+    add_packed(&rt, &mut wanted);
     check_lines(&rt, rt.alloc(), lines.as_str(), wanted.as_str());
-    Ok(())
 }
 
 /// Adds a question for the name of four digits, with its id.
-fn add_question(text: &mut String, header: &str, number: u16) -> Result<(), Fail> {
-    text.push_str(header)?;
-    let digits = format!(in *text.allocator(); "{number:04}")?;
-    add_label(text, digits.as_str())?;
-    Ok(text.push_str("0000010001\n")?)
+fn add_question(rt: &impl Abort, text: &mut String, header: &str, number: u16) {
+    text.push_str(header).expect(rt, "memory");
+    let digits = format!(in *text.allocator(); "{number:04}").expect(rt, "memory");
+    add_label(rt, text, digits.as_str());
+    text.push_str("0000010001\n").expect(rt, "memory");
 }
 
 /// Adds the lines in which 257 questions come, and two seconds pass.
-fn add_asking(lines: &mut String) -> Result<(), Fail> {
+fn add_asking(rt: &impl Abort, lines: &mut String) {
     for number in 0..257u16 {
-        lines.push_str("datagram 0 100 127.0.0.1:6001 65535 ")?;
-        add_question(lines, "000701000001000000000000", number)?;
+        lines
+            .push_str("datagram 0 100 127.0.0.1:6001 65535 ")
+            .expect(rt, "memory");
+        add_question(rt, lines, "000701000001000000000000", number);
     }
-    Ok(lines.push_str("tick 0 102\n")?)
+    lines.push_str("tick 0 102\n").expect(rt, "memory");
 }
 
 /// Adds the query that each of 256 questions sends.
-fn add_queries(text: &mut String) -> Result<(), Fail> {
+fn add_queries(rt: &impl Abort, text: &mut String) {
     for number in 0..256u16 {
         let id = 65535u16.wrapping_add(number);
-        write!(text, "send 127.0.0.1:5301 {id:04x}")?;
-        add_question(text, "01000001000000000000", number)?;
-        text.push_str("taken 0\n")?;
+        write!(text, "send 127.0.0.1:5301 {id:04x}").expect(rt, "memory");
+        add_question(rt, text, "01000001000000000000", number);
+        text.push_str("taken 0\n").expect(rt, "memory");
     }
-    Ok(())
 }
 
 /// Adds what these lines print.
-fn add_asked(text: &mut String) -> Result<(), Fail> {
-    add_queries(text)?;
-    text.push_str("send 127.0.0.1:6001 ")?;
-    add_question(text, "000781820001000000000000", 256)?;
-    text.push_str("refused full\nsend 127.0.0.1:5302 ")?;
-    add_question(text, "000001000001000000000000", 1)?;
-    Ok(text.push_str("more\n")?)
+fn add_asked(rt: &impl Abort, text: &mut String) {
+    add_queries(rt, text);
+    text.push_str("send 127.0.0.1:6001 ").expect(rt, "memory");
+    add_question(rt, text, "000781820001000000000000", 256);
+    text.push_str("refused full\nsend 127.0.0.1:5302 ")
+        .expect(rt, "memory");
+    add_question(rt, text, "000001000001000000000000", 1);
+    text.push_str("more\n").expect(rt, "memory");
 }
 
 #[test]
-fn asks_at_most_256_questions(rt: HostRuntime) -> Result<(), Fail> {
+fn asks_at_most_256_questions(rt: HostRuntime) {
     let mut lines = String::new(rt.alloc());
-    add_asking(&mut lines)?;
+    add_asking(&rt, &mut lines);
     let mut wanted = String::new(rt.alloc());
-    add_asked(&mut wanted)?;
+    add_asked(&rt, &mut wanted);
     check_lines(&rt, rt.alloc(), lines.as_str(), wanted.as_str());
-    Ok(())
 }
 
 /// Scripts with a line at fault, `/` in place of each LF; how it is reported; and what was printed
@@ -283,83 +286,72 @@ ask 0 1099511627776 -/learn 0000000000000 0 -/ask 0 0 - -/ => line 3: wrong numb
 ";
 
 /// A text with an LF in place of each `/`.
-fn with_line_feeds(alloc: Global, text: &str) -> Result<String, Fail> {
+fn with_line_feeds(rt: &impl Abort, alloc: Global, text: &str) -> String {
     let mut lines = String::new(alloc);
     for letter in text.chars() {
-        lines.push(if letter == '/' { '\n' } else { letter })?;
+        lines
+            .push(if letter == '/' { '\n' } else { letter })
+            .expect(rt, "memory");
     }
-    Ok(lines)
+    lines
 }
 
 /// A script ended with a fault, which is reported so.
-fn check_report(
-    rt: &impl Abort,
-    alloc: Global,
-    ended: Result<(), ScriptFault>,
-    wanted: &str,
-) -> Result<(), Fail> {
+fn check_report(rt: &impl Abort, alloc: Global, ended: Result<(), ScriptFault>, wanted: &str) {
     match ended {
-        Ok(()) => Err("no fault".into()),
+        Ok(()) => panic!(rt; "no fault"),
         Err(fault) => {
-            let shown = format!(in alloc; "{fault}")?;
+            let shown = format!(in alloc; "{fault}").expect(rt, "memory");
             assert_eq!(rt; shown.as_str(), wanted);
-            Ok(())
         }
     }
 }
 
 /// Runs lines with a fault, and compares its report, and what was printed before.
-fn check_fault(
-    rt: &impl Abort,
-    alloc: Global,
-    lines: &[u8],
-    wanted: &str,
-    before: &str,
-) -> Result<(), Fail> {
+fn check_fault(rt: &impl Abort, alloc: Global, lines: &[u8], wanted: &str, before: &str) {
     let mut reader = lines;
     let mut printed = Vec::new(alloc);
     let ended = run_script(alloc, &mut reader, &mut printed);
     assert_eq!(rt; printed.as_slice(), before.as_bytes(), "{wanted}");
-    check_report(rt, alloc, ended, wanted)
+    check_report(rt, alloc, ended, wanted);
 }
 
 /// Checks a row of the table of faults.
-fn check_row(rt: &impl Abort, alloc: Global, row: &str) -> Result<(), Fail> {
-    let (script, wanted) = row.split_once(" => ").ok_or("no fault")?;
+fn check_row(rt: &impl Abort, alloc: Global, row: &str) {
+    let (script, wanted) = row.split_once(" => ").expect(rt, "a fault");
     let (wanted, before) = wanted.split_once(" => ").unwrap_or((wanted, ""));
-    let script = with_line_feeds(alloc, script)?;
-    let before = with_line_feeds(alloc, before)?;
-    check_fault(rt, alloc, script.as_bytes(), wanted, before.as_str())
+    let script = with_line_feeds(rt, alloc, script);
+    let before = with_line_feeds(rt, alloc, before);
+    check_fault(rt, alloc, script.as_bytes(), wanted, before.as_str());
 }
 
 #[test]
-fn reports_each_fault(rt: HostRuntime) -> Result<(), Fail> {
+fn reports_each_fault(rt: HostRuntime) {
     let mut count = 0u32;
     for row in FAULTY.split_terminator('\n') {
-        check_row(&rt, rt.alloc(), row)?;
+        check_row(&rt, rt.alloc(), row);
         count = count.saturating_add(1);
     }
     assert_eq!(rt; count, 50);
-    check_fault(&rt, rt.alloc(), b"\n\xff\n", "line 2: not ASCII", "")
+    check_fault(&rt, rt.alloc(), b"\n\xff\n", "line 2: not ASCII", "");
 }
 
 /// Adds a label of this number of letters, in hexadecimal digits.
-fn add_letters(text: &mut String, length: usize) -> Result<(), Fail> {
-    write!(text, "{length:02x}")?;
+fn add_letters(rt: &impl Abort, text: &mut String, length: usize) {
+    write!(text, "{length:02x}").expect(rt, "memory");
     for _ in 0..length {
-        text.push_str("61")?;
+        text.push_str("61").expect(rt, "memory");
     }
-    Ok(())
 }
 
 /// Adds a line that flushes a name of three labels of 63 letters, and one of this length.
-fn add_long_flush(line: &mut String, last: usize) -> Result<(), Fail> {
-    line.push_str("flush 0 0 ")?;
-    add_letters(line, 63)?;
-    add_letters(line, 63)?;
-    add_letters(line, 63)?;
-    add_letters(line, last)?;
-    Ok(line.push_str("00")?)
+fn add_long_flush(rt: &impl Abort, line: &mut String, last: usize) {
+    line.push_str("flush 0 0 ").expect(rt, "memory");
+    add_letters(rt, line, 63);
+    add_letters(rt, line, 63);
+    add_letters(rt, line, 63);
+    add_letters(rt, line, last);
+    line.push_str("00").expect(rt, "memory");
 }
 
 /// Runs a line, and says how it ended.
@@ -369,13 +361,13 @@ fn run_line(alloc: Global, line: &str) -> Result<(), ScriptFault> {
 }
 
 #[test]
-fn bounds_a_name(rt: HostRuntime) -> Result<(), Fail> {
+fn bounds_a_name(rt: HostRuntime) {
     let mut line = String::new(rt.alloc());
-    add_long_flush(&mut line, 61)?;
+    add_long_flush(&rt, &mut line, 61);
     assert_eq!(rt; run_line(rt.alloc(), line.as_str()), Ok(()));
     line.clear();
-    add_long_flush(&mut line, 62)?;
-    check_fault(&rt, rt.alloc(), line.as_bytes(), "line 1: bad name", "")
+    add_long_flush(&rt, &mut line, 62);
+    check_fault(&rt, rt.alloc(), line.as_bytes(), "line 1: bad name", "");
 }
 
 /// Words that are addresses.
@@ -387,46 +379,43 @@ const NO_ADDRESSES: &str = " \
     127.0.0.01:5301 127.0.0.256:5301 127.0.0:5301 127.0.0.1.1:5301 localhost:5301";
 
 /// A line with the word as an address is done.
-fn check_address(rt: &impl Abort, alloc: Global, word: &str) -> Result<(), Fail> {
-    let line = format!(in alloc; "datagram 0 0 {word} 0 -")?;
+fn check_address(rt: &impl Abort, alloc: Global, word: &str) {
+    let line = format!(in alloc; "datagram 0 0 {word} 0 -").expect(rt, "memory");
     assert_eq!(rt; run_line(alloc, line.as_str()), Ok(()), "{word}");
-    Ok(())
 }
 
 /// A line with the word as an address is at fault.
-fn check_no_address(rt: &impl Abort, alloc: Global, word: &str) -> Result<(), Fail> {
-    let line = format!(in alloc; "datagram 0 0 {word} 0 -")?;
-    check_fault(rt, alloc, line.as_bytes(), "line 1: bad address", "")
+fn check_no_address(rt: &impl Abort, alloc: Global, word: &str) {
+    let line = format!(in alloc; "datagram 0 0 {word} 0 -").expect(rt, "memory");
+    check_fault(rt, alloc, line.as_bytes(), "line 1: bad address", "");
 }
 
 #[test]
-fn reads_addresses(rt: HostRuntime) -> Result<(), Fail> {
+fn reads_addresses(rt: HostRuntime) {
     for word in ADDRESSES.split(' ') {
-        check_address(&rt, rt.alloc(), word)?;
+        check_address(&rt, rt.alloc(), word);
     }
     for word in NO_ADDRESSES.split(' ') {
-        check_no_address(&rt, rt.alloc(), word)?;
+        check_no_address(&rt, rt.alloc(), word);
     }
-    Ok(())
 }
 
 /// Runs an empty line and one of this number of octets.
-fn run_long(alloc: Global, length: usize) -> Result<Result<(), ScriptFault>, Fail> {
-    let mut lines = Vec::from_slice(alloc, b"\n")?;
+fn run_long(rt: &impl Abort, alloc: Global, length: usize) -> Result<(), ScriptFault> {
+    let mut lines = Vec::from_slice(alloc, b"\n").expect(rt, "memory");
     for _ in 0..length {
-        lines.push(b'#')?;
+        lines.push(b'#').expect(rt, "memory");
     }
     let mut printed = Vec::new(alloc);
-    Ok(run_script(alloc, &mut lines.as_slice(), &mut printed))
+    run_script(alloc, &mut lines.as_slice(), &mut printed)
 }
 
 #[test]
-fn bounds_a_line(rt: HostRuntime) -> Result<(), Fail> {
-    assert_eq!(rt; run_long(rt.alloc(), 65536)?, Ok(()));
+fn bounds_a_line(rt: HostRuntime) {
+    assert_eq!(rt; run_long(&rt, rt.alloc(), 65536), Ok(()));
     let what = LineFault::LineTooLong;
     let wanted = Err(ScriptFault { line: 2, what });
-    assert_eq!(rt; run_long(rt.alloc(), 65537)?, wanted);
-    Ok(())
+    assert_eq!(rt; run_long(&rt, rt.alloc(), 65537), wanted);
 }
 
 /// What the example shows whose first line is read and printed.
@@ -453,15 +442,14 @@ fn check_full(rt: &impl Abort, alloc: Global, lines: &str, left: u32, line: u64)
 }
 
 #[test]
-fn reports_faults_of_its_reader_and_writer(rt: HostRuntime) -> Result<(), Fail> {
-    let example = example_of(rt.alloc(), FIRST_EXAMPLE)?;
-    let (lines, wanted) = example.parts(rt.alloc())?;
+fn reports_faults_of_its_reader_and_writer(rt: HostRuntime) {
+    let example = example_of(&rt, rt.alloc(), FIRST_EXAMPLE);
+    let (lines, wanted) = example.parts(&rt, rt.alloc());
     check_failing(&rt, rt.alloc(), "", 1, "");
     check_failing(&rt, rt.alloc(), lines.as_str(), 3, wanted.as_str());
     check_failing(&rt, rt.alloc(), "# half a line", 1, "");
     check_full(&rt, rt.alloc(), lines.as_str(), 0, 1);
     check_full(&rt, rt.alloc(), lines.as_str(), 1, 2);
-    Ok(())
 }
 
 /// A script that ends so gives this status, and this error output.
@@ -471,66 +459,67 @@ fn check_end(
     ended: Result<(), ScriptFault>,
     status: u8,
     errors: &str,
-) -> Result<(), Fail> {
+) {
     let captured = Captured::new(alloc);
     assert!(rt; end_script(&captured, ended) == ExitCode::from(status));
-    assert_eq!(rt; captured.errors.try_borrow()?.as_str(), errors);
-    Ok(())
+    assert_eq!(rt;
+        captured.errors.try_borrow().expect(rt, "a text").as_str(),
+        errors
+    );
 }
 
 #[test]
-fn ends_with_a_status(rt: HostRuntime) -> Result<(), Fail> {
+fn ends_with_a_status(rt: HostRuntime) {
     let fault = ScriptFault {
         line: 7,
         what: LineFault::BadHex,
     };
-    check_end(&rt, rt.alloc(), Ok(()), 0, "")?;
+    check_end(&rt, rt.alloc(), Ok(()), 0, "");
     check_end(
         &rt,
         rt.alloc(),
         Err(fault),
         1,
         "dnsfleet: line 7: bad hex\n",
-    )
+    );
 }
 
 /// The report of a fault in line 7.
-fn check_name(rt: &impl Abort, alloc: Global, what: LineFault, text: &str) -> Result<(), Fail> {
+fn check_name(rt: &impl Abort, alloc: Global, what: LineFault, text: &str) {
     let fault = ScriptFault { line: 7, what };
-    let shown = format!(in alloc; "{fault}")?;
+    let shown = format!(in alloc; "{fault}").expect(rt, "memory");
     assert_eq!(rt; shown.as_str(), text);
-    Ok(())
 }
 
 #[test]
-fn names_each_fault_of_words(rt: HostRuntime) -> Result<(), Fail> {
+fn names_each_fault_of_words(rt: HostRuntime) {
     let alloc = rt.alloc();
-    check_name(&rt, alloc, LineFault::NotAscii, "line 7: not ASCII")?;
-    check_name(&rt, alloc, LineFault::UnknownEvent, "line 7: unknown event")?;
+    check_name(&rt, alloc, LineFault::NotAscii, "line 7: not ASCII");
+    check_name(&rt, alloc, LineFault::UnknownEvent, "line 7: unknown event");
     check_name(
         &rt,
         alloc,
         LineFault::WordCount,
         "line 7: wrong number of words",
-    )?;
-    check_name(&rt, alloc, LineFault::BadNumber, "line 7: bad number")?;
-    check_name(&rt, alloc, LineFault::BadAddress, "line 7: bad address")?;
-    check_name(&rt, alloc, LineFault::BadHex, "line 7: bad hex")
+    );
+    check_name(&rt, alloc, LineFault::BadNumber, "line 7: bad number");
+    check_name(&rt, alloc, LineFault::BadAddress, "line 7: bad address");
+    check_name(&rt, alloc, LineFault::BadHex, "line 7: bad hex");
 }
 
 #[test]
-fn names_each_other_fault(rt: HostRuntime) -> Result<(), Fail> {
+fn names_each_other_fault(rt: HostRuntime) {
     let alloc = rt.alloc();
-    check_name(&rt, alloc, LineFault::Read, "line 7: read")?;
-    check_name(&rt, alloc, LineFault::LineTooLong, "line 7: line too long")?;
+    check_name(&rt, alloc, LineFault::Read, "line 7: read");
+    check_name(&rt, alloc, LineFault::LineTooLong, "line 7: line too long");
     check_name(
         &rt,
         alloc,
         LineFault::SitesNotFirst,
         "line 7: sites must come first",
-    )?;
-    check_name(&rt, alloc, LineFault::NoSuchSite, "line 7: no such site")?;
-    check_name(&rt, alloc, LineFault::NoSuchFrame, "line 7: no such frame")?;
-    check_name(&rt, alloc, LineFault::OutOfMemory, "line 7: out of memory")?;
-    check_name(&rt, alloc, LineFault::Write, "line 7: write")
+    );
+    check_name(&rt, alloc, LineFault::NoSuchSite, "line 7: no such site");
+    check_name(&rt, alloc, LineFault::NoSuchFrame, "line 7: no such frame");
+    check_name(&rt, alloc, LineFault::OutOfMemory, "line 7: out of memory");
+    check_name(&rt, alloc, LineFault::Write, "line 7: write");
 }

@@ -5,7 +5,7 @@ use super::frames::FRAMES;
 use super::messages::add_message;
 use super::questions::QUESTIONS;
 use std::alloc::{AllocError, Global};
-use std::test::Fail;
+use std::process::Abort;
 
 /// A script with what it prints.
 #[derive(Clone, Copy)]
@@ -20,96 +20,92 @@ impl Example {
     /// The transcript, with a message in place of its name between `<` and `>`, with 460 times `61` in
     /// place of `{61*460}`, and without the lines that begin with `;`, which say what messages below
     /// them are.
-    pub fn spelled(&self, alloc: Global) -> Result<String, Fail> {
+    pub fn spelled(&self, rt: &impl Abort, alloc: Global) -> String {
         let mut text = String::new(alloc);
         for line in self.transcript.lines() {
             if !line.starts_with(';') {
-                add_spelled(&mut text, line)?;
-                text.push_str("\n")?;
+                add_spelled(rt, &mut text, line);
+                text.push_str("\n").expect(rt, "memory");
             }
         }
-        Ok(text)
+        text
     }
 
     /// The lines of the script, and what they print.
-    pub fn parts(&self, alloc: Global) -> Result<(String, String), Fail> {
-        parts_of(alloc, self.spelled(alloc)?.as_str())
+    pub fn parts(&self, rt: &impl Abort, alloc: Global) -> (String, String) {
+        parts_of(rt, alloc, self.spelled(rt, alloc).as_str())
     }
 }
 
 /// The lines of a script, and what they print, of its transcript.
-pub fn parts_of(alloc: Global, transcript: &str) -> Result<(String, String), Fail> {
+pub fn parts_of(rt: &impl Abort, alloc: Global, transcript: &str) -> (String, String) {
     let mut lines = String::new(alloc);
     let mut printed = String::new(alloc);
     for line in transcript.lines() {
         match line.strip_prefix("> ") {
-            Some(line) => writeln!(lines, "{line}")?,
-            None => writeln!(printed, "{line}")?,
+            Some(line) => writeln!(lines, "{line}").expect(rt, "memory"),
+            None => writeln!(printed, "{line}").expect(rt, "memory"),
         }
     }
-    Ok((lines, printed))
+    (lines, printed)
 }
 
 /// Adds a line, each message and repetition in it written out.
-fn add_spelled(text: &mut String, line: &str) -> Result<(), Fail> {
+fn add_spelled(rt: &impl Abort, text: &mut String, line: &str) {
     let mut pieces = line.split('<');
-    add_repeats(text, pieces.next().unwrap_or(""))?;
+    add_repeats(rt, text, pieces.next().unwrap_or(""));
     for piece in pieces {
-        let (name, rest) = piece.split_once('>').ok_or("no name")?;
-        add_message(text, name)?;
-        add_repeats(text, rest)?;
+        let (name, rest) = piece.split_once('>').expect(rt, "a name");
+        add_message(rt, text, name);
+        add_repeats(rt, text, rest);
     }
-    Ok(())
 }
 
 /// Adds a text, each repetition in it written out.
-pub fn add_repeats(text: &mut String, line: &str) -> Result<(), Fail> {
+pub fn add_repeats(rt: &impl Abort, text: &mut String, line: &str) {
     for piece in line.split('{') {
         match piece.split_once('}') {
             Some((repeated, rest)) => {
-                add_repeated(text, repeated)?;
-                text.push_str(rest)?;
+                add_repeated(rt, text, repeated);
+                text.push_str(rest).expect(rt, "memory");
             }
-            None => text.push_str(piece)?,
+            None => text.push_str(piece).expect(rt, "memory"),
         }
     }
-    Ok(())
 }
 
 /// Adds octets as often as is said.
-fn add_repeated(text: &mut String, repeated: &str) -> Result<(), Fail> {
-    let (octets, count) = repeated.split_once('*').ok_or("no count")?;
-    for _ in 0..count.parse::<u16>()? {
-        text.push_str(octets)?;
+fn add_repeated(rt: &impl Abort, text: &mut String, repeated: &str) {
+    let (octets, count) = repeated.split_once('*').expect(rt, "a count");
+    for _ in 0..count.parse::<u16>().expect(rt, "a number") {
+        text.push_str(octets).expect(rt, "memory");
     }
-    Ok(())
 }
 
 /// Adds the examples of a text.
-fn add_examples(all: &mut Vec<Example>, text: &'static str) -> Result<(), AllocError> {
+fn add_examples(rt: &impl Abort, all: &mut Vec<Example>, text: &'static str) {
     for part in text.split("= ") {
         if let Some((shows, transcript)) = part.split_once('\n') {
-            all.push(Example { shows, transcript })?;
+            all.push(Example { shows, transcript }).expect(rt, "memory");
         }
     }
-    Ok(())
 }
 
 /// All examples.
-pub fn all_examples(alloc: Global) -> Result<Vec<Example>, AllocError> {
+pub fn all_examples(rt: &impl Abort, alloc: Global) -> Vec<Example> {
     let mut all = Vec::new(alloc);
-    add_examples(&mut all, QUESTIONS)?;
-    add_examples(&mut all, DATAGRAMS)?;
-    add_examples(&mut all, FRAMES)?;
-    Ok(all)
+    add_examples(rt, &mut all, QUESTIONS);
+    add_examples(rt, &mut all, DATAGRAMS);
+    add_examples(rt, &mut all, FRAMES);
+    all
 }
 
 /// The example that shows this.
-pub fn example_of(alloc: Global, shows: &str) -> Result<Example, Fail> {
-    for example in &all_examples(alloc)? {
+pub fn example_of(rt: &impl Abort, alloc: Global, shows: &str) -> Example {
+    for example in &all_examples(rt, alloc) {
         if example.shows == shows {
-            return Ok(*example);
+            return *example;
         }
     }
-    Err("no such example".into())
+    panic!(rt; "no such example")
 }

@@ -13,7 +13,6 @@ use std::cell::Cell;
 use std::io::ErrorKind;
 use std::net::{Ipv4Addr, SocketAddrV4, UdpSocket};
 use std::process::Abort;
-use std::test::Fail;
 use std::time::Duration;
 use std::{io, time};
 
@@ -24,24 +23,28 @@ const RECORD: &[u8] = b"\xc0\x0c\x00\x01\x00\x01\x00\x00\x01\x2c\x00\x04\xc0\x00
 const SECONDS: usize = 49;
 
 /// A socket of a test, which waits for a second at most, and where it is.
-pub fn open(rt: &HostRuntime) -> Result<(UdpSocket, Addr), Fail> {
-    let socket = UdpSocket::bind(rt, SocketAddrV4::new(Ipv4Addr::LOCALHOST, 0))?;
-    socket.set_read_timeout(Some(Duration::from_secs(1)))?;
-    let port = socket.local_addr()?.port();
-    Ok((socket, loopback(port)))
+pub fn open(stop: &impl Abort, rt: &HostRuntime) -> (UdpSocket, Addr) {
+    let free = SocketAddrV4::new(Ipv4Addr::LOCALHOST, 0);
+    let socket = UdpSocket::bind(rt, free).expect(stop, "a socket");
+    socket
+        .set_read_timeout(Some(Duration::from_secs(1)))
+        .expect(stop, "a setting");
+    let port = socket.local_addr().expect(stop, "an address").port();
+    (socket, loopback(port))
 }
 
 /// Sends octets to a port of this machine.
-pub fn send(socket: &UdpSocket, to: Addr, bytes: &[u8]) -> Result<(), Fail> {
-    socket.send_to(bytes, SocketAddrV4::new(Ipv4Addr::LOCALHOST, to.port))?;
-    Ok(())
+pub fn send(rt: &impl Abort, socket: &UdpSocket, to: Addr, bytes: &[u8]) {
+    socket
+        .send_to(bytes, SocketAddrV4::new(Ipv4Addr::LOCALHOST, to.port))
+        .expect(rt, "a send");
 }
 
 /// The next datagram of a socket.
-pub fn receive(alloc: Global, socket: &UdpSocket) -> Result<Vec<u8>, Fail> {
+pub fn receive(rt: &impl Abort, alloc: Global, socket: &UdpSocket) -> Vec<u8> {
     let mut buffer = [0u8; 600];
-    let (len, _) = socket.recv_from(&mut buffer)?;
-    Ok(Vec::from_slice(alloc, &buffer[..len])?)
+    let (len, _) = socket.recv_from(&mut buffer).expect(rt, "a datagram");
+    Vec::from_slice(alloc, &buffer[..len]).expect(rt, "memory")
 }
 
 /// A site on a socket.
@@ -54,15 +57,19 @@ struct Served<'a> {
 impl<'a> Served<'a> {
     /// A site with one upstream and one peer.
     fn new(
+        rt: &impl Abort,
         alloc: Global,
         port: UdpPort<'a, HostRuntime>,
         upstream: Addr,
         peer: Addr,
-    ) -> Result<Served<'a>, Fail> {
-        let upstreams = Vec::from_slice(alloc, &[upstream])?;
-        let peers = Vec::from_slice(alloc, &[peer])?;
-        let site = Site::new(alloc, Config::new(upstreams, peers)?);
-        Ok(Served { port, site })
+    ) -> Served<'a> {
+        let upstreams = Vec::from_slice(alloc, &[upstream]).expect(rt, "memory");
+        let peers = Vec::from_slice(alloc, &[peer]).expect(rt, "memory");
+        let site = Site::new(
+            alloc,
+            Config::new(upstreams, peers).expect(rt, "a configuration"),
+        );
+        Served { port, site }
     }
 
     /// Serves two turns: the datagram that is there, and none. So many packets are sent.
@@ -85,33 +92,39 @@ impl<'a> Served<'a> {
 }
 
 /// Two sites that are each other's peers.
-fn open_sites(rt: &HostRuntime, upstream: Addr) -> Result<(Served<'_>, Served<'_>), Fail> {
-    let first = UdpPort::bind(rt, rt, rt.alloc(), loopback(0))?;
-    let second = UdpPort::bind(rt, rt, rt.alloc(), loopback(0))?;
+fn open_sites<'a>(
+    stop: &impl Abort,
+    rt: &'a HostRuntime,
+    upstream: Addr,
+) -> (Served<'a>, Served<'a>) {
+    let first = UdpPort::bind(rt, rt, rt.alloc(), loopback(0)).expect(stop, "a port");
+    let second = UdpPort::bind(rt, rt, rt.alloc(), loopback(0)).expect(stop, "a port");
     let (here, there) = (first.address(), second.address());
-    let first = Served::new(rt.alloc(), first, upstream, there)?;
-    let second = Served::new(rt.alloc(), second, upstream, here)?;
-    Ok((first, second))
+    let first = Served::new(stop, rt.alloc(), first, upstream, there);
+    let second = Served::new(stop, rt.alloc(), second, upstream, here);
+    (first, second)
 }
 
 /// The reply to a query: the same header with the bits of a reply and one record, the same
 /// question, and the record.
-fn reply_to(alloc: Global, query: &[u8]) -> Result<Vec<u8>, Fail> {
-    let (id, rest) = query.split_at_checked(2).ok_or("no id")?;
-    let (_, question) = rest.split_at_checked(10).ok_or("no header")?;
-    let mut reply = Vec::from_slice(alloc, id)?;
-    reply.extend_from_slice(b"\x81\x80\x00\x01\x00\x01\x00\x00\x00\x00")?;
-    reply.extend_from_slice(question)?;
-    reply.extend_from_slice(RECORD)?;
-    Ok(reply)
+fn reply_to(rt: &impl Abort, alloc: Global, query: &[u8]) -> Vec<u8> {
+    let (id, rest) = query.split_at_checked(2).expect(rt, "an id");
+    let (_, question) = rest.split_at_checked(10).expect(rt, "a header");
+    let mut reply = Vec::from_slice(alloc, id).expect(rt, "memory");
+    reply
+        .extend_from_slice(b"\x81\x80\x00\x01\x00\x01\x00\x00\x00\x00")
+        .expect(rt, "memory");
+    reply.extend_from_slice(question).expect(rt, "memory");
+    reply.extend_from_slice(RECORD).expect(rt, "memory");
+    reply
 }
 
 /// The upstream answers the one query that was sent to it.
-fn answer_query(rt: &impl Abort, alloc: Global, stub: &UdpSocket, site: Addr) -> Result<(), Fail> {
-    let query = receive(alloc, stub)?;
+fn answer_query(rt: &impl Abort, alloc: Global, stub: &UdpSocket, site: Addr) {
+    let query = receive(rt, alloc, stub);
     assert_eq!(rt; query.get(2..), QUESTION.get(2..));
-    let reply = reply_to(alloc, &query)?;
-    send(stub, site, &reply)
+    let reply = reply_to(rt, alloc, &query);
+    send(rt, stub, site, &reply);
 }
 
 /// A site learns the answer from its upstream, and sends it to its peer.
@@ -121,13 +134,12 @@ fn check_first<R: Abort + time::Clock>(
     client: &UdpSocket,
     stub: &UdpSocket,
     first: &mut Served<'_>,
-) -> Result<(), Fail> {
-    send(client, first.port.address(), QUESTION)?;
+) {
+    send(rt, client, first.port.address(), QUESTION);
     first.serve(rt, 1);
-    answer_query(rt, alloc, stub, first.port.address())?;
+    answer_query(rt, alloc, stub, first.port.address());
     first.serve(rt, 2);
-    assert_eq!(rt; receive(alloc, client)?.as_slice(), RELAY);
-    Ok(())
+    assert_eq!(rt; receive(rt, alloc, client).as_slice(), RELAY);
 }
 
 /// An answer has the record, with a TTL that is hardly less.
@@ -138,11 +150,10 @@ fn check_answer(rt: &impl Abort, answer: &mut [u8]) {
 }
 
 /// Nothing more comes to a socket.
-fn check_silence(rt: &impl Abort, stub: &UdpSocket) -> Result<(), Fail> {
+fn check_silence(rt: &impl Abort, stub: &UdpSocket) {
     let mut buffer = [0u8; 600];
-    stub.set_nonblocking(true)?;
+    stub.set_nonblocking(true).expect(rt, "a setting");
     assert!(rt; stub.recv_from(&mut buffer).is_err());
-    Ok(())
 }
 
 /// The peer takes in what it was sent, and answers from it; the upstream is sent nothing more.
@@ -152,12 +163,12 @@ fn check_second<R: Abort + time::Clock>(
     client: &UdpSocket,
     stub: &UdpSocket,
     second: &mut Served<'_>,
-) -> Result<(), Fail> {
+) {
     second.serve(rt, 0);
-    send(client, second.port.address(), QUESTION)?;
+    send(rt, client, second.port.address(), QUESTION);
     second.serve(rt, 1);
-    check_answer(rt, receive(alloc, client)?.as_mut_slice());
-    check_silence(rt, stub)
+    check_answer(rt, receive(rt, alloc, client).as_mut_slice());
+    check_silence(rt, stub);
 }
 
 /// One site after the other.
@@ -167,17 +178,17 @@ fn check_sites<R: Abort + time::Clock>(
     stub: &UdpSocket,
     client: &UdpSocket,
     sites: &mut (Served<'_>, Served<'_>),
-) -> Result<(), Fail> {
-    check_first(rt, alloc, client, stub, &mut sites.0)?;
-    check_second(rt, alloc, client, stub, &mut sites.1)
+) {
+    check_first(rt, alloc, client, stub, &mut sites.0);
+    check_second(rt, alloc, client, stub, &mut sites.1);
 }
 
 #[test]
-fn serves_what_a_peer_learnt(rt: HostRuntime) -> Result<(), Fail> {
-    let (client, _) = open(&rt)?;
-    let (stub, upstream) = open(&rt)?;
-    let mut sites = open_sites(&rt, upstream)?;
-    check_sites(&rt, rt.alloc(), &stub, &client, &mut sites)
+fn serves_what_a_peer_learnt(rt: HostRuntime) {
+    let (client, _) = open(&rt, &rt);
+    let (stub, upstream) = open(&rt, &rt);
+    let mut sites = open_sites(&rt, &rt, upstream);
+    check_sites(&rt, rt.alloc(), &stub, &client, &mut sites);
 }
 
 /// The last octet of the TTL in the answer to the question.
@@ -201,7 +212,7 @@ fn set_seconds(answer: &mut [u8]) {
 }
 
 /// Two sends of a port fail and are counted; a receive that finds nothing is not.
-fn check_failures(rt: &impl Abort, port: &mut UdpPort<'_, HostRuntime>) -> Result<(), Fail> {
+fn check_failures(rt: &impl Abort, port: &mut UdpPort<'_, HostRuntime>) {
     assert!(rt; port.send(loopback(0), b"x").is_err());
     let elsewhere = Addr {
         host: 0x0a00_0001,
@@ -212,7 +223,6 @@ fn check_failures(rt: &impl Abort, port: &mut UdpPort<'_, HostRuntime>) -> Resul
     let mut buffer = [0u8; 8];
     assert!(rt; matches!(port.recv(&mut buffer), Ok(None)));
     assert_eq!(rt; port.failures(), 2);
-    Ok(())
 }
 
 /// A port receives the first octets of a datagram, at most eight.
@@ -222,16 +232,15 @@ fn check_arrival(
     client: &UdpSocket,
     from: Addr,
     bytes: &[u8],
-) -> Result<(), Fail> {
+) {
     let mut buffer = [0u8; 8];
     let len = bytes.len().min(8);
-    send(client, port.address(), bytes)?;
+    send(rt, client, port.address(), bytes);
     match port.recv(&mut buffer) {
         Ok(Some(got)) => assert_eq!(rt; got, (from, len)),
         _ => assert!(rt; false, "{len}"),
     }
     assert_eq!(rt; buffer.get(..len), bytes.get(..len));
-    Ok(())
 }
 
 /// A port receives datagrams of a client, and sends one to it.
@@ -241,35 +250,34 @@ fn check_client(
     port: &mut UdpPort<'_, HostRuntime>,
     client: &UdpSocket,
     from: Addr,
-) -> Result<(), Fail> {
-    check_arrival(rt, port, client, from, b"")?;
-    check_arrival(rt, port, client, from, b"12345678")?;
-    check_arrival(rt, port, client, from, b"123456789")?;
-    port.send(from, b"abc")?;
-    assert_eq!(rt; receive(alloc, client)?.as_slice(), b"abc".as_slice());
+) {
+    check_arrival(rt, port, client, from, b"");
+    check_arrival(rt, port, client, from, b"12345678");
+    check_arrival(rt, port, client, from, b"123456789");
+    port.send(from, b"abc").expect(rt, "a send");
+    assert_eq!(rt; receive(rt, alloc, client).as_slice(), b"abc".as_slice());
     assert_eq!(rt; port.failures(), 2);
-    Ok(())
 }
 
 #[test]
-fn counts_what_fails(rt: HostRuntime) -> Result<(), Fail> {
-    let mut port = UdpPort::bind(&rt, &rt, rt.alloc(), loopback(0))?;
+fn counts_what_fails(rt: HostRuntime) {
+    let mut port = UdpPort::bind(&rt, &rt, rt.alloc(), loopback(0)).expect(&rt, "a port");
     assert!(rt; UdpPort::bind(&rt, &rt, rt.alloc(), port.address()).is_err());
-    check_failures(&rt, &mut port)?;
-    let (client, from) = open(&rt)?;
-    check_client(&rt, rt.alloc(), &mut port, &client, from)
+    check_failures(&rt, &mut port);
+    let (client, from) = open(&rt, &rt);
+    check_client(&rt, rt.alloc(), &mut port, &client, from);
 }
 
 /// The length of the longest frame.
 const LONGEST: usize = 16384;
 
 /// As many octets as the longest frame has.
-fn longest_frame(alloc: Global) -> Result<Vec<u8>, Fail> {
+fn longest_frame(rt: &impl Abort, alloc: Global) -> Vec<u8> {
     let mut bytes = Vec::new(alloc);
     for at in 0..LONGEST {
-        bytes.push((at % 251) as u8)?;
+        bytes.push((at % 251) as u8).expect(rt, "memory");
     }
-    Ok(bytes)
+    bytes
 }
 
 /// A port receives the longest frame.
@@ -295,12 +303,11 @@ fn check_sent(
     to: Addr,
     bytes: &[u8],
     buffer: &mut [u8],
-) -> Result<(), Fail> {
-    port.send(to, bytes)?;
+) {
+    port.send(to, bytes).expect(rt, "a send");
     port.finish();
-    let (len, _) = client.recv_from(buffer)?;
+    let (len, _) = client.recv_from(buffer).expect(rt, "a datagram");
     assert_eq!(rt; buffer.get(..len), bytes.get(..LONGEST));
-    Ok(())
 }
 
 /// A port carries the longest frame, from a client and to it.
@@ -310,20 +317,20 @@ fn check_longest(
     port: &mut UdpPort<'_, HostRuntime>,
     client: &UdpSocket,
     from: Addr,
-) -> Result<(), Fail> {
-    let bytes = longest_frame(alloc)?;
-    let mut buffer = vec![in alloc; 0u8; LONGEST + 1]?;
-    send(client, port.address(), &bytes)?;
+) {
+    let bytes = longest_frame(rt, alloc);
+    let mut buffer = vec![in alloc; 0u8; LONGEST + 1].expect(rt, "memory");
+    send(rt, client, port.address(), &bytes);
     check_received(rt, port, from, &bytes, &mut buffer);
     buffer.fill(0);
-    check_sent(rt, port, client, from, &bytes, &mut buffer)
+    check_sent(rt, port, client, from, &bytes, &mut buffer);
 }
 
 #[test]
-fn carries_the_longest_frame(rt: HostRuntime) -> Result<(), Fail> {
-    let mut port = UdpPort::bind(&rt, &rt, rt.alloc(), loopback(0))?;
-    let (client, from) = open(&rt)?;
-    check_longest(&rt, rt.alloc(), &mut port, &client, from)
+fn carries_the_longest_frame(rt: HostRuntime) {
+    let mut port = UdpPort::bind(&rt, &rt, rt.alloc(), loopback(0)).expect(&rt, "a port");
+    let (client, from) = open(&rt, &rt);
+    check_longest(&rt, rt.alloc(), &mut port, &client, from);
 }
 
 /// A clock that is set by hand; `None` is one that can't be read.

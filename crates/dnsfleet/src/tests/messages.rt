@@ -3,7 +3,7 @@
 
 use crate::tests::examples::add_repeats;
 use std::alloc::Global;
-use std::test::Fail;
+use std::process::Abort;
 
 /// id 7 rd: example.com. IN A
 pub const QUESTION: &[u8] =
@@ -111,38 +111,38 @@ first-newer 4447010001030100000000000000c80000000a076578616d706c6503636f6d000001
 ";
 
 /// The digits of a message of the table.
-pub fn digits_of(name: &str) -> Result<&'static str, Fail> {
+pub fn digits_of(rt: &impl Abort, name: &str) -> &'static str {
     for line in MESSAGES.lines() {
         if let Some((other, digits)) = line.split_once(' ') {
             if other == name {
-                return Ok(digits);
+                return digits;
             }
         }
     }
-    Err("no such message".into())
+    panic!(rt; "no such message")
 }
 
 /// Adds octets in hexadecimal digits.
-fn add_octets(text: &mut String, octets: &[u8]) -> Result<(), Fail> {
-    let digits = hex::encode(*text.allocator(), octets)?;
-    Ok(text.push_str(digits.as_str())?)
+fn add_octets(rt: &impl Abort, text: &mut String, octets: &[u8]) {
+    let digits = hex::encode(*text.allocator(), octets).expect(rt, "memory");
+    text.push_str(digits.as_str()).expect(rt, "memory");
 }
 
 /// Adds the digits of the message of a name.
-pub fn add_message(text: &mut String, name: &str) -> Result<(), Fail> {
+pub fn add_message(rt: &impl Abort, text: &mut String, name: &str) {
     match name {
-        "question" => add_octets(text, QUESTION),
-        "query" => add_octets(text, QUERY),
-        "failure" => add_octets(text, FAILURE),
-        "relay" => add_octets(text, RELAY),
-        "aliases-reply" => add_octets(text, ALIASES_REPLY),
-        name => add_repeats(text, digits_of(name)?),
+        "question" => add_octets(rt, text, QUESTION),
+        "query" => add_octets(rt, text, QUERY),
+        "failure" => add_octets(rt, text, FAILURE),
+        "relay" => add_octets(rt, text, RELAY),
+        "aliases-reply" => add_octets(rt, text, ALIASES_REPLY),
+        name => add_repeats(rt, text, digits_of(rt, name)),
     }
 }
 
 /// The digits of the message of a name.
-pub fn message_of(alloc: Global, name: &str) -> Result<String, Fail> {
+pub fn message_of(rt: &impl Abort, alloc: Global, name: &str) -> String {
     let mut text = String::new(alloc);
-    add_message(&mut text, name)?;
-    Ok(text)
+    add_message(rt, &mut text, name);
+    text
 }

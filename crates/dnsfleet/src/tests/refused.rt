@@ -20,7 +20,6 @@ use lines::{
 };
 use std::alloc::{Allocator, Global};
 use std::process::Abort;
-use std::test::Fail;
 
 /// More allocations than any of the examples makes.
 const MANY: u64 = 65536;
@@ -80,14 +79,13 @@ fn begin_refused<A: Allocator + Copy>(
     fleet: &mut Fleet<A>,
     refusing: &Refusing<Global>,
     first: &str,
-) -> Result<(), Fail> {
+) {
     let begun = begin(fleet, first);
     assert_eq!(rt; begun.is_err(), refusing.has_refused());
     if let Err(what) = begun {
         assert_eq!(rt; what, LineFault::OutOfMemory);
-        begin(fleet, first)?;
+        begin(fleet, first).expect(rt, "sites");
     }
-    Ok(())
 }
 
 /// Checks that two fleets hold the same, and keep the same frames.
@@ -96,12 +94,11 @@ fn check_same<A: Allocator + Copy>(
     fleet: &mut Fleet<A>,
     other: &mut Fleet<A>,
     shows: &str,
-) -> Result<(), Fail> {
-    let world = fleet.world()?;
-    let other = other.world()?;
+) {
+    let world = fleet.world().expect(rt, "memory");
+    let other = other.world().expect(rt, "memory");
     assert!(rt; has_same_sites(world, other), "{shows}");
     assert!(rt; keeps_same_frames(world, other), "{shows}");
-    Ok(())
 }
 
 /// A fleet that did lines with ample memory, and the first observations of the line behind them, a
@@ -114,15 +111,22 @@ struct Part<A: Allocator> {
 
 /// What a fleet is like where the last of these lines ran out of memory after these observations.
 fn part_after<A: Allocator + Copy>(
+    rt: &impl Abort,
     alloc: A,
     lines: &[Line<'_>],
     taken: usize,
-) -> Result<Part<A>, Fail> {
-    let first = lines.first().ok_or("no line")?.text;
-    let (line, others) = lines.split_last().ok_or("no line")?;
-    let mut fleet = fleet_after(alloc, first, others)?;
-    run_part(fleet.world()?, alloc, line.text, taken)?;
-    Ok(Part { taken, fleet })
+) -> Part<A> {
+    let first = lines.first().expect(rt, "a line").text;
+    let (line, others) = lines.split_last().expect(rt, "a line");
+    let mut fleet = fleet_after(rt, alloc, first, others);
+    run_part(
+        rt,
+        fleet.world().expect(rt, "memory"),
+        alloc,
+        line.text,
+        taken,
+    );
+    Part { taken, fleet }
 }
 
 /// Checks a fleet after the last of these lines, which ran out of memory after these observations.
@@ -134,17 +138,17 @@ fn check_part<A: Allocator + Copy>(
     lines: &[Line<'_>],
     taken: usize,
     known: &mut Option<Part<A>>,
-) -> Result<(), Fail> {
+) {
     let is_known = known.as_ref().is_some_and(|part| part.taken == taken);
     if !is_known {
-        *known = Some(part_after(ample, lines, taken)?);
+        *known = Some(part_after(rt, ample, lines, taken));
     }
-    let part = known.as_mut().ok_or("no part")?;
+    let part = known.as_mut().expect(rt, "a part");
     check_same(
         rt,
         fleet,
         &mut part.fleet,
-        lines.last().ok_or("no line")?.text,
+        lines.last().expect(rt, "a line").text,
     )
 }
 
@@ -154,27 +158,20 @@ fn run_again<A: Allocator + Copy>(
     ample: A,
     fleet: &mut Fleet<A>,
     line: &Line<'_>,
-) -> Result<(), Fail> {
+) {
     let shows = line.text;
-    match run_line(fleet.world()?, ample, shows)? {
+    match run_line(rt, fleet.world().expect(rt, "memory"), ample, shows) {
         Ended::Done(text) => assert_eq!(rt; text.as_str(), line.prints, "{shows}"),
-        _ => return Err("no memory twice".into()),
+        _ => panic!(rt; "no memory twice"),
     }
-    Ok(())
 }
 
 /// Checks what a line printed whose frames were not kept: all else of what it prints.
-fn check_text<A: Allocator + Copy>(
-    rt: &impl Abort,
-    alloc: A,
-    line: &Line<'_>,
-    text: &str,
-) -> Result<(), Fail> {
-    let shown = without_frames(alloc, text)?;
-    let wanted = without_frames(alloc, line.prints)?;
+fn check_text<A: Allocator + Copy>(rt: &impl Abort, alloc: A, line: &Line<'_>, text: &str) {
+    let shown = without_frames(rt, alloc, text);
+    let wanted = without_frames(rt, alloc, line.prints);
     let shows = line.text;
     assert_eq!(rt; shown.as_str(), wanted.as_str(), "{shows}");
-    Ok(())
 }
 
 /// Checks a fleet after a line that was done, and whose frames were not kept.
@@ -185,16 +182,14 @@ fn check_lost<A: Allocator + Copy>(
     before: &mut Fleet<A>,
     line: &Line<'_>,
     text: &str,
-) -> Result<(), Fail> {
-    check_text(rt, alloc, line, text)?;
+) {
+    check_text(rt, alloc, line, text);
     let shows = line.text;
-    assert!(rt;
-        keeps_same_frames(fleet.world()?, before.world()?),
-        "{shows}"
-    );
-    run_line(before.world()?, alloc, shows)?;
-    assert!(rt; has_same_sites(fleet.world()?, before.world()?), "{shows}");
-    Ok(())
+    let world = fleet.world().expect(rt, "memory");
+    let before = before.world().expect(rt, "memory");
+    assert!(rt; keeps_same_frames(world, before), "{shows}");
+    run_line(rt, before, alloc, shows);
+    assert!(rt; has_same_sites(world, before), "{shows}");
 }
 
 /// Checks what became of the last of these lines on a fleet that did the others, and leaves the
@@ -208,24 +203,23 @@ fn check_last<A: Allocator + Copy>(
     ended: Ended<A>,
     known: &mut Option<Part<A>>,
     met: &mut Met,
-) -> Result<(), Fail> {
-    let first = lines.first().ok_or("no line")?.text;
-    let (line, others) = lines.split_last().ok_or("no line")?;
+) {
+    let first = lines.first().expect(rt, "a line").text;
+    let (line, others) = lines.split_last().expect(rt, "a line");
     match ended {
         Ended::Done(text) => assert_eq!(rt; text.as_str(), line.prints),
         Ended::Short(taken) => {
             met.count(taken);
-            check_part(rt, ample, fleet, lines, taken, known)?;
-            run_again(rt, ample, fleet, line)?;
+            check_part(rt, ample, fleet, lines, taken, known);
+            run_again(rt, ample, fleet, line);
         }
         Ended::Lost(text) => {
             met.count_lost();
-            let mut before = fleet_after(ample, first, others)?;
-            check_lost(rt, ample, fleet, &mut before, line, text.as_str())?;
-            *fleet = fleet_after(alloc, first, lines)?;
+            let mut before = fleet_after(rt, ample, first, others);
+            check_lost(rt, ample, fleet, &mut before, line, text.as_str());
+            *fleet = fleet_after(rt, alloc, first, lines);
         }
     }
-    Ok(())
 }
 
 /// Does a line on a fleet whose allocations may be refused.
@@ -235,11 +229,11 @@ fn run_refused<A: Allocator + Copy>(
     refusing: &Refusing<Global>,
     fleet: &mut Fleet<A>,
     line: &Line<'_>,
-) -> Result<Ended<A>, Fail> {
-    let ended = run_line(fleet.world()?, ample, line.text)?;
+) -> Ended<A> {
+    let ended = run_line(rt, fleet.world().expect(rt, "memory"), ample, line.text);
     let is_done = matches!(&ended, Ended::Done(_));
     assert_eq!(rt; is_done, !refusing.has_refused());
-    Ok(ended)
+    ended
 }
 
 /// Does lines on a new fleet, as `run_lines` says.
@@ -253,20 +247,20 @@ fn run_on<A: Allocator + Copy>(
     call: u64,
     parts: &mut [Option<Part<A>>],
     met: &mut Met,
-) -> Result<bool, Fail> {
-    let first = lines.first().ok_or("no line")?.text;
+) -> bool {
+    let first = lines.first().expect(rt, "a line").text;
     refusing.refuse(call);
-    begin_refused(rt, fleet, refusing, first)?;
+    begin_refused(rt, fleet, refusing, first);
     let mut has_refused = refusing.has_refused();
     for place in 0..lines.len() {
         refusing.refuse(call);
-        let ended = run_refused(rt, ample, refusing, fleet, &lines[place])?;
+        let ended = run_refused(rt, ample, refusing, fleet, &lines[place]);
         has_refused = has_refused || refusing.has_refused();
         let done = &lines[..=place];
-        let known = parts.get_mut(place).ok_or("no such line")?;
-        check_last(rt, ample, alloc, fleet, done, ended, known, met)?;
+        let known = parts.get_mut(place).expect(rt, "a line");
+        check_last(rt, ample, alloc, fleet, done, ended, known, met);
     }
-    Ok(has_refused)
+    has_refused
 }
 
 /// Does lines with the call of this number refused at each, where it makes as many, and says
@@ -280,7 +274,7 @@ fn run_lines<A: Allocator + Copy>(
     call: u64,
     parts: &mut [Option<Part<A>>],
     met: &mut Met,
-) -> Result<bool, Fail> {
+) -> bool {
     let mut fleet = Fleet::new(alloc);
     run_on(
         rt, ample, alloc, refusing, &mut fleet, lines, call, parts, met,
@@ -296,81 +290,69 @@ fn refuse_lines<A: Allocator + Copy>(
     refusing: &Refusing<Global>,
     lines: &[Line<'_>],
     met: &mut Met,
-) -> Result<(), Fail> {
+) {
     let mut parts = Vec::new(ample);
     for _ in lines {
-        parts.push(None)?;
+        parts.push(None).expect(rt, "memory");
     }
     for call in 1..MANY {
-        if !run_lines(rt, ample, alloc, refusing, lines, call, &mut parts, met)? {
-            return Ok(());
+        if !run_lines(rt, ample, alloc, refusing, lines, call, &mut parts, met) {
+            return;
         }
     }
-    Err("refused each time".into())
+    panic!(rt; "refused each time");
 }
 
 /// Does the lines of a transcript with each call of each line refused in turn.
-fn refuse_each(
-    rt: &impl Abort,
-    alloc: Global,
-    transcript: &str,
-    met: &mut Met,
-) -> Result<(), Fail> {
-    let lines = lines_of(alloc, transcript)?;
+fn refuse_each(rt: &impl Abort, alloc: Global, transcript: &str, met: &mut Met) {
+    let lines = lines_of(rt, alloc, transcript);
     let ample = Refusing::after(alloc, 0);
     let refusing = Refusing::after(alloc, MANY);
     refuse_lines(rt, &ample, &refusing, &refusing, &lines, met)
 }
 
 /// A transcript that begins with other observations, one for each digit.
-fn after_others(alloc: Global, count: u8, transcript: &str) -> Result<String, Fail> {
-    let mut text = format!(in alloc; "> frame 0 100 44470100{count:02x}")?;
+fn after_others(rt: &impl Abort, alloc: Global, count: u8, transcript: &str) -> String {
+    let mut text = format!(in alloc; "> frame 0 100 44470100{count:02x}").expect(rt, "memory");
     for digit in 0..count {
         write!(
             text,
             "030100000000000000640000012c013{digit}00000100010004c0000201"
-        )?;
+        )
+        .expect(rt, "memory");
     }
-    write!(text, "\ntaken {count}\n{transcript}")?;
-    Ok(text)
+    write!(text, "\ntaken {count}\n{transcript}").expect(rt, "memory");
+    text
 }
 
 /// Does the lines of the example that shows this so.
-fn refuse_example(rt: &impl Abort, alloc: Global, shows: &str, met: &mut Met) -> Result<(), Fail> {
-    let transcript = example_of(alloc, shows)?.spelled(alloc)?;
+fn refuse_example(rt: &impl Abort, alloc: Global, shows: &str, met: &mut Met) {
+    let transcript = example_of(rt, alloc, shows).spelled(rt, alloc);
     refuse_each(rt, alloc, transcript.as_str(), met)
 }
 
 /// Does the lines of a transcript so, behind a number of other observations.
-fn refuse_after(
-    rt: &impl Abort,
-    alloc: Global,
-    count: u8,
-    transcript: &str,
-    met: &mut Met,
-) -> Result<(), Fail> {
-    let text = after_others(alloc, count, transcript)?;
+fn refuse_after(rt: &impl Abort, alloc: Global, count: u8, transcript: &str, met: &mut Met) {
+    let text = after_others(rt, alloc, count, transcript);
     refuse_each(rt, alloc, text.as_str(), met)
 }
 
 /// Does the lines of the denial so, behind one to four other observations.
-fn refuse_denials(rt: &impl Abort, alloc: Global, met: &mut Met) -> Result<(), Fail> {
-    let denial = example_of(alloc, DENIAL)?.spelled(alloc)?;
+fn refuse_denials(rt: &impl Abort, alloc: Global, met: &mut Met) {
+    let denial = example_of(rt, alloc, DENIAL).spelled(rt, alloc);
     for count in 1..5u8 {
-        refuse_after(rt, alloc, count, denial.as_str(), met)?;
+        refuse_after(rt, alloc, count, denial.as_str(), met);
     }
-    Ok(())
 }
 
 #[test]
-fn a_line_without_memory_is_done_again(rt: HostRuntime) -> Result<(), Fail> {
+fn a_line_without_memory_is_done_again(rt: HostRuntime) {
     let mut met = Met::new();
     for shows in REFUSED.lines() {
-        refuse_example(&rt, rt.alloc(), shows, &mut met)?;
+        refuse_example(&rt, rt.alloc(), shows, &mut met);
     }
-    refuse_denials(&rt, rt.alloc(), &mut met)?;
+    refuse_denials(&rt, rt.alloc(), &mut met);
     assert!(rt; met.short > 0, "{met:?}");
     assert!(rt; met.partly > 0, "{met:?}");
     assert!(rt; met.lost > 0, "{met:?}");
-    Ok(())
 }

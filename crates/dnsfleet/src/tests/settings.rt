@@ -4,7 +4,6 @@ use crate::{Settings, SettingsFault, read_settings};
 use fleet_pending::Addr;
 use std::alloc::Global;
 use std::process::Abort;
-use std::test::Fail;
 
 /// An address of 127.0.0.1.
 pub fn loopback(port: u16) -> Addr {
@@ -18,16 +17,21 @@ pub fn loopback(port: u16) -> Addr {
 const LEAST: &str = "listen = \"127.0.0.1:5400\"\nupstreams = [\"127.0.0.1:5301\"]\n";
 
 /// What is read of two texts, one after the other.
-fn read(alloc: Global, first: &str, second: &str) -> Result<Result<Settings, SettingsFault>, Fail> {
-    let text = format!(in alloc; "{first}{second}")?;
-    Ok(read_settings(alloc, text.as_bytes()))
+fn read(
+    rt: &impl Abort,
+    alloc: Global,
+    first: &str,
+    second: &str,
+) -> Result<Settings, SettingsFault> {
+    let text = format!(in alloc; "{first}{second}").expect(rt, "memory");
+    read_settings(alloc, text.as_bytes())
 }
 
 /// The report of two texts, one after the other, which are no configuration.
-fn fault_of(alloc: Global, first: &str, second: &str) -> Result<String, Fail> {
-    match read(alloc, first, second)? {
-        Ok(_) => Err("no fault".into()),
-        Err(fault) => Ok(format!(in alloc; "{fault}")?),
+fn fault_of(rt: &impl Abort, alloc: Global, first: &str, second: &str) -> String {
+    match read(rt, alloc, first, second) {
+        Ok(_) => panic!(rt; "no fault"),
+        Err(fault) => format!(in alloc; "{fault}").expect(rt, "memory"),
     }
 }
 
@@ -56,10 +60,10 @@ upstreams = [ # three
 \"127.0.0.1:2\", \"127.0.0.1:1\"]";
 
 #[test]
-fn reads_settings(rt: HostRuntime) -> Result<(), Fail> {
-    let settings = read(rt.alloc(), LEAST, "")??;
+fn reads_settings(rt: HostRuntime) {
+    let settings = read(&rt, rt.alloc(), LEAST, "").expect(&rt, "settings");
     check_settings(&rt, &settings, 5400, &[loopback(5301)], &[], 30);
-    let settings = read(rt.alloc(), FULL, "")??;
+    let settings = read(&rt, rt.alloc(), FULL, "").expect(&rt, "settings");
     let peers = [
         Addr {
             host: 0x0a00_0001,
@@ -72,7 +76,6 @@ fn reads_settings(rt: HostRuntime) -> Result<(), Fail> {
     ];
     let upstreams = [loopback(3), loopback(2), loopback(1)];
     check_settings(&rt, &settings, 1, &upstreams, &peers, 0);
-    Ok(())
 }
 
 /// Faults, each behind `! ` and above a text that has it alone, behind the two keys that are
@@ -200,35 +203,33 @@ upstreams = ['1.1.1.1:1', '1.1.1.1:2', '1.1.1.1:3', '1.1.1.1:4', '1.1.1.1:1']
 ";
 
 /// Reads each text of a table behind these keys, and says how many there are.
-fn check_faults(rt: &impl Abort, alloc: Global, keys: &str, table: &str) -> Result<u32, Fail> {
+fn check_faults(rt: &impl Abort, alloc: Global, keys: &str, table: &str) -> u32 {
     let mut count = 0u32;
     for row in table.split("! ") {
         if let Some((wanted, text)) = row.split_once('\n') {
-            let text = text.strip_suffix('\n').ok_or("no line feed")?;
-            let fault = fault_of(alloc, keys, text)?;
+            let text = text.strip_suffix('\n').expect(rt, "a line feed");
+            let fault = fault_of(rt, alloc, keys, text);
             assert_eq!(rt; fault.as_str(), wanted, "{text}");
             count = count.saturating_add(1);
         }
     }
-    Ok(count)
+    count
 }
 
 #[test]
-fn reports_the_first_fault(rt: HostRuntime) -> Result<(), Fail> {
-    assert_eq!(rt; check_faults(&rt, rt.alloc(), LEAST, ADDED)?, 16);
-    assert_eq!(rt; check_faults(&rt, rt.alloc(), "", WHOLE)?, 27);
-    Ok(())
+fn reports_the_first_fault(rt: HostRuntime) {
+    assert_eq!(rt; check_faults(&rt, rt.alloc(), LEAST, ADDED), 16);
+    assert_eq!(rt; check_faults(&rt, rt.alloc(), "", WHOLE), 27);
 }
 
 /// Adds a list of addresses with a number of ports.
-fn add_list(text: &mut String, key: &str, first: u16, count: u16) -> Result<(), Fail> {
-    write!(text, "{key} = [")?;
+fn add_list(rt: &impl Abort, text: &mut String, key: &str, first: u16, count: u16) {
+    write!(text, "{key} = [").expect(rt, "memory");
     for place in 0..count {
         let port = first.wrapping_add(place);
-        write!(text, "\"127.0.0.1:{port}\",")?;
+        write!(text, "\"127.0.0.1:{port}\",").expect(rt, "memory");
     }
-    text.push_str("]\n")?;
-    Ok(())
+    text.push_str("]\n").expect(rt, "memory");
 }
 
 /// Reads a configuration with these numbers of upstreams and peers. The ports of the peers begin at
@@ -239,24 +240,24 @@ fn check_lists(
     upstreams: u16,
     peers: u16,
     wanted: Option<SettingsFault>,
-) -> Result<(), Fail> {
+) {
     let mut text = String::new(alloc);
-    text.push_str("listen = \"127.0.0.1:10\"\n")?;
-    add_list(&mut text, "upstreams", 1, upstreams)?;
-    add_list(&mut text, "peers", 10, peers)?;
+    text.push_str("listen = \"127.0.0.1:10\"\n")
+        .expect(rt, "memory");
+    add_list(rt, &mut text, "upstreams", 1, upstreams);
+    add_list(rt, &mut text, "peers", 10, peers);
     let read = read_settings(alloc, text.as_bytes());
     assert_eq!(rt; read.err(), wanted, "{text}");
-    Ok(())
 }
 
 #[test]
-fn bounds_its_lists(rt: HostRuntime) -> Result<(), Fail> {
+fn bounds_its_lists(rt: HostRuntime) {
     let upstreams = Some(SettingsFault::TooManyUpstreams);
-    check_lists(&rt, rt.alloc(), 4, 16, None)?;
-    check_lists(&rt, rt.alloc(), 5, 16, upstreams)?;
-    check_lists(&rt, rt.alloc(), 5, 17, upstreams)?;
-    check_lists(&rt, rt.alloc(), 4, 17, Some(SettingsFault::TooManyPeers))?;
-    check_lists(&rt, rt.alloc(), 11, 1, upstreams)
+    check_lists(&rt, rt.alloc(), 4, 16, None);
+    check_lists(&rt, rt.alloc(), 5, 16, upstreams);
+    check_lists(&rt, rt.alloc(), 5, 17, upstreams);
+    check_lists(&rt, rt.alloc(), 4, 17, Some(SettingsFault::TooManyPeers));
+    check_lists(&rt, rt.alloc(), 11, 1, upstreams);
 }
 
 /// Reads a configuration of this number of octets, the last of them line feeds.
@@ -266,24 +267,22 @@ fn check_length(
     begin: &str,
     length: usize,
     wanted: Option<SettingsFault>,
-) -> Result<(), Fail> {
-    let mut octets = Vec::from_slice(alloc, begin.as_bytes())?;
+) {
+    let mut octets = Vec::from_slice(alloc, begin.as_bytes()).expect(rt, "memory");
     for _ in begin.len()..length {
-        octets.push(b'\n')?;
+        octets.push(b'\n').expect(rt, "memory");
     }
     let read = read_settings(alloc, &octets);
     assert_eq!(rt; read.err(), wanted, "{length}");
-    Ok(())
 }
 
 #[test]
-fn bounds_its_length(rt: HostRuntime) -> Result<(), Fail> {
+fn bounds_its_length(rt: HostRuntime) {
     let long = Some(SettingsFault::TooLong);
-    check_length(&rt, rt.alloc(), LEAST, 65536, None)?;
-    check_length(&rt, rt.alloc(), LEAST, 65537, long)?;
-    check_length(&rt, rt.alloc(), "=", 65536, Some(SettingsFault::NotToml))?;
-    check_length(&rt, rt.alloc(), "=", 65537, long)?;
+    check_length(&rt, rt.alloc(), LEAST, 65536, None);
+    check_length(&rt, rt.alloc(), LEAST, 65537, long);
+    check_length(&rt, rt.alloc(), "=", 65536, Some(SettingsFault::NotToml));
+    check_length(&rt, rt.alloc(), "=", 65537, long);
     let read = read_settings(rt.alloc(), b"listen = \"\xff\"");
     assert_eq!(rt; read.err(), Some(SettingsFault::NotToml));
-    Ok(())
 }

@@ -6,10 +6,9 @@ use fleet_pending::Addr;
 use fleet_site::{Config, Site, SiteFault};
 use std::alloc::Global;
 use std::process::Abort;
-use std::test::Fail;
 
 #[test]
-fn a_reply_goes_to_all_who_wait(rt: HostRuntime) -> Result<(), Fail> {
+fn a_reply_goes_to_all_who_wait(rt: HostRuntime) {
     check_new(
         &rt,
         rt.alloc(),
@@ -25,7 +24,7 @@ fn a_reply_goes_to_all_who_wait(rt: HostRuntime) -> Result<(), Fail> {
 }
 
 #[test]
-fn a_reply_without_life_is_relayed_and_not_kept(rt: HostRuntime) -> Result<(), Fail> {
+fn a_reply_without_life_is_relayed_and_not_kept(rt: HostRuntime) {
     check_new(
         &rt,
         rt.alloc(),
@@ -37,7 +36,7 @@ fn a_reply_without_life_is_relayed_and_not_kept(rt: HostRuntime) -> Result<(), F
 }
 
 #[test]
-fn a_name_error_without_soa_is_asked_again(rt: HostRuntime) -> Result<(), Fail> {
+fn a_name_error_without_soa_is_asked_again(rt: HostRuntime) {
     check_new(
         &rt,
         rt.alloc(),
@@ -50,8 +49,8 @@ fn a_name_error_without_soa_is_asked_again(rt: HostRuntime) -> Result<(), Fail> 
 }
 
 #[test]
-fn a_name_of_255_octets_and_one_of_256(rt: HostRuntime) -> Result<(), Fail> {
-    let query = octets(rt.alloc(), "longest-query")?;
+fn a_name_of_255_octets_and_one_of_256(rt: HostRuntime) {
+    let query = octets(&rt, rt.alloc(), "longest-query");
     assert_eq!(rt; query.as_slice().len(), 271);
     check_new(
         &rt,
@@ -65,7 +64,7 @@ fn a_name_of_255_octets_and_one_of_256(rt: HostRuntime) -> Result<(), Fail> {
 }
 
 #[test]
-fn questions_that_are_not_served(rt: HostRuntime) -> Result<(), Fail> {
+fn questions_that_are_not_served(rt: HostRuntime) {
     check_new(
         &rt,
         rt.alloc(),
@@ -77,7 +76,7 @@ fn questions_that_are_not_served(rt: HostRuntime) -> Result<(), Fail> {
 }
 
 #[test]
-fn questions_of_another_form(rt: HostRuntime) -> Result<(), Fail> {
+fn questions_of_another_form(rt: HostRuntime) {
     check_new(
         &rt,
         rt.alloc(),
@@ -91,7 +90,7 @@ fn questions_of_another_form(rt: HostRuntime) -> Result<(), Fail> {
 }
 
 #[test]
-fn a_question_goes_from_upstream_to_upstream(rt: HostRuntime) -> Result<(), Fail> {
+fn a_question_goes_from_upstream_to_upstream(rt: HostRuntime) {
     check_new(
         &rt,
         rt.alloc(),
@@ -107,45 +106,45 @@ fn a_question_goes_from_upstream_to_upstream(rt: HostRuntime) -> Result<(), Fail
 }
 
 /// Adds a message with this header, whose question asks for the name of four digits.
-fn add_numbered(row: &mut String, header: &str, number: u16) -> Result<(), Fail> {
+fn add_numbered(rt: &impl Abort, row: &mut String, header: &str, number: u16) {
     let digits = [number / 100 % 10, number / 10 % 10, number % 10];
-    row.push_str(header)?;
-    row.push_str("0430")?;
+    row.push_str(header).expect(rt, "memory");
+    row.push_str("0430").expect(rt, "memory");
     for digit in digits {
-        add_octets(row, &[b'0' + digit as u8])?;
+        add_octets(rt, row, &[b'0' + digit as u8]);
     }
-    Ok(row.push_str("0000010001")?)
+    row.push_str("0000010001").expect(rt, "memory")
 }
 
 /// Adds the row of a question for the name of four digits, which is asked: the query has the id
 /// before that number.
-fn add_asked(row: &mut String, number: u16) -> Result<(), Fail> {
-    row.push_str("100 datagram 6001 65535 ")?;
-    add_numbered(row, "000701000001000000000000", number)?;
-    row.push_str(" => 5301 ")?;
-    add_octets(row, &number.wrapping_sub(1).to_be_bytes())?;
-    add_numbered(row, "01000001000000000000", number)
+fn add_asked(rt: &impl Abort, row: &mut String, number: u16) {
+    row.push_str("100 datagram 6001 65535 ")
+        .expect(rt, "memory");
+    add_numbered(rt, row, "000701000001000000000000", number);
+    row.push_str(" => 5301 ").expect(rt, "memory");
+    add_octets(rt, row, &number.wrapping_sub(1).to_be_bytes());
+    add_numbered(rt, row, "01000001000000000000", number)
 }
 
 /// Each of 256 questions is asked.
-fn check_asked(rt: &impl Abort, alloc: Global, site: &mut Site) -> Result<(), Fail> {
+fn check_asked(rt: &impl Abort, alloc: Global, site: &mut Site) {
     for number in 0..256u16 {
         let mut row = String::new(alloc);
-        add_asked(&mut row, number)?;
-        check_rows(rt, alloc, site, row.as_str())?;
+        add_asked(rt, &mut row, number);
+        check_rows(rt, alloc, site, row.as_str());
     }
-    Ok(())
 }
 
 #[test]
-fn a_full_table(rt: HostRuntime) -> Result<(), Fail> {
-    let mut site = new_site(rt.alloc(), &[addr(5401)])?;
+fn a_full_table(rt: HostRuntime) {
+    let mut site = new_site(&rt, rt.alloc(), &[addr(5401)]);
     check_full_table(&rt, rt.alloc(), &mut site)
 }
 
 /// As many questions are asked as may.
-fn check_full_table(rt: &impl Abort, alloc: Global, site: &mut Site) -> Result<(), Fail> {
-    check_asked(rt, alloc, site)?;
+fn check_full_table(rt: &impl Abort, alloc: Global, site: &mut Site) {
+    check_asked(rt, alloc, site);
     check_rows(
         rt,
         alloc,
@@ -159,20 +158,19 @@ fn check_full_table(rt: &impl Abort, alloc: Global, site: &mut Site) -> Result<(
 }
 
 /// Each of 31 ports from 6002 on joins a question that is open.
-fn check_joined(rt: &impl Abort, alloc: Global, site: &mut Site) -> Result<(), Fail> {
+fn check_joined(rt: &impl Abort, alloc: Global, site: &mut Site) {
     for port in 6002..6033u16 {
         let port = u64::from(port);
-        let row = format!(in alloc; "100 datagram {port} 4660 question =>")?;
-        check_rows(rt, alloc, site, row.as_str())?;
+        let row = format!(in alloc; "100 datagram {port} 4660 question =>").expect(rt, "memory");
+        check_rows(rt, alloc, site, row.as_str());
     }
-    Ok(())
 }
 
 /// As many join a question as may.
-fn check_full_entry(rt: &impl Abort, alloc: Global, site: &mut Site) -> Result<(), Fail> {
+fn check_full_entry(rt: &impl Abort, alloc: Global, site: &mut Site) {
     let first = "100 datagram 6001 4660 question => 5301 query";
-    check_rows(rt, alloc, site, first)?;
-    check_joined(rt, alloc, site)?;
+    check_rows(rt, alloc, site, first);
+    check_joined(rt, alloc, site);
     check_rows(
         rt,
         alloc,
@@ -186,13 +184,13 @@ fn check_full_entry(rt: &impl Abort, alloc: Global, site: &mut Site) -> Result<(
 }
 
 #[test]
-fn a_full_entry(rt: HostRuntime) -> Result<(), Fail> {
-    let mut site = new_site(rt.alloc(), &[addr(5401)])?;
+fn a_full_entry(rt: HostRuntime) {
+    let mut site = new_site(&rt, rt.alloc(), &[addr(5401)]);
     check_full_entry(&rt, rt.alloc(), &mut site)
 }
 
 #[test]
-fn a_flush_has_the_clock_and_withdraws_up_to_it(rt: HostRuntime) -> Result<(), Fail> {
+fn a_flush_has_the_clock_and_withdraws_up_to_it(rt: HostRuntime) {
     check_new(
         &rt,
         rt.alloc(),
@@ -210,7 +208,7 @@ fn a_flush_has_the_clock_and_withdraws_up_to_it(rt: HostRuntime) -> Result<(), F
 }
 
 #[test]
-fn frames_of_the_version_before_are_read_and_have_no_flush(rt: HostRuntime) -> Result<(), Fail> {
+fn frames_of_the_version_before_are_read_and_have_no_flush(rt: HostRuntime) {
     check_new(
         &rt,
         rt.alloc(),
@@ -223,7 +221,7 @@ fn frames_of_the_version_before_are_read_and_have_no_flush(rt: HostRuntime) -> R
 }
 
 #[test]
-fn frames_are_taken_or_refused(rt: HostRuntime) -> Result<(), Fail> {
+fn frames_are_taken_or_refused(rt: HostRuntime) {
     check_new(
         &rt,
         rt.alloc(),
@@ -242,7 +240,7 @@ fn frames_are_taken_or_refused(rt: HostRuntime) -> Result<(), Fail> {
 }
 
 #[test]
-fn a_reply_that_is_handed_in_is_learnt(rt: HostRuntime) -> Result<(), Fail> {
+fn a_reply_that_is_handed_in_is_learnt(rt: HostRuntime) {
     check_new(
         &rt,
         rt.alloc(),
@@ -257,7 +255,7 @@ fn a_reply_that_is_handed_in_is_learnt(rt: HostRuntime) -> Result<(), Fail> {
 }
 
 #[test]
-fn a_question_is_looked_up(rt: HostRuntime) -> Result<(), Fail> {
+fn a_question_is_looked_up(rt: HostRuntime) {
     check_new(
         &rt,
         rt.alloc(),
@@ -272,17 +270,16 @@ fn a_question_is_looked_up(rt: HostRuntime) -> Result<(), Fail> {
 }
 
 /// A sweep gives these frames.
-fn check_sweep(rt: &impl Abort, alloc: Global, site: &Site, wanted: &str) -> Result<(), Fail> {
+fn check_sweep(rt: &impl Abort, alloc: Global, site: &Site, wanted: &str) {
     let mut output = String::new(alloc);
-    show_sweep(&mut output, site)?;
-    assert_eq!(rt; output.as_str(), spelt_out(alloc, wanted)?.as_str());
-    Ok(())
+    show_sweep(rt, &mut output, site);
+    assert_eq!(rt; output.as_str(), spelt_out(rt, alloc, wanted).as_str());
 }
 
 /// A site that takes a frame in and begins again holds nothing.
-fn check_restart(rt: &impl Abort, alloc: Global, site: &mut Site) -> Result<(), Fail> {
-    check_rows(rt, alloc, site, "250 frame frame-100 => taken 1")?;
-    check_sweep(rt, alloc, site, "frame frame-100")?;
+fn check_restart(rt: &impl Abort, alloc: Global, site: &mut Site) {
+    check_rows(rt, alloc, site, "250 frame frame-100 => taken 1");
+    check_sweep(rt, alloc, site, "frame frame-100");
     site.restart();
     assert!(rt; site.cache().is_empty());
     assert_eq!(rt; site.clock().value(), 0);
@@ -290,37 +287,31 @@ fn check_restart(rt: &impl Abort, alloc: Global, site: &mut Site) -> Result<(), 
 }
 
 #[test]
-fn a_restart_leaves_nothing(rt: HostRuntime) -> Result<(), Fail> {
-    let mut site = new_site(rt.alloc(), &[addr(5401)])?;
+fn a_restart_leaves_nothing(rt: HostRuntime) {
+    let mut site = new_site(&rt, rt.alloc(), &[addr(5401)]);
     check_restart(&rt, rt.alloc(), &mut site)
 }
 
 /// How many observations two sites give where the first takes in the second and then turned round.
-fn merge_both(first: &mut Site, second: &mut Site) -> Result<[usize; 2], SiteFault> {
-    let one = first.merge(second)?;
-    let two = second.merge(first)?;
-    Ok([one, two])
+fn merge_both(rt: &impl Abort, first: &mut Site, second: &mut Site) -> [usize; 2] {
+    let one = first.merge(second).expect(rt, "a count");
+    let two = second.merge(first).expect(rt, "a count");
+    [one, two]
 }
 
 /// A site with an observation takes in one whose clock is later, and is taken in by it.
-fn check_merge(
-    rt: &impl Abort,
-    alloc: Global,
-    first: &mut Site,
-    second: &mut Site,
-) -> Result<(), Fail> {
-    check_rows(rt, alloc, first, "100 frame frame-100 => taken 1")?;
-    check_rows(rt, alloc, second, "150 tick =>")?;
-    assert_eq!(rt; merge_both(first, second)?, [0, 1]);
+fn check_merge(rt: &impl Abort, alloc: Global, first: &mut Site, second: &mut Site) {
+    check_rows(rt, alloc, first, "100 frame frame-100 => taken 1");
+    check_rows(rt, alloc, second, "150 tick =>");
+    assert_eq!(rt; merge_both(rt, first, second), [0, 1]);
     assert_eq!(rt; first.clock().value(), 150);
     assert!(rt; first.cache().same(second.cache()));
-    Ok(())
 }
 
 #[test]
-fn a_merge_raises_the_clock_to_the_floor(rt: HostRuntime) -> Result<(), Fail> {
-    let mut first = new_site(rt.alloc(), &[addr(5401)])?;
-    let mut second = new_site(rt.alloc(), &[addr(5401)])?;
+fn a_merge_raises_the_clock_to_the_floor(rt: HostRuntime) {
+    let mut first = new_site(&rt, rt.alloc(), &[addr(5401)]);
+    let mut second = new_site(&rt, rt.alloc(), &[addr(5401)]);
     check_merge(&rt, rt.alloc(), &mut first, &mut second)
 }
 
@@ -334,28 +325,26 @@ const CONFIGS: &str = "\
 ";
 
 /// The addresses of ports.
-fn addrs(alloc: Global, ports: &str) -> Result<Vec<Addr>, Fail> {
+fn addrs(rt: &impl Abort, alloc: Global, ports: &str) -> Vec<Addr> {
     let mut all = Vec::new(alloc);
     for port in ports.split_whitespace() {
-        all.push(addr(number(port)?))?;
+        all.push(addr(number(rt, port))).expect(rt, "memory");
     }
-    Ok(all)
+    all
 }
 
 /// Makes the configuration of a row, and compares its fault.
-fn check_config(rt: &impl Abort, alloc: Global, row: &str) -> Result<(), Fail> {
-    let (ports, wanted) = row.split_once(" => ").ok_or("no fault")?;
-    let (upstreams, peers) = ports.split_once('/').ok_or("no peers")?;
-    let config = Config::new(addrs(alloc, upstreams)?, addrs(alloc, peers)?);
-    let fault = format!(in alloc; "{:?}", config.err())?;
+fn check_config(rt: &impl Abort, alloc: Global, row: &str) {
+    let (ports, wanted) = row.split_once(" => ").expect(rt, "a fault");
+    let (upstreams, peers) = ports.split_once('/').expect(rt, "peers");
+    let config = Config::new(addrs(rt, alloc, upstreams), addrs(rt, alloc, peers));
+    let fault = format!(in alloc; "{:?}", config.err()).expect(rt, "memory");
     assert_eq!(rt; fault.as_str(), wanted, "{ports}");
-    Ok(())
 }
 
 #[test]
-fn configurations_with_a_fault(rt: HostRuntime) -> Result<(), Fail> {
+fn configurations_with_a_fault(rt: HostRuntime) {
     for row in CONFIGS.lines() {
-        check_config(&rt, rt.alloc(), row)?;
+        check_config(&rt, rt.alloc(), row);
     }
-    Ok(())
 }

@@ -3,11 +3,11 @@
 use crate::tests::fleets::{check_new, check_rows, check_run, events_of, fleet};
 use fleet_world::World;
 use std::alloc::Global;
-use std::test::Fail;
+use std::process::Abort;
 
 #[test]
-fn gossip_makes_sites_the_same(rt: HostRuntime) -> Result<(), Fail> {
-    let mut world = fleet(rt.alloc(), 3, &[])?;
+fn gossip_makes_sites_the_same(rt: HostRuntime) {
+    let mut world = fleet(&rt, rt.alloc(), 3, &[]);
     check_run(
         &rt,
         rt.alloc(),
@@ -24,7 +24,7 @@ sweep 1 => frame 2
 deliver 2 200 2 => taken 2
 deliver 2 200 2 => taken 2
 ",
-    )?;
+    );
     check_rows(
         &rt,
         rt.alloc(),
@@ -41,7 +41,7 @@ same 0 2 => same
 }
 
 #[test]
-fn what_ended_comes_in_and_is_not_held(rt: HostRuntime) -> Result<(), Fail> {
+fn what_ended_comes_in_and_is_not_held(rt: HostRuntime) {
     check_new(
         &rt,
         rt.alloc(),
@@ -62,7 +62,7 @@ same 0 1 => same
 }
 
 #[test]
-fn merging_makes_sites_the_same(rt: HostRuntime) -> Result<(), Fail> {
+fn merging_makes_sites_the_same(rt: HostRuntime) {
     check_new(
         &rt,
         rt.alloc(),
@@ -83,7 +83,7 @@ same 0 1 => same
 }
 
 #[test]
-fn a_reply_is_relayed_and_sent_to_peers(rt: HostRuntime) -> Result<(), Fail> {
+fn a_reply_is_relayed_and_sent_to_peers(rt: HostRuntime) {
     check_new(
         &rt,
         rt.alloc(),
@@ -98,7 +98,7 @@ kept 0 => frame-101
 }
 
 #[test]
-fn a_site_begins_again(rt: HostRuntime) -> Result<(), Fail> {
+fn a_site_begins_again(rt: HostRuntime) {
     check_new(
         &rt,
         rt.alloc(),
@@ -115,7 +115,7 @@ kept 0 => older
 }
 
 #[test]
-fn a_question_is_tried_at_each_upstream(rt: HostRuntime) -> Result<(), Fail> {
+fn a_question_is_tried_at_each_upstream(rt: HostRuntime) {
     check_new(
         &rt,
         rt.alloc(),
@@ -130,7 +130,7 @@ tick 0 104 => send 6001 failure
 }
 
 #[test]
-fn a_site_answers_what_it_took_in(rt: HostRuntime) -> Result<(), Fail> {
+fn a_site_answers_what_it_took_in(rt: HostRuntime) {
     check_new(
         &rt,
         rt.alloc(),
@@ -147,7 +147,7 @@ site 0 => clock 110 floor 0 items 0
 }
 
 #[test]
-fn a_flush_withdraws_in_any_order_and_keeps_what_comes_later(rt: HostRuntime) -> Result<(), Fail> {
+fn a_flush_withdraws_in_any_order_and_keeps_what_comes_later(rt: HostRuntime) {
     check_new(
         &rt,
         rt.alloc(),
@@ -171,7 +171,7 @@ flush 2 200 com => no such site
 }
 
 #[test]
-fn a_site_that_hears_late_of_a_flush_drops_then_what_it_voids(rt: HostRuntime) -> Result<(), Fail> {
+fn a_site_that_hears_late_of_a_flush_drops_then_what_it_voids(rt: HostRuntime) {
     check_new(
         &rt,
         rt.alloc(),
@@ -192,7 +192,7 @@ same 0 1 => same
 }
 
 #[test]
-fn a_site_that_is_not_there_is_reported_before_a_frame(rt: HostRuntime) -> Result<(), Fail> {
+fn a_site_that_is_not_there_is_reported_before_a_frame(rt: HostRuntime) {
     check_new(
         &rt,
         rt.alloc(),
@@ -208,18 +208,19 @@ site 1 => none
 }
 
 /// Why a run of the events of rows was halted, and after how many.
-fn halt_of(alloc: Global, world: &mut World, rows: &str) -> Result<String, Fail> {
-    let events = events_of(alloc, rows)?;
+fn halt_of(rt: &impl Abort, alloc: Global, world: &mut World, rows: &str) -> String {
+    let events = events_of(rt, alloc, rows);
     match world.run(&events) {
-        Ok(_) => Err("not halted".into()),
-        Err(halted) => Ok(format!(in alloc; "{halted}")?),
+        Ok(_) => panic!(rt; "not halted"),
+        Err(halted) => format!(in alloc; "{halted}").expect(rt, "memory"),
     }
 }
 
 #[test]
-fn a_run_halts_where_a_frame_is_not_there(rt: HostRuntime) -> Result<(), Fail> {
-    let mut world = fleet(rt.alloc(), 1, &[])?;
+fn a_run_halts_where_a_frame_is_not_there(rt: HostRuntime) {
+    let mut world = fleet(&rt, rt.alloc(), 1, &[]);
     let halt = halt_of(
+        &rt,
         rt.alloc(),
         &mut world,
         "\
@@ -227,7 +228,7 @@ tick 0 100 =>
 deliver 0 200 0 =>
 tick 1 300 =>
 ",
-    )?;
+    );
     assert_eq!(rt; halt.as_str(), "event 1: no such frame");
     check_rows(
         &rt,
@@ -238,13 +239,13 @@ tick 1 300 =>
 }
 
 #[test]
-fn each_of_many_frames_is_kept(rt: HostRuntime) -> Result<(), Fail> {
+fn each_of_many_frames_is_kept(rt: HostRuntime) {
     let mut rows = String::new(rt.alloc());
     for number in 0..1100u16 {
-        writeln!(rows, "flush 0 120 com => frame {number} taken 1")?;
+        writeln!(rows, "flush 0 120 com => frame {number} taken 1").expect(&rt, "memory");
     }
     for number in 0..1100u16 {
-        writeln!(rows, "kept {number} => flush")?;
+        writeln!(rows, "kept {number} => flush").expect(&rt, "memory");
     }
     check_new(&rt, rt.alloc(), 1, rows.as_str())
 }

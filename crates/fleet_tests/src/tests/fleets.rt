@@ -8,162 +8,159 @@ use fleet_site::{Packet, Site};
 use fleet_world::{Event, Stepped, World};
 use std::alloc::Global;
 use std::process::Abort;
-use std::test::Fail;
 
 /// Sites with two upstreams each, and with these peers.
-pub fn fleet(alloc: Global, count: usize, peers: &[Addr]) -> Result<World, Fail> {
+pub fn fleet(rt: &impl Abort, alloc: Global, count: usize, peers: &[Addr]) -> World {
     let mut configs = Vec::new(alloc);
     for _ in 0..count {
-        configs.push(config(alloc, peers)?)?;
+        configs.push(config(rt, alloc, peers)).expect(rt, "memory");
     }
-    Ok(World::new(alloc, configs)?)
+    World::new(alloc, configs).expect(rt, "memory")
 }
 
 /// The number of 16 bits that is the first of words, and the others.
-fn first_number(words: &str) -> Result<(u16, &str), Fail> {
+fn first_number<'a>(rt: &impl Abort, words: &'a str) -> (u16, &'a str) {
     let (word, rest) = words.split_once(' ').unwrap_or((words, ""));
-    Ok((number(word)?, rest))
+    (number(rt, word), rest)
 }
 
 /// The number of a site or a frame that is the first of words, and the others.
-fn first_place(words: &str) -> Result<(usize, &str), Fail> {
-    let (number, rest) = first_number(words)?;
-    Ok((usize::from(number), rest))
+fn first_place<'a>(rt: &impl Abort, words: &'a str) -> (usize, &'a str) {
+    let (number, rest) = first_number(rt, words);
+    (usize::from(number), rest)
 }
 
 /// A datagram comes to a site at a moment, from a port, with a word.
-fn datagram(alloc: Global, site: usize, now: Moment, words: &str) -> Result<Event, Fail> {
-    let (port, words) = first_number(words)?;
-    let (word, name) = first_number(words)?;
-    let bytes = octets(alloc, name)?;
-    Ok(Event::Datagram {
+fn datagram(rt: &impl Abort, alloc: Global, site: usize, now: Moment, words: &str) -> Event {
+    let (port, words) = first_number(rt, words);
+    let (word, name) = first_number(rt, words);
+    let bytes = octets(rt, alloc, name);
+    Event::Datagram {
         site,
         now,
         from: addr(port),
         word,
         bytes,
-    })
+    }
 }
 
 /// A kept frame comes to a site at a moment.
-fn deliver(site: usize, now: Moment, words: &str) -> Result<Event, Fail> {
-    let (frame, _) = first_place(words)?;
-    Ok(Event::Deliver { site, now, frame })
+fn deliver(rt: &impl Abort, site: usize, now: Moment, words: &str) -> Event {
+    let (frame, _) = first_place(rt, words);
+    Event::Deliver { site, now, frame }
 }
 
 /// An event at a site at a moment.
-fn timed_event(alloc: Global, kind: &str, site: usize, words: &str) -> Result<Event, Fail> {
-    let (now, words) = first_number(words)?;
-    let now = at(now)?;
+fn timed_event(rt: &impl Abort, alloc: Global, kind: &str, site: usize, words: &str) -> Event {
+    let (now, words) = first_number(rt, words);
+    let now = at(rt, now);
     match kind {
-        "datagram" => datagram(alloc, site, now, words),
-        "deliver" => deliver(site, now, words),
-        "tick" => Ok(Event::Tick { site, now }),
-        "frame" => Ok(Event::Frame {
+        "datagram" => datagram(rt, alloc, site, now, words),
+        "deliver" => deliver(rt, site, now, words),
+        "tick" => Event::Tick { site, now },
+        "frame" => Event::Frame {
             site,
             now,
-            bytes: octets(alloc, words)?,
-        }),
-        "learn" => Ok(Event::Learn {
+            bytes: octets(rt, alloc, words),
+        },
+        "learn" => Event::Learn {
             site,
             now,
-            bytes: octets(alloc, words)?,
-        }),
-        "flush" => Ok(Event::Flush {
+            bytes: octets(rt, alloc, words),
+        },
+        "flush" => Event::Flush {
             site,
             now,
-            name: name_of(alloc, words)?,
-        }),
-        _ => Err("unknown event".into()),
+            name: name_of(rt, alloc, words),
+        },
+        _ => panic!(rt; "unknown event"),
     }
 }
 
 /// The event of a line: its kind, its site, and for most kinds its moment.
-fn event_of(alloc: Global, line: &str) -> Result<Event, Fail> {
-    let (kind, words) = line.split_once(' ').ok_or("no event")?;
-    let (site, words) = first_place(words)?;
+fn event_of(rt: &impl Abort, alloc: Global, line: &str) -> Event {
+    let (kind, words) = line.split_once(' ').expect(rt, "an event");
+    let (site, words) = first_place(rt, words);
     match kind {
-        "sweep" => Ok(Event::Sweep { site }),
-        "restart" => Ok(Event::Restart { site }),
-        "merge" => Ok(Event::Merge {
+        "sweep" => Event::Sweep { site },
+        "restart" => Event::Restart { site },
+        "merge" => Event::Merge {
             into: site,
-            from: first_place(words)?.0,
-        }),
-        kind => timed_event(alloc, kind, site, words),
+            from: first_place(rt, words).0,
+        },
+        kind => timed_event(rt, alloc, kind, site, words),
     }
 }
 
 /// Adds a word and a number, each behind a space.
-fn show_number(output: &mut String, word: &str, number: usize) -> Result<(), Fail> {
-    write!(output, " {word} {number}")?;
-    Ok(())
+fn show_number(rt: &impl Abort, output: &mut String, word: &str, number: usize) {
+    write!(output, " {word} {number}").expect(rt, "memory");
 }
 
 /// Adds where a packet goes, and its octets.
-fn show_packet(output: &mut String, packet: &Packet) -> Result<(), Fail> {
+fn show_packet(rt: &impl Abort, output: &mut String, packet: &Packet) {
     let Addr { host, port } = packet.to;
     let word = if host == HOST { "send" } else { "elsewhere" };
-    show_number(output, word, usize::from(port))?;
-    show_octets(output, packet.bytes.as_slice())
+    show_number(rt, output, word, usize::from(port));
+    show_octets(rt, output, packet.bytes.as_slice())
 }
 
 /// Adds all that an event did: packets, the numbers of frames, how many observations were taken if
 /// any were, a refusal, and whether there is more.
-pub fn show_stepped(output: &mut String, stepped: &Stepped) -> Result<(), Fail> {
+pub fn show_stepped(rt: &impl Abort, output: &mut String, stepped: &Stepped) {
     for packet in stepped.packets.as_slice() {
-        show_packet(output, packet)?;
+        show_packet(rt, output, packet);
     }
     for number in stepped.frames.as_slice() {
-        show_number(output, "frame", *number)?;
+        show_number(rt, output, "frame", *number);
     }
     if stepped.taken != 0 {
-        show_number(output, "taken", stepped.taken)?;
+        show_number(rt, output, "taken", stepped.taken);
     }
     if let Some(refusal) = stepped.refused {
-        write!(output, " refused {refusal:?}")?;
+        write!(output, " refused {refusal:?}").expect(rt, "memory");
     }
     if stepped.more {
-        output.push_str(" more")?;
+        output.push_str(" more").expect(rt, "memory");
     }
-    Ok(())
 }
 
 /// Lets an event happen, and adds what it did, or why it didn't.
-fn show_event(output: &mut String, world: &mut World, event: &Event) -> Result<(), Fail> {
+fn show_event(rt: &impl Abort, output: &mut String, world: &mut World, event: &Event) {
     match world.step(event) {
-        Ok(stepped) => show_stepped(output, &stepped),
-        Err(fault) => Ok(write!(output, " {fault}")?),
+        Ok(stepped) => show_stepped(rt, output, &stepped),
+        Err(fault) => write!(output, " {fault}").expect(rt, "memory"),
     }
 }
 
 /// Looks a question up at a site, and adds what is answered.
-fn show_ask(output: &mut String, world: &mut World, words: &str) -> Result<(), Fail> {
-    let (site, words) = first_place(words)?;
-    let (now, name) = first_number(words)?;
-    let question = octets(*output.allocator(), name)?;
-    match world.ask(site, at(now)?, question.as_slice()) {
-        Ok(looked) => show_looked(output, &looked),
-        Err(fault) => Ok(write!(output, " {fault}")?),
+fn show_ask(rt: &impl Abort, output: &mut String, world: &mut World, words: &str) {
+    let (site, words) = first_place(rt, words);
+    let (now, name) = first_number(rt, words);
+    let question = octets(rt, *output.allocator(), name);
+    match world.ask(site, at(rt, now), question.as_slice()) {
+        Ok(looked) => show_looked(rt, output, &looked),
+        Err(fault) => write!(output, " {fault}").expect(rt, "memory"),
     }
 }
 
 /// Adds the kept frame of a number, if there is one.
-fn show_kept(output: &mut String, world: &World, number: usize) -> Result<(), Fail> {
+fn show_kept(rt: &impl Abort, output: &mut String, world: &World, number: usize) {
     match world.frame(number) {
-        Some(frame) => show_octets(output, frame),
-        None => Ok(output.push_str(" none")?),
+        Some(frame) => show_octets(rt, output, frame),
+        None => output.push_str(" none").expect(rt, "memory"),
     }
 }
 
 /// Adds the clock of a site, its floor, and how many items it has.
-fn show_site(output: &mut String, site: Option<&Site>) -> Result<(), Fail> {
+fn show_site(rt: &impl Abort, output: &mut String, site: Option<&Site>) {
     match site {
         Some(site) => {
-            show_number(output, "clock", site.clock().value() as usize)?;
-            show_number(output, "floor", site.cache().floor().value() as usize)?;
-            show_number(output, "items", site.cache().len())
+            show_number(rt, output, "clock", site.clock().value() as usize);
+            show_number(rt, output, "floor", site.cache().floor().value() as usize);
+            show_number(rt, output, "items", site.cache().len())
         }
-        None => Ok(output.push_str(" none")?),
+        None => output.push_str(" none").expect(rt, "memory"),
     }
 }
 
@@ -176,46 +173,47 @@ fn hold_same(world: &World, one: usize, other: usize) -> bool {
 }
 
 /// Adds whether two sites hold the same.
-fn show_same(output: &mut String, world: &World, words: &str) -> Result<(), Fail> {
-    let (one, words) = first_place(words)?;
-    let (other, _) = first_place(words)?;
+fn show_same(rt: &impl Abort, output: &mut String, world: &World, words: &str) {
+    let (one, words) = first_place(rt, words);
+    let (other, _) = first_place(rt, words);
     let same = hold_same(world, one, other);
-    Ok(output.push_str(if same { " same" } else { " different" })?)
+    output
+        .push_str(if same { " same" } else { " different" })
+        .expect(rt, "memory")
 }
 
 /// Does what a line says, and adds what it gives.
-fn show_line(output: &mut String, world: &mut World, line: &str) -> Result<(), Fail> {
-    let (kind, words) = line.split_once(' ').ok_or("no event")?;
+fn show_line(rt: &impl Abort, output: &mut String, world: &mut World, line: &str) {
+    let (kind, words) = line.split_once(' ').expect(rt, "an event");
     match kind {
-        "ask" => show_ask(output, world, words),
-        "kept" => show_kept(output, world, first_place(words)?.0),
-        "site" => show_site(output, world.site(first_place(words)?.0)),
-        "same" => show_same(output, world, words),
+        "ask" => show_ask(rt, output, world, words),
+        "kept" => show_kept(rt, output, world, first_place(rt, words).0),
+        "site" => show_site(rt, output, world.site(first_place(rt, words).0)),
+        "same" => show_same(rt, output, world, words),
         _ => {
-            let event = event_of(*output.allocator(), line)?;
-            show_event(output, world, &event)
+            let event = event_of(rt, *output.allocator(), line);
+            show_event(rt, output, world, &event)
         }
     }
 }
 
 /// Compares output with that of its row.
-fn check_output(rt: &impl Abort, alloc: Global, output: &str, row: &str) -> Result<(), Fail> {
-    let (_, wanted) = row.split_once(" =>").ok_or("nothing wanted")?;
-    let wanted = spelt_out(alloc, wanted)?;
+fn check_output(rt: &impl Abort, alloc: Global, output: &str, row: &str) {
+    let (_, wanted) = row.split_once(" =>").expect(rt, "what is wanted");
+    let wanted = spelt_out(rt, alloc, wanted);
     assert_eq!(rt; output, wanted.as_str(), "{row}");
-    Ok(())
 }
 
 /// What a row says is to be done.
-fn line_of(row: &str) -> Result<&str, Fail> {
-    let (line, _) = row.split_once(" =>").ok_or("nothing wanted")?;
-    Ok(line)
+fn line_of<'a>(rt: &impl Abort, row: &'a str) -> &'a str {
+    let (line, _) = row.split_once(" =>").expect(rt, "what is wanted");
+    line
 }
 
 /// Does what a row says, and compares what it gives.
-fn check_row(rt: &impl Abort, alloc: Global, world: &mut World, row: &str) -> Result<(), Fail> {
+fn check_row(rt: &impl Abort, alloc: Global, world: &mut World, row: &str) {
     let mut output = String::new(alloc);
-    show_line(&mut output, world, line_of(row)?)?;
+    show_line(rt, &mut output, world, line_of(rt, row));
     check_output(rt, alloc, output.as_str(), row)
 }
 
@@ -224,52 +222,45 @@ fn check_row(rt: &impl Abort, alloc: Global, world: &mut World, row: &str) -> Re
 /// A row is an event with its site and its moment, and behind `=>` what `show_stepped` says of it;
 /// or `ask` with a site, a moment and a question, and the answer; `kept` with a number, and the
 /// frame; `site`, and what `show_site` says of it; `same`, and whether two sites hold the same.
-pub fn check_rows(
-    rt: &impl Abort,
-    alloc: Global,
-    world: &mut World,
-    rows: &str,
-) -> Result<(), Fail> {
+pub fn check_rows(rt: &impl Abort, alloc: Global, world: &mut World, rows: &str) {
     for row in rows.lines() {
-        check_row(rt, alloc, world, row)?;
+        check_row(rt, alloc, world, row);
     }
-    Ok(())
 }
 
 /// The same, in a new world of this number of sites, without peers.
-pub fn check_new(rt: &impl Abort, alloc: Global, sites: usize, rows: &str) -> Result<(), Fail> {
-    let mut world = fleet(alloc, sites, &[])?;
+pub fn check_new(rt: &impl Abort, alloc: Global, sites: usize, rows: &str) {
+    let mut world = fleet(rt, alloc, sites, &[]);
     check_rows(rt, alloc, &mut world, rows)
 }
 
 /// The events of rows.
-pub fn events_of(alloc: Global, rows: &str) -> Result<Vec<Event>, Fail> {
+pub fn events_of(rt: &impl Abort, alloc: Global, rows: &str) -> Vec<Event> {
     let mut events = Vec::new(alloc);
     for row in rows.lines() {
-        events.push(event_of(alloc, line_of(row)?)?)?;
+        events
+            .push(event_of(rt, alloc, line_of(rt, row)))
+            .expect(rt, "memory");
     }
-    Ok(events)
+    events
 }
 
 /// Compares what an event did with its row.
-fn check_stepped(rt: &impl Abort, alloc: Global, stepped: &Stepped, row: &str) -> Result<(), Fail> {
+fn check_stepped(rt: &impl Abort, alloc: Global, stepped: &Stepped, row: &str) {
     let mut output = String::new(alloc);
-    show_stepped(&mut output, stepped)?;
+    show_stepped(rt, &mut output, stepped);
     check_output(rt, alloc, output.as_str(), row)
 }
 
 /// Runs the events of rows in one go, and compares what each did.
-pub fn check_run(
-    rt: &impl Abort,
-    alloc: Global,
-    world: &mut World,
-    rows: &str,
-) -> Result<(), Fail> {
-    let events = events_of(alloc, rows)?;
-    let all = world.run(&events)?;
+pub fn check_run(rt: &impl Abort, alloc: Global, world: &mut World, rows: &str) {
+    let events = events_of(rt, alloc, rows);
+    let all = match world.run(&events) {
+        Ok(all) => all,
+        Err(halted) => panic!(rt; "{halted}"),
+    };
     assert_eq!(rt; all.len(), events.len());
     for (stepped, row) in all.iter().zip(rows.lines()) {
-        check_stepped(rt, alloc, stepped, row)?;
+        check_stepped(rt, alloc, stepped, row);
     }
-    Ok(())
 }

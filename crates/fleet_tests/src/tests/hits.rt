@@ -7,7 +7,6 @@ use fleet_wire::bounds::LONGEST_MESSAGE;
 use linked_list_allocator::LocalHeap;
 use std::alloc::{AllocError, Global};
 use std::process::Abort;
-use std::test::Fail;
 
 /// What is learnt at 100, and then a datagram that is a plain hit: the buffer holds the packet that is
 /// to be sent, and `datagram` gives just this too.
@@ -33,7 +32,7 @@ const HITS: &str = "\
 110 datagram 6001 0 aliases => 6001 aliases-relay";
 
 #[test]
-fn hits_are_answered_at_once(rt: HostRuntime) -> Result<(), Fail> {
+fn hits_are_answered_at_once(rt: HostRuntime) {
     check_each(&rt, rt.alloc(), HITS)
 }
 
@@ -53,7 +52,7 @@ const MISSES: &str = "\
 110 handle 6001 4369 asked => 5301 asked-1111 clock 110";
 
 #[test]
-fn plain_misses_are_asked(rt: HostRuntime) -> Result<(), Fail> {
+fn plain_misses_are_asked(rt: HostRuntime) {
     check_each(&rt, rt.alloc(), MISSES)
 }
 
@@ -95,36 +94,42 @@ const OTHERS: &str = "\
 100 handle 5401 0 frame-100 => taken 1 clock 100";
 
 #[test]
-fn what_is_not_plain_is_read_as_ever(rt: HostRuntime) -> Result<(), Fail> {
+fn what_is_not_plain_is_read_as_ever(rt: HostRuntime) {
     check_each(&rt, rt.alloc(), OTHERS)
 }
 
 /// All that is left of a heap.
-fn rest_of(global: Global, heap: &LocalHeap) -> Result<Vec<Vec<u8, &LocalHeap>>, Fail> {
+fn rest_of<'a>(
+    rt: &impl Abort,
+    global: Global,
+    heap: &'a LocalHeap,
+) -> Vec<Vec<u8, &'a LocalHeap>> {
     let mut all = Vec::new(global);
     for size in [4096, 256, 16, 1] {
         for _ in 0..64u8 {
             let part: Result<Vec<u8, &LocalHeap>, AllocError> = Vec::with_capacity(heap, size);
             if let Ok(part) = part {
-                all.push(part)?;
+                all.push(part).expect(rt, "memory");
             }
         }
     }
-    Ok(all)
+    all
 }
 
 /// A site over a heap.
-fn heap_site(heap: &LocalHeap) -> Result<Site<&LocalHeap>, Fail> {
-    let upstreams = Vec::from_slice(heap, &[addr(5301)])?;
-    Ok(Site::new(heap, Config::new(upstreams, Vec::new(heap))?))
+fn heap_site<'a>(rt: &impl Abort, heap: &'a LocalHeap) -> Site<&'a LocalHeap> {
+    let upstreams = Vec::from_slice(heap, &[addr(5301)]).expect(rt, "memory");
+    Site::new(
+        heap,
+        Config::new(upstreams, Vec::new(heap)).expect(rt, "a configuration"),
+    )
 }
 
 /// The site learns the reply at 100.
-fn learn(global: Global, site: &mut Site<&LocalHeap>) -> Result<(), Fail> {
-    let now = moment("100")?;
-    let reply = octets(global, "reply")?;
-    let _ = site.learn(now, reply.as_slice())?;
-    Ok(())
+fn learn(rt: &impl Abort, global: Global, site: &mut Site<&LocalHeap>) {
+    let now = moment(rt, "100");
+    let reply = octets(rt, global, "reply");
+    let _ = site.learn(now, reply.as_slice()).expect(rt, "an outcome");
 }
 
 /// A hit goes into a buffer that has room, and not into one that has none; nor can it then be answered
@@ -135,24 +140,25 @@ fn check_full<'a>(
     heap: &'a LocalHeap,
     site: &mut Site<&'a LocalHeap>,
     out: &mut Vec<u8, &'a LocalHeap>,
-) -> Result<(), Fail> {
-    let (now, from) = (moment("110")?, addr(6001));
-    let asked = octets(global, "question")?;
-    let handled = site.datagram_into(now, from, asked.as_slice(), 0, out)?;
+) {
+    let (now, from) = (moment(rt, "110"), addr(6001));
+    let asked = octets(rt, global, "question");
+    let handled = site
+        .datagram_into(now, from, asked.as_slice(), 0, out)
+        .expect(rt, "an outcome");
     assert!(rt; matches!(&handled, Handled::Reply));
-    assert_eq!(rt; out.as_slice(), octets(global, "relay-290")?.as_slice());
+    assert_eq!(rt; out.as_slice(), octets(rt, global, "relay-290").as_slice());
     let mut none = Vec::new(heap);
     assert!(rt;
         site.datagram_into(now, from, asked.as_slice(), 0, &mut none)
             .is_err()
     );
     assert!(rt; site.datagram(now, from, asked.as_slice(), 0).is_err());
-    let missed = octets(global, "asked")?;
+    let missed = octets(rt, global, "asked");
     assert!(rt;
         site.datagram_into(now, from, missed.as_slice(), 0, out)
             .is_err()
     );
-    Ok(())
 }
 
 /// A site learns the reply, and then nothing is left of its heap.
@@ -161,22 +167,22 @@ fn check_heap<'a>(
     global: Global,
     heap: &'a LocalHeap,
     site: &mut Site<&'a LocalHeap>,
-) -> Result<(), Fail> {
-    learn(global, site)?;
-    let mut out = Vec::with_capacity(heap, LONGEST_MESSAGE)?;
-    let rest = rest_of(global, heap)?;
+) {
+    learn(rt, global, site);
+    let mut out = Vec::with_capacity(heap, LONGEST_MESSAGE).expect(rt, "memory");
+    let rest = rest_of(rt, global, heap);
     assert!(rt; !rest.is_empty());
     check_full(rt, global, heap, site, &mut out)
 }
 
 /// The same, of a site over this heap.
-fn check_site(rt: &impl Abort, global: Global, heap: &LocalHeap) -> Result<(), Fail> {
-    let mut site = heap_site(heap)?;
+fn check_site(rt: &impl Abort, global: Global, heap: &LocalHeap) {
+    let mut site = heap_site(rt, heap);
     check_heap(rt, global, heap, &mut site)
 }
 
 #[test]
-fn a_hit_takes_no_memory(rt: HostRuntime) -> Result<(), Fail> {
-    let heap = LocalHeap::new(rt.alloc(), 1 << 14)?;
+fn a_hit_takes_no_memory(rt: HostRuntime) {
+    let heap = LocalHeap::new(rt.alloc(), 1 << 14).expect(&rt, "memory");
     check_site(&rt, rt.alloc(), &heap)
 }

@@ -14,7 +14,6 @@ use fleet_wire::ReadFault;
 use fleet_world::{Event, Stepped, World};
 use std::alloc::{AllocError, Global};
 use std::process::Abort;
-use std::test::Fail;
 
 /// As what octets come in.
 #[derive(Clone, Copy)]
@@ -56,9 +55,9 @@ fn datagram(now: Moment, port: u16, word: u16, bytes: Octets) -> Event {
 }
 
 /// Octets that come in, all at one moment.
-fn event(way: Way, bytes: Octets) -> Result<Event, Fail> {
-    let now = at(103)?;
-    Ok(match way {
+fn event(rt: &impl Abort, way: Way, bytes: Octets) -> Event {
+    let now = at(rt, 103);
+    match way {
         Way::Stranger => datagram(now, 6003, 0x5678, bytes),
         Way::Upstream => datagram(now, 5301, 0, bytes),
         Way::Peer => datagram(now, 5401, 0, bytes),
@@ -72,7 +71,7 @@ fn event(way: Way, bytes: Octets) -> Result<Event, Fail> {
             now,
             bytes,
         },
-    })
+    }
 }
 
 /// The header of a question.
@@ -80,12 +79,14 @@ const HEADER: &[u8] = b"\x00\x07\x01\x00\x00\x01\x00\x00\x00\x00\x00\x00";
 
 /// The question of a message, if it is one: what is behind its header, behind the header of a
 /// question.
-fn question_of(alloc: Global, message: &[u8]) -> Result<Octets, Fail> {
-    let mut question = HEADER.to_vec(alloc)?;
+fn question_of(rt: &impl Abort, alloc: Global, message: &[u8]) -> Octets {
+    let mut question = HEADER.to_vec(alloc).expect(rt, "memory");
     if message.len() > 12 {
-        question.extend_from_slice(&message[12..])?;
+        question
+            .extend_from_slice(&message[12..])
+            .expect(rt, "memory");
     }
-    Ok(Octets::new(question))
+    Octets::new(question)
 }
 
 /// The first two octets of a message: its id.
@@ -106,24 +107,27 @@ tick 0 102 => send 5302 asked-1111
 ";
 
 /// The question of a message comes in, under the message's id.
-fn asked(alloc: Global, message: &[u8]) -> Result<Event, Fail> {
-    let now = at(102)?;
-    let question = question_of(alloc, message)?;
-    Ok(datagram(now, 6002, id_of(message), question))
+fn asked(rt: &impl Abort, alloc: Global, message: &[u8]) -> Event {
+    let now = at(rt, 102);
+    let question = question_of(rt, alloc, message);
+    datagram(now, 6002, id_of(message), question)
 }
 
 /// The world does so, and asks its first upstream the question of a message.
-fn begin(alloc: Global, world: &mut World, before: &[Event], message: &[u8]) -> Result<(), Fail> {
-    world.run(before)?;
-    world.step(&asked(alloc, message)?)?;
-    Ok(())
+fn begin(rt: &impl Abort, alloc: Global, world: &mut World, before: &[Event], message: &[u8]) {
+    if let Err(halted) = world.run(before) {
+        panic!(rt; "{halted}");
+    }
+    if let Err(fault) = world.step(&asked(rt, alloc, message)) {
+        panic!(rt; "{fault}");
+    }
 }
 
 /// A world of one site with a peer, that did so.
-fn new_world(alloc: Global, before: &[Event], message: &[u8]) -> Result<World, Fail> {
-    let mut world = fleet(alloc, 1, &[addr(5401)])?;
-    begin(alloc, &mut world, before, message)?;
-    Ok(world)
+fn new_world(rt: &impl Abort, alloc: Global, before: &[Event], message: &[u8]) -> World {
+    let mut world = fleet(rt, alloc, 1, &[addr(5401)]);
+    begin(rt, alloc, &mut world, before, message);
+    world
 }
 
 /// Whether the site holds the same in both worlds, and both have the same kept frames, at most two.
@@ -170,35 +174,36 @@ fn did_alike(one: &Stepped, other: &Stepped) -> bool {
 
 /// Time passes in both worlds, which do the same: whether there is more, and whether some packets
 /// were sent.
-fn check_tick(
-    rt: &impl Abort,
-    one: &mut World,
-    other: &mut World,
-    now: Moment,
-) -> Result<(bool, bool), Fail> {
+fn check_tick(rt: &impl Abort, one: &mut World, other: &mut World, now: Moment) -> (bool, bool) {
     let tick = Event::Tick { site: 0, now };
-    let done = one.step(&tick)?;
-    let like = other.step(&tick)?;
+    let done = match one.step(&tick) {
+        Ok(done) => done,
+        Err(fault) => panic!(rt; "{fault}"),
+    };
+    let like = match other.step(&tick) {
+        Ok(like) => like,
+        Err(fault) => panic!(rt; "{fault}"),
+    };
     assert!(rt; did_alike(&done, &like));
-    Ok((done.more, !done.packets.as_slice().is_empty()))
+    (done.more, !done.packets.as_slice().is_empty())
 }
 
 /// What both worlds ask from then on, until all their questions have failed, is the same, and at
 /// first there are some.
-fn check_questions(rt: &impl Abort, twins: &mut Twins) -> Result<(), Fail> {
+fn check_questions(rt: &impl Abort, twins: &mut Twins) {
     let mut seconds = 104u16;
     for _ in 0..64 {
-        let (more, sent) = check_tick(rt, &mut twins.world, &mut twins.spared, at(seconds)?)?;
+        let (more, sent) = check_tick(rt, &mut twins.world, &mut twins.spared, at(rt, seconds));
         assert!(rt; seconds > 104 || sent);
         if !more {
             seconds = seconds.saturating_add(2);
         }
         if seconds > 110 {
             assert!(rt; are_alike(&twins.world, &twins.spared));
-            return Ok(());
+            return;
         }
     }
-    Err("still asking".into())
+    panic!(rt; "still asking")
 }
 
 /// Two worlds that were the same. The other one is spared what is refused.
@@ -221,53 +226,58 @@ struct Trial<'a> {
 }
 
 impl Trial<'_> {
-    fn new_twins(self) -> Result<Twins, Fail> {
-        let world = new_world(self.alloc, self.before, self.message)?;
-        let spared = new_world(self.alloc, self.before, self.message)?;
-        Ok(Twins {
+    fn new_twins(self, rt: &impl Abort) -> Twins {
+        let world = new_world(rt, self.alloc, self.before, self.message);
+        let spared = new_world(rt, self.alloc, self.before, self.message);
+        Twins {
             world,
             spared,
             since: 0,
-        })
+        }
     }
 
     /// The message comes in with another octet at a place.
-    fn event(self, place: usize, octet: u8) -> Result<Event, Fail> {
-        let mut bytes = self.message.to_vec(self.alloc)?;
+    fn event(self, rt: &impl Abort, place: usize, octet: u8) -> Event {
+        let mut bytes = self.message.to_vec(self.alloc).expect(rt, "memory");
         if let Some(old) = bytes.get_mut(place) {
             *old = octet;
         }
-        event(self.way, Octets::new(bytes))
+        event(rt, self.way, Octets::new(bytes))
     }
 }
 
 /// Octets come in: why they are refused, if they are.
-fn check_event(rt: &impl Abort, twins: &mut Twins, event: &Event) -> Result<Option<Refusal>, Fail> {
-    let done = twins.world.step(event)?;
+fn check_event(rt: &impl Abort, twins: &mut Twins, event: &Event) -> Option<Refusal> {
+    let done = match twins.world.step(event) {
+        Ok(done) => done,
+        Err(fault) => panic!(rt; "{fault}"),
+    };
     if done.refused.is_some() {
         assert!(rt; done.taken == 0 && done.frames.as_slice().is_empty());
         assert!(rt; are_alike(&twins.world, &twins.spared));
     } else {
-        let like = twins.spared.step(event)?;
+        let like = match twins.spared.step(event) {
+            Ok(like) => like,
+            Err(fault) => panic!(rt; "{fault}"),
+        };
         assert!(rt; did_alike(&done, &like));
         twins.since = twins.since.saturating_add(1);
     }
-    Ok(done.refused)
+    done.refused
 }
 
 /// How often octets were refused for a reason, and how often for none.
 type Count = (Option<Refusal>, u32);
 
 /// One more for this reason.
-fn count(counts: &mut Vec<Count>, refused: Option<Refusal>) -> Result<(), Fail> {
+fn count(rt: &impl Abort, counts: &mut Vec<Count>, refused: Option<Refusal>) {
     for (reason, number) in counts.iter_mut() {
         if *reason == refused {
             *number = number.saturating_add(1);
-            return Ok(());
+            return;
         }
     }
-    counts.push((refused, 1))?;
-    Ok(())
+    counts.push((refused, 1)).expect(rt, "memory");
 }
 
 /// A message comes in with each of the other octets at a place.
@@ -277,24 +287,23 @@ fn check_place(
     twins: &mut Twins,
     counts: &mut Vec<Count>,
     place: usize,
-) -> Result<(), Fail> {
+) {
     for octet in OTHERS {
-        let refused = check_event(rt, twins, &trial.event(place, *octet)?)?;
-        count(counts, refused)?;
+        let refused = check_event(rt, twins, &trial.event(rt, place, *octet));
+        count(rt, counts, refused);
         if twins.since == trial.way.limit() {
-            check_questions(rt, twins)?;
-            *twins = trial.new_twins()?;
+            check_questions(rt, twins);
+            *twins = trial.new_twins(rt);
         }
     }
-    Ok(())
 }
 
 /// The octets of a message, each replaced by five others in turn, come in at a running world, which
 /// begins anew when its question may have been answered, or much was taken in.
-fn check_message(rt: &impl Abort, trial: Trial<'_>, counts: &mut Vec<Count>) -> Result<(), Fail> {
-    let mut twins = trial.new_twins()?;
+fn check_message(rt: &impl Abort, trial: Trial<'_>, counts: &mut Vec<Count>) {
+    let mut twins = trial.new_twins(rt);
     for place in 0..trial.message.len() {
-        check_place(rt, trial, &mut twins, counts, place)?;
+        check_place(rt, trial, &mut twins, counts, place);
     }
     check_questions(rt, &mut twins)
 }
@@ -307,8 +316,8 @@ fn check_line(
     before: &[Event],
     line: &str,
     counts: &mut Vec<Count>,
-) -> Result<(), Fail> {
-    let octets = octets(alloc, line)?;
+) {
+    let octets = octets(rt, alloc, line);
     let message = octets.as_slice();
     let trial = Trial {
         alloc,
@@ -320,20 +329,13 @@ fn check_line(
 }
 
 /// All messages come in so, and it is counted how often they are refused for each reason.
-fn count_all(
-    rt: &impl Abort,
-    alloc: Global,
-    way: Way,
-    messages: &str,
-    counts: &mut Vec<Count>,
-) -> Result<(), Fail> {
-    let before = events_of(alloc, BEFORE)?;
+fn count_all(rt: &impl Abort, alloc: Global, way: Way, messages: &str, counts: &mut Vec<Count>) {
+    let before = events_of(rt, alloc, BEFORE);
     for line in messages.lines() {
         if !line.starts_with('#') {
-            check_line(rt, alloc, way, &before, line, counts)?;
+            check_line(rt, alloc, way, &before, line, counts);
         }
     }
-    Ok(())
 }
 
 /// A reason and how often octets were refused for it, as a line.
@@ -346,46 +348,33 @@ fn line_of(alloc: Global, count: Count) -> Result<String, AllocError> {
 }
 
 /// A count is one of the lines that are wanted.
-fn check_count(rt: &impl Abort, alloc: Global, count: Count, wanted: &str) -> Result<(), Fail> {
-    let line = line_of(alloc, count)?;
+fn check_count(rt: &impl Abort, alloc: Global, count: Count, wanted: &str) {
+    let line = line_of(alloc, count).expect(rt, "memory");
     assert!(rt;
         wanted.lines().any(|other| other == line.as_str()),
         "{line}"
     );
-    Ok(())
 }
 
 /// The counts are the lines that are wanted.
-fn check_counts(
-    rt: &impl Abort,
-    alloc: Global,
-    counts: &[Count],
-    wanted: &str,
-) -> Result<(), Fail> {
+fn check_counts(rt: &impl Abort, alloc: Global, counts: &[Count], wanted: &str) {
     for count in counts {
-        check_count(rt, alloc, *count, wanted)?;
+        check_count(rt, alloc, *count, wanted);
     }
     assert_eq!(rt; counts.len(), wanted.lines().count());
-    Ok(())
 }
 
 /// All messages come in so, and they are refused as often as is wanted for each reason: there is a
 /// line for each, in any order, and one for those that are not refused. How often that is, another
 /// program counted, which reads the formats on its own.
-fn check_messages(
-    rt: &impl Abort,
-    alloc: Global,
-    way: Way,
-    messages: &str,
-    wanted: &str,
-) -> Result<(), Fail> {
+fn check_messages(rt: &impl Abort, alloc: Global, way: Way, messages: &str, wanted: &str) {
     let mut counts = Vec::new(alloc);
-    count_all(rt, alloc, way, messages, &mut counts)?;
+    count_all(rt, alloc, way, messages, &mut counts);
     check_counts(rt, alloc, &counts, wanted)
 }
 
 /// The same, with the messages and frames of the worked examples.
-fn check_way(rt: &impl Abort, alloc: Global, way: Way, wanted: &str) -> Result<(), Fail> {
+fn check_way(rt: &impl Abort, alloc: Global, way: Way, wanted: &str) {
     check_messages(rt, alloc, way, WORKED, wanted)
 }
 
@@ -396,7 +385,7 @@ fn there_are_102_messages(rt: HostRuntime) {
 }
 
 #[test]
-fn refused_datagrams_of_strangers_change_nothing(rt: HostRuntime) -> Result<(), Fail> {
+fn refused_datagrams_of_strangers_change_nothing(rt: HostRuntime) {
     check_way(
         &rt,
         rt.alloc(),
@@ -414,7 +403,7 @@ Read(LongName) 1336
 }
 
 #[test]
-fn refused_datagrams_of_an_upstream_change_nothing(rt: HostRuntime) -> Result<(), Fail> {
+fn refused_datagrams_of_an_upstream_change_nothing(rt: HostRuntime) {
     check_way(
         &rt,
         rt.alloc(),
@@ -451,26 +440,26 @@ Frame(Trailing) 153
 ";
 
 #[test]
-fn refused_datagrams_of_a_peer_change_nothing(rt: HostRuntime) -> Result<(), Fail> {
+fn refused_datagrams_of_a_peer_change_nothing(rt: HostRuntime) {
     check_way(&rt, rt.alloc(), Way::Peer, FRAMES)
 }
 
 #[test]
-fn refused_frames_change_nothing(rt: HostRuntime) -> Result<(), Fail> {
+fn refused_frames_change_nothing(rt: HostRuntime) {
     check_way(&rt, rt.alloc(), Way::Frame, FRAMES)
 }
 
 /// The frames of the worked examples in the version that is written, and those with flushes.
-fn written_frames(alloc: Global) -> Result<String, Fail> {
+fn written_frames(rt: &impl Abort, alloc: Global) -> String {
     let mut frames = String::new(alloc);
     for line in WORKED.lines() {
         let parts = parts_of(line).unwrap_or(line);
         if let Some(rest) = parts.trim_start().strip_prefix("4447 01") {
-            writeln!(frames, "4447 02{rest}")?;
+            writeln!(frames, "4447 02{rest}").expect(rt, "memory");
         }
     }
-    frames.push_str(FLUSHES)?;
-    Ok(frames)
+    frames.push_str(FLUSHES).expect(rt, "memory");
+    frames
 }
 
 /// How often those are refused for each reason, whoever they are from.
@@ -489,21 +478,19 @@ Frame(BadBody) 584
 ";
 
 #[test]
-fn refused_datagrams_of_a_peer_change_nothing_in_the_version_written(
-    rt: HostRuntime,
-) -> Result<(), Fail> {
-    let frames = written_frames(rt.alloc())?;
+fn refused_datagrams_of_a_peer_change_nothing_in_the_version_written(rt: HostRuntime) {
+    let frames = written_frames(&rt, rt.alloc());
     check_messages(&rt, rt.alloc(), Way::Peer, frames.as_str(), WRITTEN)
 }
 
 #[test]
-fn refused_frames_change_nothing_in_the_version_written(rt: HostRuntime) -> Result<(), Fail> {
-    let frames = written_frames(rt.alloc())?;
+fn refused_frames_change_nothing_in_the_version_written(rt: HostRuntime) {
+    let frames = written_frames(&rt, rt.alloc());
     check_messages(&rt, rt.alloc(), Way::Frame, frames.as_str(), WRITTEN)
 }
 
 #[test]
-fn refused_replies_change_nothing(rt: HostRuntime) -> Result<(), Fail> {
+fn refused_replies_change_nothing(rt: HostRuntime) {
     check_way(
         &rt,
         rt.alloc(),
@@ -524,77 +511,77 @@ Digest(BadChain) 456
 }
 
 /// A frame, and zeros behind it, of 16385 octets together.
-fn too_long(alloc: Global) -> Result<Vec<u8>, Fail> {
-    let mut bytes = octets(alloc, "held")?.into_vec();
+fn too_long(rt: &impl Abort, alloc: Global) -> Vec<u8> {
+    let mut bytes = octets(rt, alloc, "held").into_vec();
     for _ in bytes.len()..16385 {
-        bytes.push(0)?;
+        bytes.push(0).expect(rt, "memory");
     }
-    Ok(bytes)
+    bytes
 }
 
 /// Octets come in and are refused, for this reason.
-fn check_refused(
-    rt: &impl Abort,
-    twins: &mut Twins,
-    way: Way,
-    bytes: Octets,
-    refusal: Refusal,
-) -> Result<(), Fail> {
-    let refused = check_event(rt, twins, &event(way, bytes)?)?;
+fn check_refused(rt: &impl Abort, twins: &mut Twins, way: Way, bytes: Octets, refusal: Refusal) {
+    let refused = check_event(rt, twins, &event(rt, way, bytes));
     assert_eq!(rt; refused, Some(refusal));
-    Ok(())
 }
 
 /// Octets are too long, as what they may come in.
-fn check_too_long(
-    rt: &impl Abort,
-    alloc: Global,
-    twins: &mut Twins,
-    bytes: &[u8],
-) -> Result<(), Fail> {
+fn check_too_long(rt: &impl Abort, alloc: Global, twins: &mut Twins, bytes: &[u8]) {
     let frame = Refusal::Frame(FrameFault::TooLong);
     let reply = Refusal::Read(ReadFault::TooLong);
-    check_refused(rt, twins, Way::Peer, Octets::copy_of(alloc, bytes)?, frame)?;
-    check_refused(rt, twins, Way::Frame, Octets::copy_of(alloc, bytes)?, frame)?;
-    check_refused(rt, twins, Way::Reply, Octets::copy_of(alloc, bytes)?, reply)
+    check_refused(
+        rt,
+        twins,
+        Way::Peer,
+        Octets::copy_of(alloc, bytes).expect(rt, "memory"),
+        frame,
+    );
+    check_refused(
+        rt,
+        twins,
+        Way::Frame,
+        Octets::copy_of(alloc, bytes).expect(rt, "memory"),
+        frame,
+    );
+    check_refused(
+        rt,
+        twins,
+        Way::Reply,
+        Octets::copy_of(alloc, bytes).expect(rt, "memory"),
+        reply,
+    )
 }
 
 /// Octets that are too long. At each of many places others replace the octet.
-fn check_places(
-    rt: &impl Abort,
-    alloc: Global,
-    twins: &mut Twins,
-    bytes: &mut [u8],
-) -> Result<(), Fail> {
+fn check_places(rt: &impl Abort, alloc: Global, twins: &mut Twins, bytes: &mut [u8]) {
     for place in (0..bytes.len()).step_by(64) {
         for octet in OTHERS {
             if let Some(old) = bytes.get_mut(place) {
                 *old = *octet;
             }
-            check_too_long(rt, alloc, twins, bytes)?;
+            check_too_long(rt, alloc, twins, bytes);
         }
     }
-    Ok(())
 }
 
 /// Octets that are too long come in so, and then time passes.
-fn check_long(rt: &impl Abort, alloc: Global, twins: &mut Twins) -> Result<(), Fail> {
-    let mut bytes = too_long(alloc)?;
-    check_places(rt, alloc, twins, &mut bytes)?;
+fn check_long(rt: &impl Abort, alloc: Global, twins: &mut Twins) {
+    let mut bytes = too_long(rt, alloc);
+    check_places(rt, alloc, twins, &mut bytes);
     check_questions(rt, twins)
 }
 
 #[test]
-fn what_is_too_long_changes_nothing(rt: HostRuntime) -> Result<(), Fail> {
+fn what_is_too_long_changes_nothing(rt: HostRuntime) {
     let alloc = rt.alloc();
-    let before = events_of(alloc, BEFORE)?;
-    let held = octets(alloc, "held")?;
+    let before = events_of(&rt, alloc, BEFORE);
+    let held = octets(&rt, alloc, "held");
     let trial = Trial {
         alloc,
         way: Way::Frame,
         before: &before,
         message: held.as_slice(),
     };
-    let mut twins = trial.new_twins()?;
+    let mut twins = trial.new_twins(&rt);
     check_long(&rt, alloc, &mut twins)
 }

@@ -9,7 +9,6 @@ use fleet_wire::{
 };
 use std::alloc::Global;
 use std::process::Abort;
-use std::test::Fail;
 
 /// Messages, each with its reply of the same records with every name in full, opcode 0, RA set and
 /// AA clear: header and question alone, cut off, where that has over 512 octets. Or its fault.
@@ -336,209 +335,219 @@ reply <aliases-relay> => <aliases-relay>
 const OCTETS: [u8; 5] = [0x00, 0x3f, 0x40, 0xc0, 0xff];
 
 /// Adds a record to the answer section of an outline.
-fn add_answer<'a>(outline: &mut Outline<'a>, record: &'a Record) -> Result<(), Fail> {
+fn add_answer<'a>(rt: &impl Abort, outline: &mut Outline<'a>, record: &'a Record) {
     let rdata = record.rdata.as_slice();
-    Ok(outline.answer(&record.name, record.rtype, record.ttl, rdata)?)
+    outline
+        .answer(&record.name, record.rtype, record.ttl, rdata)
+        .expect(rt, "a record");
 }
 
 /// Adds a record to the authority section of an outline.
-fn add_authority<'a>(outline: &mut Outline<'a>, record: &'a Record) -> Result<(), Fail> {
+fn add_authority<'a>(rt: &impl Abort, outline: &mut Outline<'a>, record: &'a Record) {
     let rdata = record.rdata.as_slice();
-    Ok(outline.authority(&record.name, record.rtype, record.ttl, rdata)?)
+    outline
+        .authority(&record.name, record.rtype, record.ttl, rdata)
+        .expect(rt, "a record");
 }
 
 /// Adds the records of a reply as an outline's.
-fn add_records<'a>(outline: &mut Outline<'a>, reply: &'a Message) -> Result<(), Fail> {
+fn add_records<'a>(rt: &impl Abort, outline: &mut Outline<'a>, reply: &'a Message) {
     for record in reply.answer() {
-        add_answer(outline, record)?;
+        add_answer(rt, outline, record);
     }
     for record in reply.authority() {
-        add_authority(outline, record)?;
+        add_authority(rt, outline, record);
     }
-    Ok(())
 }
 
 /// Adds the records of a reply, written again.
-fn push_rewritten(alloc: Global, reply: &Message, output: &mut String) -> Result<(), Fail> {
+fn push_rewritten(rt: &impl Abort, alloc: Global, reply: &Message, output: &mut String) {
     let header = reply.header();
     let question = Some(reply.question());
     let rcode = header.rcode % 16;
     let mut outline = Outline::new(alloc, header.id, 0, header.rd, rcode, false, question);
-    add_records(&mut outline, reply)?;
-    let octets = written_twice(alloc, &outline)?;
-    push_octets(output, octets.as_slice())
+    add_records(rt, &mut outline, reply);
+    let octets = written_twice(rt, alloc, &outline);
+    push_octets(rt, output, octets.as_slice());
 }
 
 /// The records of a reply, written again, or why it is none.
 pub(crate) fn show_rewritten(
+    rt: &impl Abort,
     alloc: Global,
     mut words: Words<'_>,
     output: &mut String,
-) -> Result<(), Fail> {
-    let message = words.octets(alloc)?;
+) {
+    let message = words.octets(rt, alloc);
     match read_reply(alloc, message.as_slice()) {
-        Ok(reply) => push_rewritten(alloc, &reply, output),
-        Err(fault) => push_fault(output, fault),
+        Ok(reply) => push_rewritten(rt, alloc, &reply, output),
+        Err(fault) => push_fault(rt, output, fault),
     }
 }
 
 #[test]
-fn reads_each_message(rt: HostRuntime) -> Result<(), Fail> {
+fn reads_each_message(rt: HostRuntime) {
     assert_eq!(rt; rows_of(EXAMPLES), 56);
-    check_rows(&rt, rt.alloc(), EXAMPLES)
+    check_rows(&rt, rt.alloc(), EXAMPLES);
 }
 
 /// Adds the records of a reply as an outline's, with 50 seconds left and 290.
-fn add_shorter<'a>(outline: &mut Outline<'a>, reply: &'a Message) -> Result<(), Fail> {
+fn add_shorter<'a>(rt: &impl Abort, outline: &mut Outline<'a>, reply: &'a Message) {
     for record in reply.answer() {
-        outline.answer(&record.name, record.rtype, 50, record.rdata.as_slice())?;
+        outline
+            .answer(&record.name, record.rtype, 50, record.rdata.as_slice())
+            .expect(rt, "a record");
     }
     for record in reply.authority() {
-        outline.authority(&record.name, record.rtype, 290, record.rdata.as_slice())?;
+        outline
+            .authority(&record.name, record.rtype, 290, record.rdata.as_slice())
+            .expect(rt, "a record");
     }
-    Ok(())
 }
 
 /// Adds a reply of these records to a question.
 fn push_shorter(
+    rt: &impl Abort,
     alloc: Global,
     reply: &Message,
     question: &Question,
     output: &mut String,
-) -> Result<(), Fail> {
+) {
     let mut outline = Outline::new(alloc, 7, 0, true, 3, false, Some(question));
-    add_shorter(&mut outline, reply)?;
-    let octets = written_twice(alloc, &outline)?;
-    push_octets(output, octets.as_slice())
+    add_shorter(rt, &mut outline, reply);
+    let octets = written_twice(rt, alloc, &outline);
+    push_octets(rt, output, octets.as_slice());
 }
 
 /// A reply relayed with 50 and 290 seconds, as a name error with the identifier 7 and RD.
 pub(crate) fn show_relayed(
+    rt: &impl Abort,
     alloc: Global,
     mut words: Words<'_>,
     output: &mut String,
-) -> Result<(), Fail> {
-    let message = words.octets(alloc)?;
-    let reply = read_reply(alloc, message.as_slice())?;
-    let question = reply.question().try_clone()?;
-    push_shorter(alloc, &reply, &question, output)
+) {
+    let message = words.octets(rt, alloc);
+    let reply = read_reply(alloc, message.as_slice()).expect(rt, "a reply");
+    let question = reply.question().try_clone().expect(rt, "memory");
+    push_shorter(rt, alloc, &reply, &question, output);
 }
 
 #[test]
-fn relays_aliases(rt: HostRuntime) -> Result<(), Fail> {
+fn relays_aliases(rt: HostRuntime) {
     let rows = "\
 relayed <aliases-reply> => <aliases-relay>";
-    check_rows(&rt, rt.alloc(), rows)
+    check_rows(&rt, rt.alloc(), rows);
 }
 
 /// Adds a question as it was spelled, and the query for it.
-fn push_question(alloc: Global, question: &Question, output: &mut String) -> Result<(), Fail> {
-    push_octets(output, question.spelled.as_slice())?;
-    output.push_str(" ")?;
-    let query = write_query(alloc, 0x1234, question)?;
-    push_octets(output, query.as_slice())
+fn push_question(rt: &impl Abort, alloc: Global, question: &Question, output: &mut String) {
+    push_octets(rt, output, question.spelled.as_slice());
+    output.push_str(" ").expect(rt, "memory");
+    let query = write_query(alloc, 0x1234, question).expect(rt, "a query");
+    push_octets(rt, output, query.as_slice());
 }
 
 /// The identifier of a question, its name as it is spelled, and the query for it under 0x1234.
 pub(crate) fn show_asked(
+    rt: &impl Abort,
     alloc: Global,
     mut words: Words<'_>,
     output: &mut String,
-) -> Result<(), Fail> {
-    let message = words.octets(alloc)?;
-    check_in_place(alloc, message.as_slice())?;
-    let (header, question) = read_query(alloc, message.as_slice())?;
-    write!(output, "{} ", header.id)?;
-    push_question(alloc, &question, output)
+) {
+    let message = words.octets(rt, alloc);
+    check_in_place(rt, alloc, message.as_slice());
+    let (header, question) = read_query(alloc, message.as_slice()).expect(rt, "a question");
+    write!(output, "{} ", header.id).expect(rt, "memory");
+    push_question(rt, alloc, &question, output);
 }
 
 #[test]
-fn queries_in_lower_case(rt: HostRuntime) -> Result<(), Fail> {
+fn queries_in_lower_case(rt: HostRuntime) {
     let rows = "\
 # => id 4660 rd: www. IN AAAA
 asked <mixed-question> => 9 03'wWw'00 12340100000100000000000003'www'00001c0001";
-    check_rows(&rt, rt.alloc(), rows)
+    check_rows(&rt, rt.alloc(), rows);
 }
 
 /// A message with this octet at a place.
-fn message_with(alloc: Global, message: &[u8], at: usize, octet: u8) -> Result<Vec<u8>, Fail> {
-    let mut other = message.to_vec(alloc)?;
-    *other.get_mut(at).ok_or("no place")? = octet;
-    Ok(other)
+fn message_with(rt: &impl Abort, alloc: Global, message: &[u8], at: usize, octet: u8) -> Vec<u8> {
+    let mut other = message.to_vec(alloc).expect(rt, "memory");
+    *other.get_mut(at).expect(rt, "a place") = octet;
+    other
 }
 
 /// Reads a message with this octet at a place.
-fn read_with(alloc: Global, message: &[u8], at: usize, octet: u8) -> Result<(), Fail> {
-    let other = message_with(alloc, message, at, octet)?;
+fn read_with(rt: &impl Abort, alloc: Global, message: &[u8], at: usize, octet: u8) {
+    let other = message_with(rt, alloc, message, at, octet);
     let mut output = String::new(alloc);
-    push_both(alloc, other.as_slice(), &mut output)
+    push_both(rt, alloc, other.as_slice(), &mut output);
 }
 
 /// Reads a message with each octet at each place, and says how many places it has.
-fn read_with_each(alloc: Global, message: &[u8]) -> Result<usize, Fail> {
+fn read_with_each(rt: &impl Abort, alloc: Global, message: &[u8]) -> usize {
     for at in 0..message.len() {
         for octet in OCTETS {
-            read_with(alloc, message, at, octet)?;
+            read_with(rt, alloc, message, at, octet);
         }
     }
-    Ok(message.len())
+    message.len()
 }
 
 /// Reads the message of a row with each octet at each place, and says how many places it has.
-fn read_row(alloc: Global, row: &str) -> Result<usize, Fail> {
-    let asked = row.strip_prefix("reply ").ok_or("no reply")?;
-    let (word, _) = asked.split_once(' ').ok_or("no message")?;
-    let message = octets_of(alloc, word)?;
-    read_with_each(alloc, message.as_slice())
+fn read_row(rt: &impl Abort, alloc: Global, row: &str) -> usize {
+    let asked = row.strip_prefix("reply ").expect(rt, "a reply");
+    let (word, _) = asked.split_once(' ').expect(rt, "a message");
+    let message = octets_of(rt, alloc, word);
+    read_with_each(rt, alloc, message.as_slice())
 }
 
 /// Reads the messages of a table so, and says how many places they have.
-fn read_rows(alloc: Global, rows: &str) -> Result<usize, Fail> {
+fn read_rows(rt: &impl Abort, alloc: Global, rows: &str) -> usize {
     let mut places = 0usize;
     for row in rows.lines() {
         if is_row(row) {
-            places = places.saturating_add(read_row(alloc, row)?);
+            places = places.saturating_add(read_row(rt, alloc, row));
         }
     }
-    Ok(places)
+    places
 }
 
 #[test]
-fn returns_whatever_an_octet_is(rt: HostRuntime) -> Result<(), Fail> {
-    assert_eq!(rt; read_rows(rt.alloc(), EXAMPLES)?, 4969);
-    Ok(())
+fn returns_whatever_an_octet_is(rt: HostRuntime) {
+    assert_eq!(rt; read_rows(&rt, rt.alloc(), EXAMPLES), 4969);
 }
 
 /// A reply with one record of a type, whose RDATA begins at place 39; its question is for a.example,
 /// whose name begins at place 12.
-fn reply_with(alloc: Global, rtype: u16, rdata: &str) -> Result<Vec<u8>, Fail> {
-    let length = octets_of(alloc, rdata)?.len();
+fn reply_with(rt: &impl Abort, alloc: Global, rtype: u16, rdata: &str) -> Vec<u8> {
+    let length = octets_of(rt, alloc, rdata).len();
     let text = format!(in alloc;
         "00018180000100010000000001'a'07'example'0000010001c00c{rtype:04x}00010000012c{length:04x}{rdata}"
-    )?;
-    octets_of(alloc, text.as_str())
+    ).expect(rt, "memory");
+    octets_of(rt, alloc, text.as_str())
 }
 
 /// Adds the RDATA of the first record of a message, or why it is none.
-fn push_rdata(alloc: Global, message: &[u8], output: &mut String) -> Result<(), Fail> {
+fn push_rdata(rt: &impl Abort, alloc: Global, message: &[u8], output: &mut String) {
     match read_reply(alloc, message) {
         Ok(reply) => {
-            let record = reply.answer().first().ok_or("no record")?;
-            push_octets(output, record.rdata.as_slice())
+            let record = reply.answer().first().expect(rt, "a record");
+            push_octets(rt, output, record.rdata.as_slice())
         }
-        Err(fault) => push_fault(output, fault),
+        Err(fault) => push_fault(rt, output, fault),
     }
 }
 
 /// What is read of the RDATA of a type.
 pub(crate) fn show_rdata(
+    rt: &impl Abort,
     alloc: Global,
     mut words: Words<'_>,
     output: &mut String,
-) -> Result<(), Fail> {
-    let rtype = words.word().parse()?;
-    let message = reply_with(alloc, rtype, words.word())?;
-    push_rdata(alloc, message.as_slice(), output)
+) {
+    let rtype = words.word().parse().expect(rt, "a number");
+    let message = reply_with(rt, alloc, rtype, words.word());
+    push_rdata(rt, alloc, message.as_slice(), output);
 }
 
 /// The types with names in their RDATA (RFC 1035 3.3, RFC 2782), each with RDATA whose names are
@@ -559,47 +568,46 @@ rdata 33 {ff*6}c00c => {ff*6}01'a'07'example'00
 ";
 
 /// Whether a type's RDATA has names: a pointer alone is then expanded or refused.
-fn has_names(alloc: Global, rtype: u16) -> Result<bool, Fail> {
+fn has_names(rt: &impl Abort, alloc: Global, rtype: u16) -> bool {
     let pointer = b"\xc0\x0c";
-    let message = reply_with(alloc, rtype, "c00c")?;
+    let message = reply_with(rt, alloc, rtype, "c00c");
     match read_reply(alloc, &message) {
         Ok(reply) => {
-            let record = reply.answer().first().ok_or("no record")?;
-            Ok(record.rdata.as_slice() != pointer.as_slice())
+            let record = reply.answer().first().expect(rt, "a record");
+            record.rdata.as_slice() != pointer.as_slice()
         }
-        Err(_) => Ok(true),
+        Err(_) => true,
     }
 }
 
 /// How many of the 65536 types have names in their RDATA. A pointer alone is plain RDATA of each
 /// other one.
-fn count_shaped(rt: &impl Abort, alloc: Global) -> Result<usize, Fail> {
+fn count_shaped(rt: &impl Abort, alloc: Global) -> usize {
     let mut shaped = 0usize;
     for rtype in 0..=u16::MAX {
-        let has_names = has_names(alloc, rtype)?;
+        let has_names = has_names(rt, alloc, rtype);
         assert!(rt;
             plain_rdata(rtype, b"\xc0\x0c") != has_names,
             "type {rtype}"
         );
         shaped = shaped.saturating_add(usize::from(has_names));
     }
-    Ok(shaped)
+    shaped
 }
 
 #[test]
-fn shapes_of_types(rt: HostRuntime) -> Result<(), Fail> {
-    check_rows(&rt, rt.alloc(), SHAPES)?;
-    assert_eq!(rt; count_shaped(&rt, rt.alloc())?, rows_of(SHAPES));
-    Ok(())
+fn shapes_of_types(rt: HostRuntime) {
+    check_rows(&rt, rt.alloc(), SHAPES);
+    assert_eq!(rt; count_shaped(&rt, rt.alloc()), rows_of(SHAPES));
 }
 
 #[test]
-fn knows_plain_rdata(rt: HostRuntime) -> Result<(), Fail> {
+fn knows_plain_rdata(rt: HostRuntime) {
     let rows = "
 plain 15 000a04'mail'00 => true
 plain 15 000a04'Mail'00 => false
 plain 15 000ac00c => false
 plain 15 000a04'mail'0000 => false
 plain 16 c00c => true";
-    check_rows(&rt, rt.alloc(), rows)
+    check_rows(&rt, rt.alloc(), rows);
 }

@@ -6,16 +6,14 @@
 use crate::tests::calls::check_calls;
 use std::alloc::Global;
 use std::process::Abort;
-use std::test::Fail;
 
 /// Checks what is taken in each of some orders, with an empty line between them, and then what is
 /// there.
-fn check_orders(rt: &impl Abort, alloc: Global, orders: &str, left: &str) -> Result<(), Fail> {
+fn check_orders(rt: &impl Abort, alloc: Global, orders: &str, left: &str) {
     for taken in orders.split("\n\n") {
-        let rows = format!(in alloc; "{taken}{left}")?;
-        check_calls(rt, alloc, rows.as_str())?;
+        let rows = format!(in alloc; "{taken}{left}").expect(rt, "memory");
+        check_calls(rt, alloc, rows.as_str());
     }
-    Ok(())
 }
 
 /// What is left where the flush lies between the two: it, and what was stamped later.
@@ -27,7 +25,7 @@ purge 86519 => 1 3/86400
 purge 86520 => 0 empty";
 
 #[test]
-fn a_flush_withdraws_what_was_stamped_before(rt: HostRuntime) -> Result<(), Fail> {
+fn a_flush_withdraws_what_was_stamped_before(rt: HostRuntime) {
     let orders = "
 take example.com 1 3 100 300 c0000201 => true
 take example.com 1 1 150 100 c0000202 => true
@@ -40,11 +38,11 @@ take example.com 1 1 150 100 c0000202 => true
 flush com 120 => true
 take example.com 1 3 100 300 c0000201 => false
 take example.com 1 1 150 100 c0000202 => true";
-    check_orders(&rt, rt.alloc(), orders, BETWEEN)
+    check_orders(&rt, rt.alloc(), orders, BETWEEN);
 }
 
 #[test]
-fn a_flush_withdraws_in_the_other_order_too(rt: HostRuntime) -> Result<(), Fail> {
+fn a_flush_withdraws_in_the_other_order_too(rt: HostRuntime) {
     let orders = "
 take example.com 1 1 150 100 c0000202 => true
 take example.com 1 3 100 300 c0000201 => true
@@ -57,7 +55,7 @@ take example.com 1 3 100 300 c0000201 => false
 flush com 120 => true
 take example.com 1 1 150 100 c0000202 => true
 take example.com 1 3 100 300 c0000201 => false";
-    check_orders(&rt, rt.alloc(), orders, BETWEEN)
+    check_orders(&rt, rt.alloc(), orders, BETWEEN);
 }
 
 /// What is left where the flush has the stamp of the second: it alone.
@@ -66,7 +64,7 @@ items => 1 3/86400
 answer example.com 1 200 => Miss";
 
 #[test]
-fn a_flush_withdraws_what_was_stamped_in_its_second(rt: HostRuntime) -> Result<(), Fail> {
+fn a_flush_withdraws_what_was_stamped_in_its_second(rt: HostRuntime) {
     let orders = "
 take example.com 1 3 100 300 c0000201 => true
 take example.com 1 1 150 100 c0000202 => true
@@ -79,11 +77,11 @@ take example.com 1 1 150 100 c0000202 => false
 flush com 150 => true
 take example.com 1 3 100 300 c0000201 => false
 take example.com 1 1 150 100 c0000202 => false";
-    check_orders(&rt, rt.alloc(), orders, AFTER)
+    check_orders(&rt, rt.alloc(), orders, AFTER);
 }
 
 #[test]
-fn a_flush_in_that_second_in_the_other_order(rt: HostRuntime) -> Result<(), Fail> {
+fn a_flush_in_that_second_in_the_other_order(rt: HostRuntime) {
     let orders = "
 take example.com 1 1 150 100 c0000202 => true
 take example.com 1 3 100 300 c0000201 => true
@@ -96,7 +94,7 @@ take example.com 1 3 100 300 c0000201 => false
 flush com 150 => true
 take example.com 1 1 150 100 c0000202 => false
 take example.com 1 3 100 300 c0000201 => false";
-    check_orders(&rt, rt.alloc(), orders, AFTER)
+    check_orders(&rt, rt.alloc(), orders, AFTER);
 }
 
 /// What is left where the flush is of a name below: all.
@@ -105,7 +103,7 @@ items => 3 3/86400 3/300 1/100
 answer example.com 1 200 => Found 0 200 1";
 
 #[test]
-fn a_flush_below_a_name_withdraws_nothing_of_it(rt: HostRuntime) -> Result<(), Fail> {
+fn a_flush_below_a_name_withdraws_nothing_of_it(rt: HostRuntime) {
     let orders = "
 take example.com 1 3 100 300 c0000201 => true
 take example.com 1 1 150 100 c0000202 => true
@@ -118,11 +116,11 @@ take example.com 1 1 150 100 c0000202 => true
 flush a.example.com 150 => true
 take example.com 1 3 100 300 c0000201 => true
 take example.com 1 1 150 100 c0000202 => true";
-    check_orders(&rt, rt.alloc(), orders, BELOW)
+    check_orders(&rt, rt.alloc(), orders, BELOW);
 }
 
 #[test]
-fn a_flush_below_a_name_in_the_other_order(rt: HostRuntime) -> Result<(), Fail> {
+fn a_flush_below_a_name_in_the_other_order(rt: HostRuntime) {
     let orders = "
 take example.com 1 1 150 100 c0000202 => true
 take example.com 1 3 100 300 c0000201 => true
@@ -135,11 +133,11 @@ take example.com 1 3 100 300 c0000201 => true
 flush a.example.com 150 => true
 take example.com 1 1 150 100 c0000202 => true
 take example.com 1 3 100 300 c0000201 => true";
-    check_orders(&rt, rt.alloc(), orders, BELOW)
+    check_orders(&rt, rt.alloc(), orders, BELOW);
 }
 
 #[test]
-fn what_is_withdrawn_leaves_the_memory(rt: HostRuntime) -> Result<(), Fail> {
+fn what_is_withdrawn_leaves_the_memory(rt: HostRuntime) {
     let rows = "
 # The first flush makes room for the cursor's key, the second one in the front of their key.
 flush com 90 => true
@@ -156,11 +154,11 @@ answer c1.com 1 110 => Miss
 answer c3.com 1 110 => Miss
 purge 200 => 1 3/86400
 used => Equal";
-    check_calls(&rt, rt.alloc(), rows)
+    check_calls(&rt, rt.alloc(), rows);
 }
 
 #[test]
-fn a_flush_of_the_root_withdraws_each_kind(rt: HostRuntime) -> Result<(), Fail> {
+fn a_flush_of_the_root_withdraws_each_kind(rt: HostRuntime) {
     let rows = "
 deny b.example.com 0 3 100 300 example.com => true
 deny example.com 28 3 100 300 com => true
@@ -186,5 +184,5 @@ flush x.b.example.com 300 => true
 answer x.b.example.com 1 310 => NxDomain 0 91
 flush b.example.com 300 => true
 answer x.b.example.com 1 310 => Miss";
-    check_calls(&rt, rt.alloc(), rows)
+    check_calls(&rt, rt.alloc(), rows);
 }

@@ -7,47 +7,42 @@ use fleet_wire::{
 };
 use std::alloc::Global;
 use std::process::Abort;
-use std::test::Fail;
 
 /// Whether a question that is read in place is the one that is read otherwise: the message has one,
 /// whose name is in full and in lower case behind the header.
-pub(crate) fn check_in_place(alloc: Global, message: &[u8]) -> Result<(), Fail> {
+pub(crate) fn check_in_place(rt: &impl Abort, alloc: Global, message: &[u8]) {
     match (read_plain_query(message), read_query(alloc, message)) {
-        (None, Err(_)) => Ok(()),
+        (None, Err(_)) => (),
         (Some((header, plain)), Ok((other, question))) => {
             let lent = question.lend();
             let is_same = header == other
                 && plain.name() == question.spelled.as_slice()
                 && plain.name() == lent.name()
                 && (plain.rtype(), plain.class()) == (lent.rtype(), lent.class());
-            if is_same {
-                Ok(())
-            } else {
-                Err("another question".into())
+            if !is_same {
+                panic!(rt; "another question");
             }
         }
         (None, Ok((_, question))) => {
             let name = question.name.octets();
             let is_plain = message[12..].starts_with(name);
             if is_plain {
-                Err("a plain question was not read".into())
-            } else {
-                Ok(())
+                panic!(rt; "a plain question was not read");
             }
         }
-        (Some(_), Err(_)) => Err("what is no question was read".into()),
+        (Some(_), Err(_)) => panic!(rt; "what is no question was read"),
     }
 }
 
 /// A reply, written for itself and into a buffer that holds other octets.
-pub(crate) fn written_twice(alloc: Global, outline: &Outline) -> Result<Vec<u8>, Fail> {
-    let octets = write_reply(alloc, outline)?;
-    let mut buffer = vec![in alloc; 1, 2, 3]?;
-    write_reply_into(&mut buffer, outline)?;
+pub(crate) fn written_twice(rt: &impl Abort, alloc: Global, outline: &Outline) -> Vec<u8> {
+    let octets = write_reply(alloc, outline).expect(rt, "a reply");
+    let mut buffer = vec![in alloc; 1, 2, 3].expect(rt, "memory");
+    write_reply_into(&mut buffer, outline).expect(rt, "a reply");
     if buffer == octets {
-        Ok(octets)
+        octets
     } else {
-        Err("two replies".into())
+        panic!(rt; "two replies")
     }
 }
 
@@ -60,16 +55,18 @@ fn is_copy(question: &LentQuestion<'_>, copy: &Question) -> bool {
 
 /// The identifier, the type, the class and the name of a question that is read in place, if it is.
 pub(crate) fn show_in_place(
+    rt: &impl Abort,
     alloc: Global,
     mut words: Words<'_>,
     output: &mut String,
-) -> Result<(), Fail> {
-    let message = words.octets(alloc)?;
+) {
+    let message = words.octets(rt, alloc);
     let Some((header, question)) = read_plain_query(message.as_slice()) else {
-        return Ok(output.push_str("none")?);
+        output.push_str("none").expect(rt, "memory");
+        return;
     };
-    if !is_copy(&question, &question.try_copy(alloc)?) {
-        return Err("another copy".into());
+    if !is_copy(&question, &question.try_copy(alloc).expect(rt, "memory")) {
+        panic!(rt; "another copy");
     }
     write!(
         output,
@@ -77,13 +74,14 @@ pub(crate) fn show_in_place(
         header.id,
         question.rtype(),
         question.class()
-    )?;
-    push_octets(output, question.name())
+    )
+    .expect(rt, "memory");
+    push_octets(rt, output, question.name());
 }
 
 /// The last but one has a capital letter, and the last a pointer.
 #[test]
-fn plain_questions_are_read_in_place(rt: HostRuntime) -> Result<(), Fail> {
+fn plain_questions_are_read_in_place(rt: HostRuntime) {
     let rows = "\
 # id 9 rd ad: www. IN AAAA
 place 00090120000100000000000003'www'00001c0001 => 9 28 1 03'www'00
@@ -100,5 +98,5 @@ place 000901200002000000000000000001000100 => none
 place <mixed-question> => none
 # id 9 rd ad: www. IN AAAA
 place 00090120000100000000000003'www'c00a001c0001 => none";
-    check_rows(&rt, rt.alloc(), rows)
+    check_rows(&rt, rt.alloc(), rows);
 }

@@ -6,7 +6,6 @@ use fleet_cache::Cache;
 use linked_list_allocator::LocalHeap;
 use std::alloc::Global;
 use std::process::Abort;
-use std::test::Fail;
 
 /// A cache over a heap.
 #[derive(Drop)]
@@ -17,56 +16,54 @@ struct Held<'a> {
 }
 
 /// Takes an address, from second 100 on, of a name of four digits.
-fn take(held: &mut Held<'_>, number: u16, life: u16) -> Result<(), Fail> {
-    let row = format!(in held.global; "{number:04} 1 3 100 {life} c0000201")?;
+fn take(rt: &impl Abort, held: &mut Held<'_>, number: u16, life: u16) {
+    let row = format!(in held.global; "{number:04} 1 3 100 {life} c0000201").expect(rt, "memory");
     let mut words = Words::new(row.as_str());
-    let observation = record_in(held.heap, held.global, &mut words)?;
-    held.cache.take(observation)?;
-    Ok(())
+    let observation = record_in(rt, held.heap, held.global, &mut words);
+    held.cache.take(observation).expect(rt, "memory");
 }
 
 /// Takes addresses of 5000 names. Every other one ends at 110, the rest at 400.
-fn take_all(held: &mut Held<'_>) -> Result<(), Fail> {
+fn take_all(rt: &impl Abort, held: &mut Held<'_>) {
     for number in 0..5000u16 {
-        take(held, number, if number % 2 == 0 { 10 } else { 300 })?;
+        take(rt, held, number, if number % 2 == 0 { 10 } else { 300 });
     }
-    Ok(())
 }
 
 /// How much of the heap is in use after a purge.
-fn used_after(held: &mut Held<'_>, moment: &str) -> Result<usize, Fail> {
-    held.cache.purge(moment_of(moment)?);
-    Ok(held.heap.used())
+fn used_after(rt: &impl Abort, held: &mut Held<'_>, moment: &str) -> usize {
+    held.cache.purge(moment_of(rt, moment));
+    held.heap.used()
 }
 
 /// How much of the heap is in use: by an empty cache, which keeps the room for a key; by 5000
 /// fronts; and after four purges.
-fn go_round(rt: &impl Abort, global: Global, heap: &LocalHeap) -> Result<[usize; 6], Fail> {
+fn go_round(rt: &impl Abort, global: Global, heap: &LocalHeap) -> [usize; 6] {
     let cache = Cache::new(heap);
     let mut held = Held {
         global,
         heap,
         cache,
     };
-    take(&mut held, 0, 5)?;
-    let empty = used_after(&mut held, "105")?;
-    take_all(&mut held)?;
+    take(rt, &mut held, 0, 5);
+    let empty = used_after(rt, &mut held, "105");
+    take_all(rt, &mut held);
     let all = heap.used();
-    let first = used_after(&mut held, "110")?;
+    let first = used_after(rt, &mut held, "110");
     assert_eq!(rt; held.cache.len(), 2500);
-    let second = used_after(&mut held, "111")?;
-    let third = used_after(&mut held, "112")?;
-    let last = used_after(&mut held, "400")?;
+    let second = used_after(rt, &mut held, "111");
+    let third = used_after(rt, &mut held, "112");
+    let last = used_after(rt, &mut held, "400");
     assert!(rt; held.cache.is_empty());
-    Ok([empty, all, first, second, third, last])
+    [empty, all, first, second, third, last]
 }
 
 /// A purge reclaims from 4096 fronts, so that the first one drops 2048 of the 2500 that ended, 81.92 of
 /// 100; the next goes on behind them to the end.
 #[test]
-fn purges_go_round(rt: HostRuntime) -> Result<(), Fail> {
-    let heap = LocalHeap::new(rt.alloc(), 1 << 23)?;
-    let [empty, all, first, second, third, last] = go_round(&rt, rt.alloc(), &heap)?;
+fn purges_go_round(rt: HostRuntime) {
+    let heap = LocalHeap::new(rt.alloc(), 1 << 23).expect(&rt, "memory");
+    let [empty, all, first, second, third, last] = go_round(&rt, rt.alloc(), &heap);
     let dropped = all.saturating_sub(first).saturating_mul(100);
     let ended = all.saturating_sub(second);
     assert!(rt; dropped > ended.saturating_mul(81) && dropped < ended.saturating_mul(83));
@@ -74,5 +71,4 @@ fn purges_go_round(rt: HostRuntime) -> Result<(), Fail> {
     assert!(rt; second > empty);
     assert_eq!(rt; last, empty);
     assert_eq!(rt; heap.used(), 0);
-    Ok(())
 }

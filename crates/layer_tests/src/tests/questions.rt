@@ -9,187 +9,189 @@ use fleet_pending::{Addr, Asked, Due, Entry, Pending, PendingFault, Waiter, Wait
 use fleet_wire::Question;
 use std::alloc::Global;
 use std::process::Abort;
-use std::test::Fail;
 
 /// Reads a question.
-fn question_in(alloc: Global, words: &mut Words<'_>) -> Result<Question, Fail> {
+fn question_in(rt: &impl Abort, alloc: Global, words: &mut Words<'_>) -> Question {
     let name = words.word();
-    let class = words.word().parse()?;
-    question_of(alloc, name, 1, class)
+    let class = words.word().parse().expect(rt, "a number");
+    question_of(rt, alloc, name, 1, class)
 }
 
 /// Adds how a question is asked, or why not.
-fn push_asked(output: &mut String, asked: Result<Asked, PendingFault>) -> Result<(), Fail> {
+fn push_asked(rt: &impl Abort, output: &mut String, asked: Result<Asked, PendingFault>) {
     match asked {
-        Ok(Asked::Send { upstream, id }) => Ok(write!(output, "send {upstream} {id}")?),
-        Ok(Asked::Joined) => Ok(output.push_str("joined")?),
-        Ok(Asked::Again) => Ok(output.push_str("again")?),
-        Err(fault) => Ok(write!(output, "{fault:?}")?),
+        Ok(Asked::Send { upstream, id }) => write!(output, "send {upstream} {id}").expect(
+            rt, "memory",
+        ),
+        Ok(Asked::Joined) => output.push_str("joined").expect(rt, "memory"),
+        Ok(Asked::Again) => output.push_str("again").expect(rt, "memory"),
+        Err(fault) => write!(output, "{fault:?}").expect(rt, "memory"),
     }
 }
 
 /// How a question is asked: it, the port and the identifier of its asker, the moment, and a word.
 fn ask(
+    rt: &impl Abort,
     alloc: Global,
     table: &mut Pending,
     mut words: Words<'_>,
-) -> Result<Result<Asked, PendingFault>, Fail> {
-    let question = question_in(alloc, &mut words)?;
-    let port = words.word().parse()?;
-    let id = words.word().parse()?;
-    let moment = moment_of(words.word())?;
-    let word = words.word().parse()?;
+) -> Result<Asked, PendingFault> {
+    let question = question_in(rt, alloc, &mut words);
+    let port = words.word().parse().expect(rt, "a number");
+    let id = words.word().parse().expect(rt, "a number");
+    let moment = moment_of(rt, words.word());
+    let word = words.word().parse().expect(rt, "a number");
     let from = Addr {
         host: 0x7f00_0001,
         port,
     };
     match table.ask(Waiter { from, id, question }, moment, word) {
-        Ok(asked) => Ok(Ok(asked)),
-        Err(unasked) => Ok(Err(unasked.fault)),
+        Ok(asked) => Ok(asked),
+        Err(unasked) => Err(unasked.fault),
     }
 }
 
 /// The identifier of the query that asking would send: the question, and a word.
 fn show_query_id(
+    rt: &impl Abort,
     alloc: Global,
     table: &Pending,
     mut words: Words<'_>,
     output: &mut String,
-) -> Result<(), Fail> {
-    let question = question_in(alloc, &mut words)?;
-    let word = words.word().parse()?;
+) {
+    let question = question_in(rt, alloc, &mut words);
+    let word = words.word().parse().expect(rt, "a number");
     match table.query_id(&question, word) {
-        Some(id) => Ok(write!(output, "{id}")?),
-        None => Ok(output.push_str("none")?),
+        Some(id) => write!(output, "{id}").expect(rt, "memory"),
+        None => output.push_str("none").expect(rt, "memory"),
     }
 }
 
 /// Whether an entry waits for this reply: its upstream, identifier and question.
 fn show_found(
+    rt: &impl Abort,
     alloc: Global,
     table: &Pending,
     mut words: Words<'_>,
     output: &mut String,
-) -> Result<(), Fail> {
-    let upstream = words.word().parse()?;
-    let id = words.word().parse()?;
-    let question = question_in(alloc, &mut words)?;
+) {
+    let upstream = words.word().parse().expect(rt, "a number");
+    let id = words.word().parse().expect(rt, "a number");
+    let question = question_in(rt, alloc, &mut words);
     let is_found = table.find(upstream, id, &question).is_some();
-    Ok(write!(output, "{is_found}")?)
+    write!(output, "{is_found}").expect(rt, "memory");
 }
 
 /// Adds the port and the identifier of each who waits.
-fn push_waiters(output: &mut String, waiters: &Waiters) -> Result<(), Fail> {
+fn push_waiters(rt: &impl Abort, output: &mut String, waiters: &Waiters) {
     for waiter in waiters.as_slice() {
         let (port, id) = (waiter.from.port, waiter.id);
-        write!(output, "{port}/{id};")?;
+        write!(output, "{port}/{id};").expect(rt, "memory");
     }
-    Ok(())
 }
 
 /// Who waited for the reply with an identifier.
-fn settle(table: &mut Pending, mut words: Words<'_>, output: &mut String) -> Result<(), Fail> {
-    match table.settle(words.word().parse()?) {
-        Some(entry) => push_waiters(output, &entry.waiters),
-        None => Ok(output.push_str("none")?),
+fn settle(rt: &impl Abort, table: &mut Pending, mut words: Words<'_>, output: &mut String) {
+    match table.settle(words.word().parse().expect(rt, "a number")) {
+        Some(entry) => push_waiters(rt, output, &entry.waiters),
+        None => output.push_str("none").expect(rt, "memory"),
     }
 }
 
 /// Adds a retry.
 fn push_retry(
+    rt: &impl Abort,
     alloc: Global,
     output: &mut String,
     upstream: u8,
     id: u16,
     entry: &Entry,
-) -> Result<(), Fail> {
-    write!(output, "retry {upstream} {id} ")?;
-    push_name(alloc, output, &entry.name)
+) {
+    write!(output, "retry {upstream} {id} ").expect(rt, "memory");
+    push_name(rt, alloc, output, &entry.name);
 }
 
 /// What is due first at a moment.
 fn show_due(
+    rt: &impl Abort,
     alloc: Global,
     table: &Pending,
     mut words: Words<'_>,
     output: &mut String,
-) -> Result<(), Fail> {
-    match table.due(moment_of(words.word())?) {
+) {
+    match table.due(moment_of(rt, words.word())) {
         Some(
             Due::Retry {
                 upstream,
                 id,
                 entry,
             },
-        ) => push_retry(alloc, output, upstream, id, entry),
-        Some(Due::Failed { id, .. }) => Ok(write!(output, "failed {id}")?),
-        None => Ok(output.push_str("none")?),
+        ) => push_retry(rt, alloc, output, upstream, id, entry),
+        Some(Due::Failed { id, .. }) => write!(output, "failed {id}").expect(rt, "memory"),
+        None => output.push_str("none").expect(rt, "memory"),
     }
 }
 
 /// Whether an entry goes on to its next upstream.
-fn advance(table: &mut Pending, mut words: Words<'_>, output: &mut String) -> Result<(), Fail> {
-    let id = words.word().parse()?;
-    let moment = moment_of(words.word())?;
+fn advance(rt: &impl Abort, table: &mut Pending, mut words: Words<'_>, output: &mut String) {
+    let id = words.word().parse().expect(rt, "a number");
+    let moment = moment_of(rt, words.word());
     let is_next = table.advance(id, moment);
-    Ok(write!(output, "{is_next}")?)
+    write!(output, "{is_next}").expect(rt, "memory");
 }
 
 /// Whether there is an entry with an identifier.
-fn show_entry(table: &Pending, mut words: Words<'_>, output: &mut String) -> Result<(), Fail> {
-    let is_there = table.entry(words.word().parse()?).is_some();
-    Ok(write!(output, "{is_there}")?)
+fn show_entry(rt: &impl Abort, table: &Pending, mut words: Words<'_>, output: &mut String) {
+    let is_there = table
+        .entry(words.word().parse().expect(rt, "a number"))
+        .is_some();
+    write!(output, "{is_there}").expect(rt, "memory");
 }
 
 /// Makes a call, and writes its output.
 fn show_result(
+    rt: &impl Abort,
     alloc: Global,
     table: &mut Pending,
     call: &str,
     words: Words<'_>,
     output: &mut String,
-) -> Result<(), Fail> {
+) {
     match call {
-        "ask" => push_asked(output, ask(alloc, table, words)?),
-        "query_id" => show_query_id(alloc, table, words, output),
-        "find" => show_found(alloc, table, words, output),
-        "settle" => settle(table, words, output),
-        "due" => show_due(alloc, table, words, output),
-        "advance" => advance(table, words, output),
-        "entry" => show_entry(table, words, output),
-        _ => Err("no such call".into()),
+        "ask" => push_asked(rt, output, ask(rt, alloc, table, words)),
+        "query_id" => show_query_id(rt, alloc, table, words, output),
+        "find" => show_found(rt, alloc, table, words, output),
+        "settle" => settle(rt, table, words, output),
+        "due" => show_due(rt, alloc, table, words, output),
+        "advance" => advance(rt, table, words, output),
+        "entry" => show_entry(rt, table, words, output),
+        _ => panic!(rt; "no such call"),
     }
 }
 
 /// Checks one call.
-fn check_call(rt: &impl Abort, alloc: Global, table: &mut Pending, row: &str) -> Result<(), Fail> {
+fn check_call(rt: &impl Abort, alloc: Global, table: &mut Pending, row: &str) {
     let Row {
         call,
         words,
         wanted,
-    } = read_row(row)?;
+    } = read_row(rt, row);
     let mut output = String::new(alloc);
-    show_result(alloc, table, call, words, &mut output)?;
-    check_output(rt, alloc, row, wanted, output.as_str())
+    show_result(rt, alloc, table, call, words, &mut output);
+    check_output(rt, alloc, row, wanted, output.as_str());
 }
 
 /// Checks calls of a table.
-fn check_calls(
-    rt: &impl Abort,
-    alloc: Global,
-    table: &mut Pending,
-    rows: &str,
-) -> Result<(), Fail> {
+fn check_calls(rt: &impl Abort, alloc: Global, table: &mut Pending, rows: &str) {
     for row in rows.lines() {
         if is_row(row) {
-            check_call(rt, alloc, table, row)?;
+            check_call(rt, alloc, table, row);
         }
     }
-    Ok(())
 }
 
 #[test]
-fn each_waiter_is_answered_once(rt: HostRuntime) -> Result<(), Fail> {
+fn each_waiter_is_answered_once(rt: HostRuntime) {
     let rows = "
 ask 0000 1 6001 7 100 4660 => send 0 4660
 ask 0000 1 6002 8 100 9 => joined
@@ -203,11 +205,11 @@ settle 4660 => 6001/7;6002/8;6001/9;
 find 0 4660 0000 1 => false
 settle 4660 => none";
     let mut table = Pending::new(rt.alloc(), 2);
-    check_calls(&rt, rt.alloc(), &mut table, rows)
+    check_calls(&rt, rt.alloc(), &mut table, rows);
 }
 
 #[test]
-fn the_identifier_of_a_query_is_known_before_it_is_asked(rt: HostRuntime) -> Result<(), Fail> {
+fn the_identifier_of_a_query_is_known_before_it_is_asked(rt: HostRuntime) {
     let rows = "
 query_id 0000 1 4660 => 4660
 ask 0000 1 6001 7 100 4660 => send 0 4660
@@ -221,26 +223,22 @@ query_id 0002 1 4660 => 4662
 settle 4660 => 6001/7;6002/8;
 query_id 0000 1 4660 => 4660";
     let mut table = Pending::new(rt.alloc(), 2);
-    check_calls(&rt, rt.alloc(), &mut table, rows)
+    check_calls(&rt, rt.alloc(), &mut table, rows);
 }
 
 /// Asks a number of questions, with the greatest word: the identifiers go on behind it from zero.
-fn check_questions(
-    rt: &impl Abort,
-    alloc: Global,
-    table: &mut Pending,
-    count: u16,
-) -> Result<(), Fail> {
+fn check_questions(rt: &impl Abort, alloc: Global, table: &mut Pending, count: u16) {
     for number in 0..count {
         let id = number.wrapping_sub(1);
-        let row = format!(in alloc; "ask {number:04} 1 6001 7 100 65535 => send 0 {id}")?;
-        check_call(rt, alloc, table, row.as_str())?;
+        let row = format!(in alloc; "ask {number:04} 1 6001 7 100 65535 => send 0 {id}").expect(
+            rt, "memory",
+        );
+        check_call(rt, alloc, table, row.as_str());
     }
-    Ok(())
 }
 
 #[test]
-fn at_most_256_are_open(rt: HostRuntime) -> Result<(), Fail> {
+fn at_most_256_are_open(rt: HostRuntime) {
     let rows = "
 query_id 0256 1 65535 => none
 ask 0256 1 6001 7 100 65535 => Full
@@ -252,86 +250,81 @@ advance 0 102 => false
 entry 0 => true
 due 103 => retry 1 1 0002.";
     let mut table = Pending::new(rt.alloc(), 2);
-    check_questions(&rt, rt.alloc(), &mut table, 256)?;
-    check_calls(&rt, rt.alloc(), &mut table, rows)
+    check_questions(&rt, rt.alloc(), &mut table, 256);
+    check_calls(&rt, rt.alloc(), &mut table, rows);
 }
 
 /// Joins a question from a number of ports behind 6001.
-fn check_joins(
-    rt: &impl Abort,
-    alloc: Global,
-    table: &mut Pending,
-    ports: u16,
-) -> Result<(), Fail> {
+fn check_joins(rt: &impl Abort, alloc: Global, table: &mut Pending, ports: u16) {
     for port in 0..ports {
         let port = port.wrapping_add(6002);
-        let row = format!(in alloc; "ask 0000 1 {port} 7 100 4660 => joined")?;
-        check_call(rt, alloc, table, row.as_str())?;
+        let row = format!(in alloc; "ask 0000 1 {port} 7 100 4660 => joined").expect(rt, "memory");
+        check_call(rt, alloc, table, row.as_str());
     }
-    Ok(())
 }
 
 #[test]
-fn at_most_32_wait_for_one_question(rt: HostRuntime) -> Result<(), Fail> {
+fn at_most_32_wait_for_one_question(rt: HostRuntime) {
     let first = "ask 0000 1 6001 7 100 4660 => send 0 4660";
     let rows = "
 ask 0000 1 6033 7 100 4660 => WaitersFull
 ask 0000 1 6001 7 100 4660 => again
 due 102 => failed 4660";
     let mut table = Pending::new(rt.alloc(), 1);
-    check_calls(&rt, rt.alloc(), &mut table, first)?;
-    check_joins(&rt, rt.alloc(), &mut table, 31)?;
-    check_calls(&rt, rt.alloc(), &mut table, rows)
+    check_calls(&rt, rt.alloc(), &mut table, first);
+    check_joins(&rt, rt.alloc(), &mut table, 31);
+    check_calls(&rt, rt.alloc(), &mut table, rows);
 }
 
 #[test]
-fn a_question_of_another_class_waits(rt: HostRuntime) -> Result<(), Fail> {
+fn a_question_of_another_class_waits(rt: HostRuntime) {
     let rows = "
 ask 0000 3 6001 7 100 1 => send 0 1
 ask 0000 1 6002 7 100 1 => joined
 find 0 1 0000 1 => true
 find 0 1 0000 3 => false";
     let mut table = Pending::new(rt.alloc(), 1);
-    check_calls(&rt, rt.alloc(), &mut table, rows)
+    check_calls(&rt, rt.alloc(), &mut table, rows);
 }
 
 #[test]
-fn a_cleared_table_is_as_new(rt: HostRuntime) -> Result<(), Fail> {
+fn a_cleared_table_is_as_new(rt: HostRuntime) {
     let rows = "
 ask 0000 1 6001 7 100 1 => send 0 1
 ask 0001 1 6001 7 100 1 => send 0 2
 ask 0002 1 6001 7 100 1 => send 0 3";
     let mut table = Pending::new(rt.alloc(), 2);
-    check_calls(&rt, rt.alloc(), &mut table, rows)?;
+    check_calls(&rt, rt.alloc(), &mut table, rows);
     table.clear();
     let rows = "
 entry 1 => false
 due 102 => none
 ask 0002 1 6001 7 100 1 => send 0 1
 due 102 => retry 1 1 0002.";
-    check_calls(&rt, rt.alloc(), &mut table, rows)
+    check_calls(&rt, rt.alloc(), &mut table, rows);
 }
 
 /// Those who wait for a question, by their identifiers.
-fn waiters_of(alloc: Global, ids: &[u16]) -> Result<Waiters, Fail> {
+fn waiters_of(rt: &impl Abort, alloc: Global, ids: &[u16]) -> Waiters {
     let mut items = Vec::new(alloc);
     for id in ids {
         let from = Addr { host: 1, port: 53 };
-        let question = question_of(alloc, "0000", 1, 1)?;
-        items.push(Waiter {
-            from,
-            id: *id,
-            question,
-        })?;
+        let question = question_of(rt, alloc, "0000", 1, 1);
+        items
+            .push(Waiter {
+                from,
+                id: *id,
+                question,
+            })
+            .expect(rt, "memory");
     }
-    Ok(Waiters::new(items))
+    Waiters::new(items)
 }
 
 #[test]
-fn waiters_keep_their_order(rt: HostRuntime) -> Result<(), Fail> {
-    let waiters = waiters_of(rt.alloc(), &[9, 7, 8])?;
+fn waiters_keep_their_order(rt: HostRuntime) {
+    let waiters = waiters_of(&rt, rt.alloc(), &[9, 7, 8]);
     let mut output = String::new(rt.alloc());
-    push_waiters(&mut output, &waiters)?;
+    push_waiters(&rt, &mut output, &waiters);
     assert_eq!(rt; output.as_str(), "53/9;53/7;53/8;");
-    Ok(())
 }

@@ -3,7 +3,6 @@
 use crate::tests::messages::MESSAGES;
 use std::alloc::Global;
 use std::process::Abort;
-use std::test::Fail;
 
 /// The first word of a text, and what comes behind it.
 fn first_of(text: &str) -> (&str, &str) {
@@ -35,8 +34,8 @@ impl<'a> Words<'a> {
     }
 
     /// The octets of the next word.
-    pub(crate) fn octets(&mut self, alloc: Global) -> Result<Vec<u8>, Fail> {
-        octets_of(alloc, self.word())
+    pub(crate) fn octets(&mut self, rt: &impl Abort, alloc: Global) -> Vec<u8> {
+        octets_of(rt, alloc, self.word())
     }
 }
 
@@ -52,15 +51,15 @@ pub(crate) struct Row<'a> {
 }
 
 /// Reads a row.
-pub(crate) fn read_row(row: &str) -> Result<Row<'_>, Fail> {
-    let (asked, wanted) = row.split_once(" => ").ok_or("a row that wants nothing")?;
+pub(crate) fn read_row<'a>(rt: &impl Abort, row: &'a str) -> Row<'a> {
+    let (asked, wanted) = row.split_once(" => ").expect(rt, "what a row wants");
     let (call, rest) = asked.split_once(' ').unwrap_or((asked, ""));
     let words = Words::new(rest);
-    Ok(Row {
+    Row {
         call,
         words,
         wanted,
-    })
+    }
 }
 
 /// Whether a line of a table is a row of it: it is not empty, and does not begin with `#`.
@@ -69,110 +68,100 @@ pub(crate) fn is_row(line: &str) -> bool {
 }
 
 /// Checks the output of a row's call.
-pub(crate) fn check_output(
-    rt: &impl Abort,
-    alloc: Global,
-    row: &str,
-    wanted: &str,
-    output: &str,
-) -> Result<(), Fail> {
-    let wanted = spelled(alloc, wanted)?;
+pub(crate) fn check_output(rt: &impl Abort, alloc: Global, row: &str, wanted: &str, output: &str) {
+    let wanted = spelled(rt, alloc, wanted);
     assert_eq!(rt; output, wanted.as_str(), "{row}");
-    Ok(())
 }
 
 /// The octets of a word in hexadecimal digits, with `-` for none.
-pub(crate) fn octets_of(alloc: Global, word: &str) -> Result<Vec<u8>, Fail> {
+pub(crate) fn octets_of(rt: &impl Abort, alloc: Global, word: &str) -> Vec<u8> {
     if word == "-" {
-        return Ok(Vec::new(alloc));
+        return Vec::new(alloc);
     }
-    let digits = spelled(alloc, word)?;
-    Ok(hex::decode(alloc, digits.as_bytes())?)
+    let digits = spelled(rt, alloc, word);
+    hex::decode(alloc, digits.as_bytes()).expect(rt, "octets")
 }
 
 /// The message of a name, as `spelled` reads it.
-fn message_of(name: &str) -> Result<&'static str, Fail> {
+fn message_of(rt: &impl Abort, name: &str) -> &'static str {
     for line in MESSAGES.lines() {
         if let Some((other, octets)) = line.split_once(' ') {
             if other == name {
-                return Ok(octets);
+                return octets;
             }
         }
     }
-    Err("no such message".into())
+    panic!(rt; "no such message")
 }
 
 /// A text with digits of octets in place of letters between two `'`, with those that a frame begins
 /// with in place of `@`, with what is between braces as often as is said there (`{61*460}` is 460
 /// times `61`), and with a message in place of its name between `<` and `>`.
-pub(crate) fn spelled(alloc: Global, text: &str) -> Result<String, Fail> {
+pub(crate) fn spelled(rt: &impl Abort, alloc: Global, text: &str) -> String {
     let mut digits = String::new(alloc);
     let mut pieces = text.split('<');
-    push_spelled(&mut digits, pieces.next().unwrap_or(""))?;
+    push_spelled(rt, &mut digits, pieces.next().unwrap_or(""));
     for piece in pieces {
-        let (name, rest) = piece.split_once('>').ok_or("no name")?;
-        push_spelled(&mut digits, message_of(name)?)?;
-        push_spelled(&mut digits, rest)?;
+        let (name, rest) = piece.split_once('>').expect(rt, "a name");
+        push_spelled(rt, &mut digits, message_of(rt, name));
+        push_spelled(rt, &mut digits, rest);
     }
-    Ok(digits)
+    digits
 }
 
 /// Adds digits, with those of octets in place of letters between two `'`.
-fn push_spelled(digits: &mut String, text: &str) -> Result<(), Fail> {
+fn push_spelled(rt: &impl Abort, digits: &mut String, text: &str) {
     let mut is_letters = false;
     for piece in text.split('\'') {
         if is_letters {
-            push_octets(digits, piece.as_bytes())?;
+            push_octets(rt, digits, piece.as_bytes());
         } else {
-            push_repeated(digits, piece)?;
+            push_repeated(rt, digits, piece);
         }
         is_letters = !is_letters;
     }
-    Ok(())
 }
 
 /// The magic of a frame, and the version that is written.
 const OPENING: &str = "444702";
 
 /// Adds digits, with the opening of a frame in place of each `@`.
-fn push_openings(digits: &mut String, text: &str) -> Result<(), Fail> {
+fn push_openings(rt: &impl Abort, digits: &mut String, text: &str) {
     for letter in text.chars() {
         match letter {
-            '@' => digits.push_str(OPENING)?,
-            _ => digits.push(letter)?,
+            '@' => digits.push_str(OPENING).expect(rt, "memory"),
+            _ => digits.push(letter).expect(rt, "memory"),
         }
     }
-    Ok(())
 }
 
 /// Adds digits, each repetition in them written out.
-fn push_repeated(digits: &mut String, text: &str) -> Result<(), Fail> {
+fn push_repeated(rt: &impl Abort, digits: &mut String, text: &str) {
     for piece in text.split('{') {
         match piece.split_once('}') {
             Some((repeated, rest)) => {
-                push_times(digits, repeated)?;
-                push_openings(digits, rest)?;
+                push_times(rt, digits, repeated);
+                push_openings(rt, digits, rest);
             }
-            None => push_openings(digits, piece)?,
+            None => push_openings(rt, digits, piece),
         }
     }
-    Ok(())
 }
 
 /// Adds digits as often as is said behind them.
-fn push_times(digits: &mut String, repeated: &str) -> Result<(), Fail> {
-    let (octets, count) = repeated.split_once('*').ok_or("no count")?;
-    for _ in 0..count.parse::<u16>()? {
-        digits.push_str(octets)?;
+fn push_times(rt: &impl Abort, digits: &mut String, repeated: &str) {
+    let (octets, count) = repeated.split_once('*').expect(rt, "a count");
+    for _ in 0..count.parse::<u16>().expect(rt, "a number") {
+        digits.push_str(octets).expect(rt, "memory");
     }
-    Ok(())
 }
 
 /// Adds the digits of octets, `-` where there are none.
-pub(crate) fn push_octets(output: &mut String, octets: &[u8]) -> Result<(), Fail> {
+pub(crate) fn push_octets(rt: &impl Abort, output: &mut String, octets: &[u8]) {
     if octets.is_empty() {
-        return Ok(output.push_str("-")?);
+        output.push_str("-").expect(rt, "memory");
+        return;
     }
-    let digits = hex::encode(*output.allocator(), octets)?;
-    Ok(output.push_str(digits.as_str())?)
+    let digits = hex::encode(*output.allocator(), octets).expect(rt, "memory");
+    output.push_str(digits.as_str()).expect(rt, "memory");
 }

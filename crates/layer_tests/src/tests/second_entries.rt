@@ -1,11 +1,10 @@
 //! The faults of a frame, each in its second entry.
 
 use crate::tests::frames::{DENIED, TWO, check_frames, check_prefixes};
-use std::test::Fail;
 
 #[test]
-fn reports_the_faults_of_a_second_entry(rt: HostRuntime) -> Result<(), Fail> {
-    check_prefixes(&rt, rt.alloc(), TWO, 79)?;
+fn reports_the_faults_of_a_second_entry(rt: HostRuntime) {
+    check_prefixes(&rt, rt.alloc(), TWO, 79);
     let fields = "
 two - => 2 again
 two 42=00 => BadKind
@@ -27,7 +26,7 @@ two 70=00 => BadKind
 two 70=29,72=00 => BadKind
 two 70=80 => BadKind
 two 70=ff => BadKind";
-    check_frames(&rt, rt.alloc(), fields)?;
+    check_frames(&rt, rt.alloc(), fields);
     let bodies = "
 two 72=00 => BadBody
 two 70=05,72=02 => BadBody
@@ -39,12 +38,12 @@ two 74=03 => Trailing
 #   example.com. A 192.0.2.2; 1 octets more
 frame @00020303{00*7}640000012c07'example'03'com'00000100010004c00002010303{00*7}640000012c07\
     'example'03'com'00000100010004c000020200 => Trailing";
-    check_frames(&rt, rt.alloc(), bodies)
+    check_frames(&rt, rt.alloc(), bodies);
 }
 
 #[test]
-fn reports_the_faults_of_a_second_entry_that_denies(rt: HostRuntime) -> Result<(), Fail> {
-    check_prefixes(&rt, rt.alloc(), DENIED, 102)?;
+fn reports_the_faults_of_a_second_entry_that_denies(rt: HostRuntime) {
+    check_prefixes(&rt, rt.alloc(), DENIED, 102);
     let rows = "
 denied - => 2 again
 denied 42=02 => BadKind
@@ -58,12 +57,12 @@ denied 69=40 => BadBody
 denied 79=17 => Truncated
 denied 79=15 => BadBody
 denied 80=c0 => BadBody";
-    check_frames(&rt, rt.alloc(), rows)
+    check_frames(&rt, rt.alloc(), rows);
 }
 
 /// Behind the first entry of `TWO`.
 #[test]
-fn reports_long_names_and_bodies_of_a_second_entry(rt: HostRuntime) -> Result<(), Fail> {
+fn reports_long_names_and_bodies_of_a_second_entry(rt: HostRuntime) {
     let rows = "
 # 127 labels of one octet make a name of 255 octets with its zero; one more is too many.
 # frame 2: positive rank 3 at 100 for 300: example.com. A 192.0.2.1; positive rank 3 at 100 for 300:
@@ -96,5 +95,5 @@ frame @00020303{00*7}640000012c07'example'03'com'00000100010004c00002010303{00*7
 #   . TXT \\# 8189 61..
 frame @00020303{00*7}640000012c07'example'03'com'00000100010004c00002010303{00*7}640000012c0000\
     1000011ffd{61*8189} => BadBody";
-    check_frames(&rt, rt.alloc(), rows)
+    check_frames(&rt, rt.alloc(), rows);
 }

@@ -12,54 +12,48 @@ use crate::tests::replies::{show_digest, show_relay, show_seen};
 use crate::tests::rows::{Row, Words, check_output, is_row, read_row};
 use std::alloc::Global;
 use std::process::Abort;
-use std::test::Fail;
 
 /// Makes a call with these words, and writes its output.
-fn show_result(
-    alloc: Global,
-    call: &str,
-    words: Words<'_>,
-    output: &mut String,
-) -> Result<(), Fail> {
+fn show_result(rt: &impl Abort, alloc: Global, call: &str, words: Words<'_>, output: &mut String) {
     match call {
-        "name" => show_name(alloc, words, output),
-        "pair" => show_pair(alloc, words, output),
-        "under" => show_under(alloc, words, output),
-        "pushes" => show_pushes(alloc, words, output),
-        "octets" => show_octets(alloc, words, output),
-        "ancestor" => show_ancestor(alloc, words, output),
-        "suffix" => show_suffix(alloc, words, output),
-        "lower" => show_lower(alloc, words, output),
-        "query" => show_query(alloc, words, output),
-        "changed" => show_changed(alloc, words, output),
-        "padded" => show_padded(alloc, words, output),
-        "outline" => show_outline(alloc, words, output),
-        "plain" => show_plain(alloc, words, output),
-        "place" => show_in_place(alloc, words, output),
-        "reply" => show_rewritten(alloc, words, output),
-        "relayed" => show_relayed(alloc, words, output),
-        "asked" => show_asked(alloc, words, output),
-        "rdata" => show_rdata(alloc, words, output),
-        "records" => show_records(alloc, words, output),
-        "denial" => show_denial(alloc, words, output),
-        "flush" => show_flush(alloc, words, output),
-        "seen" => show_seen(alloc, words, output),
-        "digest" => show_digest(alloc, words, output),
-        "relay" => show_relay(alloc, words, output),
-        _ => Err("no such call".into()),
+        "name" => show_name(rt, alloc, words, output),
+        "pair" => show_pair(rt, alloc, words, output),
+        "under" => show_under(rt, alloc, words, output),
+        "pushes" => show_pushes(rt, alloc, words, output),
+        "octets" => show_octets(rt, alloc, words, output),
+        "ancestor" => show_ancestor(rt, alloc, words, output),
+        "suffix" => show_suffix(rt, alloc, words, output),
+        "lower" => show_lower(rt, alloc, words, output),
+        "query" => show_query(rt, alloc, words, output),
+        "changed" => show_changed(rt, alloc, words, output),
+        "padded" => show_padded(rt, alloc, words, output),
+        "outline" => show_outline(rt, alloc, words, output),
+        "plain" => show_plain(rt, alloc, words, output),
+        "place" => show_in_place(rt, alloc, words, output),
+        "reply" => show_rewritten(rt, alloc, words, output),
+        "relayed" => show_relayed(rt, alloc, words, output),
+        "asked" => show_asked(rt, alloc, words, output),
+        "rdata" => show_rdata(rt, alloc, words, output),
+        "records" => show_records(rt, alloc, words, output),
+        "denial" => show_denial(rt, alloc, words, output),
+        "flush" => show_flush(rt, alloc, words, output),
+        "seen" => show_seen(rt, alloc, words, output),
+        "digest" => show_digest(rt, alloc, words, output),
+        "relay" => show_relay(rt, alloc, words, output),
+        _ => panic!(rt; "no such call"),
     }
 }
 
 /// Checks one row.
-fn check_row(rt: &impl Abort, alloc: Global, row: &str) -> Result<(), Fail> {
+fn check_row(rt: &impl Abort, alloc: Global, row: &str) {
     let Row {
         call,
         words,
         wanted,
-    } = read_row(row)?;
+    } = read_row(rt, row);
     let mut output = String::new(alloc);
-    show_result(alloc, call, words, &mut output)?;
-    check_output(rt, alloc, row, wanted, output.as_str())
+    show_result(rt, alloc, call, words, &mut output);
+    check_output(rt, alloc, row, wanted, output.as_str());
 }
 
 /// How many rows a table has.
@@ -68,11 +62,10 @@ pub(crate) fn rows_of(rows: &str) -> usize {
 }
 
 /// Checks each row of a table.
-pub(crate) fn check_rows(rt: &impl Abort, alloc: Global, rows: &str) -> Result<(), Fail> {
+pub(crate) fn check_rows(rt: &impl Abort, alloc: Global, rows: &str) {
     for row in rows.lines() {
         if is_row(row) {
-            check_row(rt, alloc, row)?;
+            check_row(rt, alloc, row);
         }
     }
-    Ok(())
 }

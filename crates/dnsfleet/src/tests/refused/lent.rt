@@ -16,7 +16,6 @@ use fleet_wire::{Header, Outline, Question, read_query, write_reply};
 use fleet_world::World;
 use std::alloc::{Allocator, Global};
 use std::process::Abort;
-use std::test::Fail;
 
 /// How many questions an example has, and what it shows.
 const LENT: &str = "\
@@ -47,80 +46,84 @@ fn rows_of<'a, A: Allocator>(part: &Shown<'a, A>) -> Rows<'a, A> {
 
 /// Adds the records of links.
 fn add_links<'a, A: Allocator + Copy>(
+    rt: &impl Abort,
     outline: &mut Outline<'a, A>,
     chain: &[Option<Shown<'a, A>>],
-) -> Result<(), Fail> {
+) {
     for link in chain {
-        let link = link.as_ref().ok_or("an empty link")?;
-        add_rows(outline, rows_of(link))?;
+        let link = link.as_ref().expect(rt, "a link");
+        add_rows(outline, rows_of(link)).expect(rt, "memory");
     }
-    Ok(())
 }
 
 /// The reply with links and the records that they lead to.
 fn found_reply<A: Allocator + Copy>(
+    rt: &impl Abort,
     alloc: A,
     header: Header,
     question: &Question<A>,
     chain: &Chain<'_, A>,
     set: &Shown<'_, A>,
-) -> Result<Vec<u8, A>, Fail> {
+) -> Vec<u8, A> {
     let mut outline = Outline::new(alloc, header.id, 0, header.rd, 0, false, Some(question));
-    add_links(&mut outline, chain.as_slice())?;
-    add_rows(&mut outline, rows_of(set))?;
-    Ok(write_reply(alloc, &outline)?)
+    add_links(rt, &mut outline, chain.as_slice());
+    add_rows(&mut outline, rows_of(set)).expect(rt, "memory");
+    write_reply(alloc, &outline).expect(rt, "memory")
 }
 
 /// The reply with links and the denial that they lead to, with its SOA.
 fn denial_reply<A: Allocator + Copy>(
+    rt: &impl Abort,
     alloc: A,
     header: Header,
     rcode: u8,
     question: &Question<A>,
     chain: &Chain<'_, A>,
     soa: &Shown<'_, A>,
-) -> Result<Vec<u8, A>, Fail>
+) -> Vec<u8, A>
     requires { rcode < 16 }
 {
     let mut outline = Outline::new(alloc, header.id, 0, header.rd, rcode, false, Some(question));
-    add_links(&mut outline, chain.as_slice())?;
-    let (owner, rdata) = soa.observation.soa().ok_or("no SOA")?;
-    add_soa(&mut outline, owner, soa.ttl, rdata)?;
-    Ok(write_reply(alloc, &outline)?)
+    add_links(rt, &mut outline, chain.as_slice());
+    let (owner, rdata) = soa.observation.soa().expect(rt, "an SOA");
+    add_soa(&mut outline, owner, soa.ttl, rdata).expect(rt, "memory");
+    write_reply(alloc, &outline).expect(rt, "memory")
 }
 
 /// What a site makes of an answer.
 fn look_at<A: Allocator + Copy>(
+    rt: &impl Abort,
     alloc: A,
     header: Header,
     question: &Question<A>,
     answer: &Answer<'_, A>,
-) -> Result<Looked<A>, Fail> {
+) -> Looked<A> {
     let reply = match answer {
-        Answer::Found { chain, set } => found_reply(alloc, header, question, chain, set)?,
-        Answer::NoData { chain, soa } => denial_reply(alloc, header, 0, question, chain, soa)?,
-        Answer::NxDomain { chain, soa } => denial_reply(alloc, header, 3, question, chain, soa)?,
-        Answer::Miss => return Ok(Looked::Miss),
+        Answer::Found { chain, set } => found_reply(rt, alloc, header, question, chain, set),
+        Answer::NoData { chain, soa } => denial_reply(rt, alloc, header, 0, question, chain, soa),
+        Answer::NxDomain { chain, soa } => denial_reply(rt, alloc, header, 3, question, chain, soa),
+        Answer::Miss => return Looked::Miss,
     };
-    Ok(Looked::Reply(Octets::new(reply)))
+    Looked::Reply(Octets::new(reply))
 }
 
 /// The reply to a question, looked up while every allocation is refused, as it is printed.
 fn print_answer<A: Allocator + Copy>(
+    rt: &impl Abort,
     alloc: A,
     refusing: &Refusing<Global>,
     cache: &Cache<A>,
     now: Moment,
     octets: &[u8],
-) -> Result<String<A>, Fail> {
-    let (header, question) = read_query(alloc, octets)?;
+) -> String<A> {
+    let (header, question) = read_query(alloc, octets).expect(rt, "a question");
     refusing.refuse_all(true);
     let answer = cache.answer(&question, now);
     refusing.refuse_all(false);
-    let looked = look_at(alloc, header, &question, &answer)?;
+    let looked = look_at(rt, alloc, header, &question, &answer);
     let mut printed = String::new(alloc);
-    print_looked(&mut printed, &looked)?;
-    Ok(printed)
+    print_looked(&mut printed, &looked).expect(rt, "memory");
+    printed
 }
 
 /// Does a line, and says whether it is a question.
@@ -130,21 +133,21 @@ fn run_lent<A: Allocator + Copy>(
     refusing: &Refusing<Global>,
     world: &mut World<A>,
     line: &Line<'_>,
-) -> Result<bool, Fail> {
+) -> bool {
     let Command::Ask {
         site,
         now,
         question,
-    } = read_command(line.text)?
+    } = read_command(line.text).expect(rt, "a command")
     else {
-        run_line(world, alloc, line.text)?;
-        return Ok(false);
+        run_line(rt, world, alloc, line.text);
+        return false;
     };
-    let octets = question.octets(alloc)?;
-    let cache = world.site(site).ok_or("no site")?.cache();
-    let printed = print_answer(alloc, refusing, cache, now, octets.as_slice())?;
+    let octets = question.octets(alloc).expect(rt, "memory");
+    let cache = world.site(site).expect(rt, "a site").cache();
+    let printed = print_answer(rt, alloc, refusing, cache, now, octets.as_slice());
     assert_eq!(rt; printed.as_str(), line.prints);
-    Ok(true)
+    true
 }
 
 /// Does the lines of an example on a new fleet, and says how many are questions.
@@ -154,15 +157,16 @@ fn count_on<A: Allocator + Copy>(
     refusing: &Refusing<Global>,
     fleet: &mut Fleet<A>,
     lines: &[Line<'_>],
-) -> Result<u64, Fail> {
-    begin(fleet, lines.first().ok_or("no line")?.text)?;
+) -> u64 {
+    begin(fleet, lines.first().expect(rt, "a line").text).expect(rt, "sites");
     let mut count = 0u64;
     for line in lines {
-        if run_lent(rt, alloc, refusing, fleet.world()?, line)? {
+        let world = fleet.world().expect(rt, "memory");
+        if run_lent(rt, alloc, refusing, world, line) {
             count = count.saturating_add(1);
         }
     }
-    Ok(count)
+    count
 }
 
 /// Does the lines of an example, and says how many are questions.
@@ -171,24 +175,26 @@ fn count_lent<A: Allocator + Copy>(
     alloc: A,
     refusing: &Refusing<Global>,
     lines: &[Line<'_>],
-) -> Result<u64, Fail> {
+) -> u64 {
     let mut fleet = Fleet::new(alloc);
     count_on(rt, alloc, refusing, &mut fleet, lines)
 }
 
 /// Does the lines of the example that shows this.
-fn run_example(rt: &impl Abort, alloc: Global, shows: &str) -> Result<u64, Fail> {
-    let transcript = example_of(alloc, shows)?.spelled(alloc)?;
-    let lines = lines_of(alloc, transcript.as_str())?;
+fn run_example(rt: &impl Abort, alloc: Global, shows: &str) -> u64 {
+    let transcript = example_of(rt, alloc, shows).spelled(rt, alloc);
+    let lines = lines_of(rt, alloc, transcript.as_str());
     let refusing = Refusing::after(alloc, 0);
     count_lent(rt, &refusing, &refusing, &lines)
 }
 
 #[test]
-fn answers_are_lent_where_no_memory_is_left(rt: HostRuntime) -> Result<(), Fail> {
+fn answers_are_lent_where_no_memory_is_left(rt: HostRuntime) {
     for row in LENT.lines() {
-        let (count, shows) = row.split_once(' ').ok_or("no count")?;
-        assert_eq!(rt; run_example(&rt, rt.alloc(), shows)?, count.parse::<u64>()?);
+        let (count, shows) = row.split_once(' ').expect(&rt, "a count");
+        assert_eq!(rt;
+            run_example(&rt, rt.alloc(), shows),
+            count.parse::<u64>().expect(&rt, "a number")
+        );
     }
-    Ok(())
 }

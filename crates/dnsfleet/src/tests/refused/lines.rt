@@ -8,8 +8,8 @@ use crate::tests::refused::parts::part_of;
 use fleet_name::Octets;
 use fleet_observe::Moment;
 use fleet_world::{Event, Stepped, World, WorldFault};
-use std::alloc::{AllocError, Allocator, Global};
-use std::test::Fail;
+use std::alloc::{Allocator, Global};
+use std::process::Abort;
 
 /// A line of an example, and what it prints.
 #[derive(Clone, Copy)]
@@ -21,14 +21,14 @@ pub struct Line<'a> {
 }
 
 /// The lines of a transcript.
-pub fn lines_of<'a>(alloc: Global, transcript: &'a str) -> Result<Vec<Line<'a>>, AllocError> {
+pub fn lines_of<'a>(rt: &impl Abort, alloc: Global, transcript: &'a str) -> Vec<Line<'a>> {
     let mut lines = Vec::new(alloc);
     for part in transcript.split("> ") {
         if let Some((text, prints)) = part.split_once('\n') {
-            lines.push(Line { text, prints })?;
+            lines.push(Line { text, prints }).expect(rt, "memory");
         }
     }
-    Ok(lines)
+    lines
 }
 
 /// What became of a line.
@@ -53,96 +53,115 @@ pub fn begin<A: Allocator + Copy>(fleet: &mut Fleet<A>, first: &str) -> Result<(
 
 /// Asks a site.
 fn ask<A: Allocator + Copy>(
+    rt: &impl Abort,
     world: &mut World<A>,
     alloc: A,
     site: usize,
     now: Moment,
     octets: &[u8],
-) -> Result<Ended<A>, Fail> {
+) -> Ended<A> {
     let mut out = String::new(alloc);
     match world.ask(site, now, octets) {
-        Ok(looked) => print_looked(&mut out, &looked)?,
-        Err(WorldFault::Memory { taken }) => return Ok(Ended::Short(taken)),
-        Err(fault) => return Err(fault.into()),
+        Ok(looked) => print_looked(&mut out, &looked).expect(rt, "memory"),
+        Err(WorldFault::Memory { taken }) => return Ended::Short(taken),
+        Err(fault) => panic!(rt; "{fault}"),
     }
-    Ok(Ended::Done(out))
+    Ended::Done(out)
 }
 
 /// Whether two sites hold the same.
 fn have_same_items<A: Allocator + Copy>(
+    rt: &impl Abort,
     world: &World<A>,
     one: usize,
     other: usize,
-) -> Result<bool, Fail> {
-    let one = world.site(one).ok_or("no site")?;
-    let other = world.site(other).ok_or("no site")?;
-    Ok(one.cache().same(other.cache()))
+) -> bool {
+    let one = world.site(one).expect(rt, "a site");
+    let other = world.site(other).expect(rt, "a site");
+    one.cache().same(other.cache())
 }
 
 /// Does an event.
 fn run_step<A: Allocator + Copy>(
+    rt: &impl Abort,
     world: &mut World<A>,
     alloc: A,
     step: Step<'_>,
-) -> Result<Ended<A>, Fail> {
-    let event = step.event(alloc)?;
+) -> Ended<A> {
+    let event = step.event(alloc).expect(rt, "memory");
     let stepped = world.step(&event);
-    end_of(world, alloc, &event, stepped)
+    end_of(rt, world, alloc, &event, stepped)
 }
 
 /// Does a line.
 pub fn run_line<A: Allocator + Copy>(
+    rt: &impl Abort,
     world: &mut World<A>,
     alloc: A,
     line: &str,
-) -> Result<Ended<A>, Fail> {
+) -> Ended<A> {
     let mut out = String::new(alloc);
-    match read_command(line)? {
+    match read_command(line).expect(rt, "a command") {
         Command::Sites { .. } => {}
         Command::Ask {
             site,
             now,
             question,
-        } => return ask(world, alloc, site, now, question.octets(alloc)?.as_slice()),
-        Command::Show { site } => print_site(&mut out, world.site(site).ok_or("no site")?)?,
-        Command::Same { one, other } => print_same(&mut out, have_same_items(world, one, other)?)?,
-        Command::Step(step) => return run_step(world, alloc, step),
+        } => {
+            let octets = question.octets(alloc).expect(rt, "memory");
+            return ask(rt, world, alloc, site, now, octets.as_slice());
+        }
+        Command::Show { site } => {
+            let site = world.site(site).expect(rt, "a site");
+            print_site(&mut out, site).expect(rt, "memory");
+        }
+        Command::Same { one, other } => {
+            let same = have_same_items(rt, world, one, other);
+            print_same(&mut out, same).expect(rt, "memory");
+        }
+        Command::Step(step) => return run_step(rt, world, alloc, step),
     }
-    Ok(Ended::Done(out))
+    Ended::Done(out)
 }
 
 /// What an event prints.
 pub fn print_event<A: Allocator + Copy>(
+    rt: &impl Abort,
     world: &World<A>,
     alloc: A,
     event: &Event<A>,
     stepped: &Stepped<A>,
-) -> Result<String<A>, AllocError> {
+) -> String<A> {
     let mut out = String::new(alloc);
-    print_stepped(&mut out, world, event, stepped)?;
-    Ok(out)
+    print_stepped(&mut out, world, event, stepped).expect(rt, "memory");
+    out
 }
 
 /// What became of an event.
 fn end_of<A: Allocator + Copy>(
+    rt: &impl Abort,
     world: &World<A>,
     alloc: A,
     event: &Event<A>,
     stepped: Result<Stepped<A>, WorldFault<A>>,
-) -> Result<Ended<A>, Fail> {
+) -> Ended<A> {
     match stepped {
-        Ok(stepped) => Ok(Ended::Done(print_event(world, alloc, event, &stepped)?)),
-        Err(WorldFault::Memory { taken }) => Ok(Ended::Short(taken)),
+        Ok(stepped) => Ended::Done(print_event(rt, world, alloc, event, &stepped)),
+        Err(WorldFault::Memory { taken }) => Ended::Short(taken),
         Err(WorldFault::FramesLost(stepped)) => {
-            Ok(Ended::Lost(print_event(world, alloc, event, &stepped)?))
+            Ended::Lost(print_event(rt, world, alloc, event, &stepped))
         }
-        Err(fault) => Err(fault.into()),
+        Err(fault) => panic!(rt; "{fault}"),
     }
 }
 
 /// What is done of an event that runs out of memory: a frame of the first observations comes to its
 /// site, at its moment. A tick has purged all the same, and a merge has no moment.
-fn part_of_step<A: Allocator>(step: Step<'_>, bytes: Octets<A>) -> Option<Event<A>> {
+fn part_of_step<A: Allocator>(
+    rt: &impl Abort,
+    step: Step<'_>,
+    bytes: Octets<A>,
+) -> Option<Event<A>> {
     match step {
         Step::Learn { site, now, .. } => Some(Event::Frame { site, now, bytes }),
         Step::Flush { site, now, .. } => Some(Event::Frame { site, now, bytes }),
@@ -152,7 +171,7 @@ fn part_of_step<A: Allocator>(step: Step<'_>, bytes: Octets<A>) -> Option<Event<
         Step::Tick { site, now } => Some(Event::Tick { site, now }),
         Step::Merge { into, .. } => Some(Event::Frame {
             site: into,
-            now: Moment::new(0)?,
+            now: Moment::new(0).expect(rt, "a moment"),
             bytes,
         }),
         _ => None,
@@ -160,51 +179,56 @@ fn part_of_step<A: Allocator>(step: Step<'_>, bytes: Octets<A>) -> Option<Event<
 }
 
 /// What is done of a line that runs out of memory, if anything.
-fn part_of_command<A: Allocator>(command: Command<'_>, bytes: Octets<A>) -> Option<Event<A>> {
+fn part_of_command<A: Allocator>(
+    rt: &impl Abort,
+    command: Command<'_>,
+    bytes: Octets<A>,
+) -> Option<Event<A>> {
     match command {
         Command::Ask { site, now, .. } => Some(Event::Frame { site, now, bytes }),
-        Command::Step(step) => part_of_step(step, bytes),
+        Command::Step(step) => part_of_step(rt, step, bytes),
         _ => None,
     }
 }
 
 /// Does what is done of a line that runs out of memory after this number of observations.
 pub fn run_part<A: Allocator + Copy>(
+    rt: &impl Abort,
     world: &mut World<A>,
     alloc: A,
     line: &str,
     taken: usize,
-) -> Result<(), Fail> {
-    let bytes = Octets::new(hex::decode(alloc, part_of(line, taken)?)?);
-    if let Some(event) = part_of_command(read_command(line)?, bytes) {
-        world.step(&event)?;
+) {
+    let bytes = Octets::new(hex::decode(alloc, part_of(rt, line, taken)).expect(rt, "octets"));
+    if let Some(event) = part_of_command(rt, read_command(line).expect(rt, "a command"), bytes) {
+        world.step(&event).expect(rt, "a step");
     }
-    Ok(())
 }
 
 /// Makes the sites of a fleet, as the first line may say, and does lines.
 fn run_all<A: Allocator + Copy>(
+    rt: &impl Abort,
     fleet: &mut Fleet<A>,
     alloc: A,
     first: &str,
     lines: &[Line<'_>],
-) -> Result<(), Fail> {
-    begin(fleet, first)?;
+) {
+    begin(fleet, first).expect(rt, "sites");
     for line in lines {
-        run_line(fleet.world()?, alloc, line.text)?;
+        run_line(rt, fleet.world().expect(rt, "memory"), alloc, line.text);
     }
-    Ok(())
 }
 
 /// A fleet that did these lines, the first of which may say how many sites it has.
 pub fn fleet_after<A: Allocator + Copy>(
+    rt: &impl Abort,
     alloc: A,
     first: &str,
     lines: &[Line<'_>],
-) -> Result<Fleet<A>, Fail> {
+) -> Fleet<A> {
     let mut fleet = Fleet::new(alloc);
-    run_all(&mut fleet, alloc, first, lines)?;
-    Ok(fleet)
+    run_all(rt, &mut fleet, alloc, first, lines);
+    fleet
 }
 
 /// Whether there are the same sites, which hold the same at the same floor and the same clock.
@@ -240,13 +264,13 @@ pub fn keeps_same_frames<A: Allocator + Copy>(one: &World<A>, other: &World<A>) 
 }
 
 /// The lines of a text that show no frame.
-pub fn without_frames<A: Allocator>(alloc: A, text: &str) -> Result<String<A>, AllocError> {
+pub fn without_frames<A: Allocator>(rt: &impl Abort, alloc: A, text: &str) -> String<A> {
     let mut rest = String::new(alloc);
     for line in text.lines() {
         if !line.starts_with("frame ") && !line.starts_with("swept ") {
-            rest.push_str(line)?;
-            rest.push_str("\n")?;
+            rest.push_str(line).expect(rt, "memory");
+            rest.push_str("\n").expect(rt, "memory");
         }
     }
-    Ok(rest)
+    rest
 }

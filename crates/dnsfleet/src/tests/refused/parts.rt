@@ -1,7 +1,7 @@
 //! The first observations of lines that bring several, as frames.
 
 use crate::tests::messages::digits_of;
-use std::test::Fail;
+use std::process::Abort;
 
 /// How many observations, how a line begins that brings more, and a frame of the first ones: frames
 /// of up to four other observations, the reply with two aliases and a denial, and what comes of
@@ -26,13 +26,13 @@ fn is_part_of(part: &str, line: &str, taken: usize) -> bool {
 }
 
 /// A frame of the first observations that a line brings, a number of them, in hexadecimal digits.
-pub fn part_of(line: &str, taken: usize) -> Result<&'static str, Fail> {
+pub fn part_of(rt: &impl Abort, line: &str, taken: usize) -> &'static str {
     for row in PARTS.lines() {
         if let Some((part, frame)) = row.split_once(" => ") {
             if is_part_of(part, line, taken) {
-                return digits_of(frame);
+                return digits_of(rt, frame);
             }
         }
     }
-    Err("more than it brings".into())
+    panic!(rt; "more than it brings");
 }

@@ -11,28 +11,33 @@ use crate::tests::refusing::Refusing;
 use fleet_world::{Event, Halted, Stepped, World, WorldFault};
 use std::alloc::{Allocator, Global};
 use std::process::Abort;
-use std::test::Fail;
 
 /// The lines that are events.
-fn steps_of<'a>(alloc: Global, lines: &[Line<'a>]) -> Result<Vec<Line<'a>>, Fail> {
+fn steps_of<'a>(rt: &impl Abort, alloc: Global, lines: &[Line<'a>]) -> Vec<Line<'a>> {
     let mut steps = Vec::new(alloc);
     for line in lines {
-        if let Command::Step(_) = read_command(line.text)? {
-            steps.push(*line)?;
+        if let Command::Step(_) = read_command(line.text).expect(rt, "a command") {
+            steps.push(*line).expect(rt, "memory");
         }
     }
-    Ok(steps)
+    steps
 }
 
 /// The events of lines.
-fn events_of<A: Allocator + Copy>(alloc: A, steps: &[Line<'_>]) -> Result<Vec<Event<A>, A>, Fail> {
+fn events_of<A: Allocator + Copy>(
+    rt: &impl Abort,
+    alloc: A,
+    steps: &[Line<'_>],
+) -> Vec<Event<A>, A> {
     let mut events = Vec::new(alloc);
     for line in steps {
-        if let Command::Step(step) = read_command(line.text)? {
-            events.push(step.event(alloc)?)?;
+        if let Command::Step(step) = read_command(line.text).expect(rt, "a command") {
+            events
+                .push(step.event(alloc).expect(rt, "memory"))
+                .expect(rt, "memory");
         }
     }
-    Ok(events)
+    events
 }
 
 /// Checks what events did that were all done.
@@ -43,25 +48,28 @@ fn check_run<A: Allocator + Copy>(
     events: &[Event<A>],
     all: &[Stepped<A>],
     steps: &[Line<'_>],
-) -> Result<(), Fail> {
+) {
     assert_eq!(rt; all.len(), steps.len());
     for ((event, stepped), line) in events.iter().zip(all).zip(steps) {
-        let text = print_event(world, alloc, event, stepped)?;
+        let text = print_event(rt, world, alloc, event, stepped);
         assert_eq!(rt; text.as_str(), line.prints);
     }
-    Ok(())
 }
 
 /// Whether a line that ran out of memory had begun: it took something, or a clock has risen.
 fn has_begun<A: Allocator + Copy>(
+    rt: &impl Abort,
     fleet: &mut Fleet<A>,
     before: &mut Fleet<A>,
     taken: usize,
-) -> Result<bool, Fail> {
+) -> bool {
     if taken > 0 {
-        return Ok(true);
+        return true;
     }
-    Ok(!has_same_sites(fleet.world()?, before.world()?))
+    !has_same_sites(
+        fleet.world().expect(rt, "memory"),
+        before.world().expect(rt, "memory"),
+    )
 }
 
 /// Checks a fleet whose run was halted at a line that ran out of memory, which may not have begun.
@@ -72,9 +80,15 @@ fn check_halted<A: Allocator + Copy>(
     before: &mut Fleet<A>,
     line: &Line<'_>,
     taken: usize,
-) -> Result<(), Fail> {
-    if has_begun(fleet, before, taken)? {
-        run_part(before.world()?, alloc, line.text, taken)?;
+) {
+    if has_begun(rt, fleet, before, taken) {
+        run_part(
+            rt,
+            before.world().expect(rt, "memory"),
+            alloc,
+            line.text,
+            taken,
+        );
     }
     check_same(rt, fleet, before, line.text)
 }
@@ -94,19 +108,20 @@ struct Left<'a, A: Allocator + Copy> {
 
 /// Where lines and their events are halted at a place.
 fn left_at<'a, A: Allocator + Copy>(
+    rt: &impl Abort,
     steps: &'a [Line<'a>],
     events: &'a [Event<A>],
     at: usize,
-) -> Result<Left<'a, A>, Fail> {
-    let (done, steps) = steps.split_at_checked(at).ok_or("no line")?;
-    let (_, events) = events.split_at_checked(at).ok_or("no event")?;
-    let line = steps.first().ok_or("no line")?;
-    Ok(Left {
+) -> Left<'a, A> {
+    let (done, steps) = steps.split_at_checked(at).expect(rt, "a line");
+    let (_, events) = events.split_at_checked(at).expect(rt, "an event");
+    let line = steps.first().expect(rt, "a line");
+    Left {
         done,
         line,
         steps,
         events,
-    })
+    }
 }
 
 /// Runs the events that are left.
@@ -115,9 +130,9 @@ fn run_left<A: Allocator + Copy>(
     alloc: A,
     fleet: &mut Fleet<A>,
     left: Left<'_, A>,
-) -> Result<(), Fail> {
-    let world = fleet.world()?;
-    let all = world.run(left.events)?;
+) {
+    let world = fleet.world().expect(rt, "memory");
+    let all = world.run(left.events).expect(rt, "a run");
     check_run(rt, alloc, world, left.events, &all, left.steps)
 }
 
@@ -129,9 +144,15 @@ fn check_frames_lost<A: Allocator + Copy>(
     before: &mut Fleet<A>,
     left: Left<'_, A>,
     stepped: &Stepped<A>,
-) -> Result<(), Fail> {
-    let event = left.events.first().ok_or("no event")?;
-    let text = print_event(fleet.world()?, alloc, event, stepped)?;
+) {
+    let event = left.events.first().expect(rt, "an event");
+    let text = print_event(
+        rt,
+        fleet.world().expect(rt, "memory"),
+        alloc,
+        event,
+        stepped,
+    );
     check_lost(rt, alloc, fleet, before, left.line, text.as_str())
 }
 
@@ -144,16 +165,16 @@ fn go_on_after<A: Allocator + Copy>(
     before: &mut Fleet<A>,
     left: Left<'_, A>,
     fault: WorldFault<A>,
-) -> Result<(), Fail> {
+) {
     match fault {
         WorldFault::Memory { taken } => {
-            check_halted(rt, alloc, fleet, before, left.line, taken)?;
+            check_halted(rt, alloc, fleet, before, left.line, taken);
             run_left(rt, alloc, fleet, left)
         }
         WorldFault::FramesLost(stepped) => {
             check_frames_lost(rt, alloc, fleet, before, left, &stepped)
         }
-        fault => Err(fault.into()),
+        fault => panic!(rt; "{fault}"),
     }
 }
 
@@ -166,9 +187,9 @@ fn go_on<A: Allocator + Copy>(
     steps: &[Line<'_>],
     events: &[Event<A>],
     halted: Halted<A>,
-) -> Result<(), Fail> {
-    let left = left_at(steps, events, halted.at)?;
-    let mut before = fleet_after(ample, first, left.done)?;
+) {
+    let left = left_at(rt, steps, events, halted.at);
+    let mut before = fleet_after(rt, ample, first, left.done);
     go_on_after(rt, ample, fleet, &mut before, left, halted.fault)
 }
 
@@ -180,13 +201,20 @@ fn run_events<A: Allocator + Copy>(
     fleet: &mut Fleet<A>,
     first: &str,
     steps: &[Line<'_>],
-) -> Result<(), Fail> {
-    let events = events_of(ample, steps)?;
+) {
+    let events = events_of(rt, ample, steps);
     let had_refused = refusing.has_refused();
-    let ran = fleet.world()?.run(&events);
+    let ran = fleet.world().expect(rt, "memory").run(&events);
     assert_eq!(rt; ran.is_ok(), refusing.has_refused() == had_refused);
     match ran {
-        Ok(all) => check_run(rt, ample, fleet.world()?, &events, &all, steps),
+        Ok(all) => check_run(
+            rt,
+            ample,
+            fleet.world().expect(rt, "memory"),
+            &events,
+            &all,
+            steps,
+        ),
         Err(halted) => go_on(rt, ample, fleet, first, steps, &events, halted),
     }
 }
@@ -199,48 +227,42 @@ fn run_steps<A: Allocator + Copy>(
     refusing: &Refusing<Global>,
     first: &str,
     steps: &[Line<'_>],
-) -> Result<(), Fail> {
+) {
     let mut fleet = Fleet::new(alloc);
-    begin_refused(rt, &mut fleet, refusing, first)?;
+    begin_refused(rt, &mut fleet, refusing, first);
     run_events(rt, ample, refusing, &mut fleet, first, steps)
 }
 
 /// Runs the events of an example at once with a call refused, and says whether that call was made.
-fn run_at_once(
-    rt: &impl Abort,
-    alloc: Global,
-    lines: &[Line<'_>],
-    call: u64,
-) -> Result<bool, Fail> {
+fn run_at_once(rt: &impl Abort, alloc: Global, lines: &[Line<'_>], call: u64) -> bool {
     let ample = Refusing::after(alloc, 0);
     let refusing = Refusing::after(alloc, call);
-    let first = lines.first().ok_or("no line")?.text;
-    let steps = steps_of(alloc, lines)?;
-    run_steps(rt, &ample, &refusing, &refusing, first, &steps)?;
-    Ok(refusing.has_refused())
+    let first = lines.first().expect(rt, "a line").text;
+    let steps = steps_of(rt, alloc, lines);
+    run_steps(rt, &ample, &refusing, &refusing, first, &steps);
+    refusing.has_refused()
 }
 
 /// Runs the events of an example at once with each call refused in turn, until one is not made.
-fn refuse_each(rt: &impl Abort, alloc: Global, lines: &[Line<'_>]) -> Result<(), Fail> {
+fn refuse_each(rt: &impl Abort, alloc: Global, lines: &[Line<'_>]) {
     for call in 1..MANY {
-        if !run_at_once(rt, alloc, lines, call)? {
-            return Ok(());
+        if !run_at_once(rt, alloc, lines, call) {
+            return;
         }
     }
-    Err("refused each time".into())
+    panic!(rt; "refused each time");
 }
 
 /// Runs the events of the example that shows this so.
-fn refuse_example(rt: &impl Abort, alloc: Global, shows: &str) -> Result<(), Fail> {
-    let transcript = example_of(alloc, shows)?.spelled(alloc)?;
-    let lines = lines_of(alloc, transcript.as_str())?;
+fn refuse_example(rt: &impl Abort, alloc: Global, shows: &str) {
+    let transcript = example_of(rt, alloc, shows).spelled(rt, alloc);
+    let lines = lines_of(rt, alloc, transcript.as_str());
     refuse_each(rt, alloc, &lines)
 }
 
 #[test]
-fn a_run_without_memory_goes_on_where_it_halted(rt: HostRuntime) -> Result<(), Fail> {
+fn a_run_without_memory_goes_on_where_it_halted(rt: HostRuntime) {
     for shows in REFUSED.lines() {
-        refuse_example(&rt, rt.alloc(), shows)?;
+        refuse_example(&rt, rt.alloc(), shows);
     }
-    Ok(())
 }

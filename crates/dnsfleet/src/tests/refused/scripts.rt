@@ -7,7 +7,6 @@ use crate::tests::refusing::Refusing;
 use crate::{LineFault, ScriptFault, run_script};
 use std::alloc::Global;
 use std::process::Abort;
-use std::test::Fail;
 
 /// How many octets of a transcript come before the line with this number.
 fn end_before(lines: &[Line<'_>], number: u64) -> usize {
@@ -24,10 +23,10 @@ fn end_before(lines: &[Line<'_>], number: u64) -> usize {
 }
 
 /// The part of a transcript before the line with this number.
-fn before_line(alloc: Global, transcript: &str, number: u64) -> Result<&str, Fail> {
-    let lines = lines_of(alloc, transcript)?;
+fn before_line<'a>(rt: &impl Abort, alloc: Global, transcript: &'a str, number: u64) -> &'a str {
+    let lines = lines_of(rt, alloc, transcript);
     let end = end_before(&lines, number);
-    Ok(transcript.get(..end).ok_or("no such line")?)
+    transcript.get(..end).expect(rt, "a line")
 }
 
 /// Checks what was printed before a line that ran out of memory.
@@ -37,51 +36,43 @@ fn check_printed(
     transcript: &str,
     fault: ScriptFault,
     printed: &[u8],
-) -> Result<(), Fail> {
+) {
     assert_eq!(rt; fault.what, LineFault::OutOfMemory);
-    let before = before_line(alloc, transcript, fault.line)?;
-    let (_, wanted) = parts_of(alloc, before)?;
+    let before = before_line(rt, alloc, transcript, fault.line);
+    let (_, wanted) = parts_of(rt, alloc, before);
     assert_eq!(rt; printed, wanted.as_bytes());
-    Ok(())
 }
 
 /// Runs the lines of a transcript with a call refused, and says whether that call was made.
-fn run_refused(
-    rt: &impl Abort,
-    alloc: Global,
-    transcript: &str,
-    text: &str,
-    call: u64,
-) -> Result<bool, Fail> {
+fn run_refused(rt: &impl Abort, alloc: Global, transcript: &str, text: &str, call: u64) -> bool {
     let refusing = Refusing::after(alloc, call);
     let mut printed = Vec::new(alloc);
     let ended = run_script(&refusing, &mut text.as_bytes(), &mut printed);
     assert_eq!(rt; ended.is_err(), refusing.has_refused());
     match ended {
-        Ok(()) => Ok(false),
+        Ok(()) => false,
         Err(fault) => {
-            check_printed(rt, alloc, transcript, fault, &printed)?;
-            Ok(true)
+            check_printed(rt, alloc, transcript, fault, &printed);
+            true
         }
     }
 }
 
 /// Runs the lines of a transcript with each call refused in turn, until one is not made.
-fn refuse_each(rt: &impl Abort, alloc: Global, transcript: &str) -> Result<(), Fail> {
-    let (text, _) = parts_of(alloc, transcript)?;
+fn refuse_each(rt: &impl Abort, alloc: Global, transcript: &str) {
+    let (text, _) = parts_of(rt, alloc, transcript);
     for call in 1..MANY {
-        if !run_refused(rt, alloc, transcript, text.as_str(), call)? {
-            return Ok(());
+        if !run_refused(rt, alloc, transcript, text.as_str(), call) {
+            return;
         }
     }
-    Err("refused each time".into())
+    panic!(rt; "refused each time");
 }
 
 #[test]
-fn a_script_ends_where_a_call_is_refused(rt: HostRuntime) -> Result<(), Fail> {
-    for example in &all_examples(rt.alloc())? {
-        let transcript = example.spelled(rt.alloc())?;
-        refuse_each(&rt, rt.alloc(), transcript.as_str())?;
+fn a_script_ends_where_a_call_is_refused(rt: HostRuntime) {
+    for example in &all_examples(&rt, rt.alloc()) {
+        let transcript = example.spelled(&rt, rt.alloc());
+        refuse_each(&rt, rt.alloc(), transcript.as_str());
     }
-    Ok(())
 }

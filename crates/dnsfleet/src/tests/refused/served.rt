@@ -13,7 +13,6 @@ use rand_core::utils::NextWord;
 use rand_core::{Rng, utils};
 use std::alloc::{Allocator, Global};
 use std::process::Abort;
-use std::test::Fail;
 
 /// Gives one word, again and again.
 #[derive(Drop)]
@@ -61,27 +60,37 @@ fn addr(port: u16) -> Addr {
 }
 
 /// A port at which the question arrives.
-fn port<A: Allocator + Copy>(alloc: A, ample: A) -> Result<MemoryPort<A>, Fail> {
+fn port<A: Allocator + Copy>(rt: &impl Abort, alloc: A, ample: A) -> MemoryPort<A> {
     let mut arrivals = Vec::new(ample);
-    arrivals.push(Some((addr(6001), Octets::copy_of(ample, QUESTION)?)))?;
-    Ok(MemoryPort::new(alloc, arrivals, None))
+    arrivals
+        .push(Some((
+            addr(6001),
+            Octets::copy_of(ample, QUESTION).expect(rt, "memory"),
+        )))
+        .expect(rt, "memory");
+    MemoryPort::new(alloc, arrivals, None)
 }
 
 /// A site with two upstreams.
-fn site<A: Allocator + Copy>(alloc: A, ample: A) -> Result<Site<A>, Fail> {
+fn site<A: Allocator + Copy>(rt: &impl Abort, alloc: A, ample: A) -> Site<A> {
     let mut upstreams = Vec::new(ample);
-    upstreams.push(addr(5301))?;
-    upstreams.push(addr(5302))?;
-    Ok(Site::new(alloc, Config::new(upstreams, Vec::new(ample))?))
+    upstreams.push(addr(5301)).expect(rt, "memory");
+    upstreams.push(addr(5302)).expect(rt, "memory");
+    Site::new(
+        alloc,
+        Config::new(upstreams, Vec::new(ample)).expect(rt, "a config"),
+    )
 }
 
 /// A clock that gives the moments of three turns.
-fn clock<A: Allocator>(alloc: A) -> Result<ListClock<A>, Fail> {
+fn clock<A: Allocator>(rt: &impl Abort, alloc: A) -> ListClock<A> {
     let mut moments = Vec::new(alloc);
     for second in [100, 102, 104] {
-        moments.push(Moment::new(second).ok_or("no moment")?)?;
+        moments
+            .push(Moment::new(second).expect(rt, "a moment"))
+            .expect(rt, "memory");
     }
-    Ok(ListClock::new(moments))
+    ListClock::new(moments)
 }
 
 /// What three turns may count where the datagram came in.
@@ -149,34 +158,25 @@ fn is_sending<A: Allocator + Copy>(outcome: &Outcome<A>, port: u16, octets: &[u8
 
 /// Checks a tick after the turns: where a query went out and its failure did not, that failure is
 /// due at 106.
-fn check_tick<A: Allocator + Copy>(
-    rt: &impl Abort,
-    site: &mut Site<A>,
-    late: Moment,
-    sent: u64,
-) -> Result<(), Fail> {
-    let outcome = site.tick(late)?;
+fn check_tick<A: Allocator + Copy>(rt: &impl Abort, site: &mut Site<A>, late: Moment, sent: u64) {
+    let outcome = site.tick(late).expect(rt, "memory");
     assert!(rt; !outcome.more);
     if sent == 2 {
         assert!(rt; is_sending(&outcome, 6001, FAILURE));
     } else {
         assert!(rt; outcome.packets.as_slice().is_empty());
     }
-    Ok(())
 }
 
 /// Checks the table of a site after its turns: it has one failure that is due, or none, and then
 /// the question is as new.
-fn check_table<A: Allocator + Copy>(
-    rt: &impl Abort,
-    site: &mut Site<A>,
-    sent: u64,
-) -> Result<(), Fail> {
-    let late = Moment::new(106).ok_or("no moment")?;
-    check_tick(rt, site, late, sent)?;
-    let outcome = site.datagram(late, addr(6001), QUESTION, 0x1234)?;
+fn check_table<A: Allocator + Copy>(rt: &impl Abort, site: &mut Site<A>, sent: u64) {
+    let late = Moment::new(106).expect(rt, "a moment");
+    check_tick(rt, site, late, sent);
+    let outcome = site
+        .datagram(late, addr(6001), QUESTION, 0x1234)
+        .expect(rt, "memory");
     assert!(rt; is_sending(&outcome, 5301, QUERY));
-    Ok(())
 }
 
 /// How many calls of a port failed.
@@ -208,13 +208,14 @@ fn check_site<A: Allocator + Copy>(rt: &impl Abort, site: &Site<A>) {
 
 /// Serves three turns of a site at a port.
 fn serve_turns<A: Allocator + Copy>(
+    rt: &impl Abort,
     ample: A,
     port: &mut MemoryPort<A>,
     site: &mut Site<A>,
-) -> Result<Report, Fail> {
-    let mut clock = clock(ample)?;
+) -> Report {
+    let mut clock = clock(rt, ample);
     let mut words = OneWord(0xabcd_1234);
-    Ok(serve(port, &mut clock, &mut words, site, 3, 0))
+    serve(port, &mut clock, &mut words, site, 3, 0)
 }
 
 /// Serves three turns of a site at a port, and says what was counted.
@@ -223,15 +224,15 @@ fn serve_site<A: Allocator + Copy>(
     ample: A,
     port: &mut MemoryPort<A>,
     site: &mut Site<A>,
-) -> Result<Report, Fail> {
-    let report = serve_turns(ample, port, site)?;
+) -> Report {
+    let report = serve_turns(rt, ample, port, site);
     check_report(rt, &report);
     check_port(rt, port, &report);
     check_site(rt, site);
     if report.short > 0 {
-        check_table(rt, site, report.sent)?;
+        check_table(rt, site, report.sent);
     }
-    Ok(report)
+    report
 }
 
 /// The same, of a new site.
@@ -240,37 +241,37 @@ fn serve_port<A: Allocator + Copy>(
     alloc: A,
     ample: A,
     port: &mut MemoryPort<A>,
-) -> Result<Report, Fail> {
-    let mut site = site(alloc, ample)?;
+) -> Report {
+    let mut site = site(rt, alloc, ample);
     serve_site(rt, ample, port, &mut site)
 }
 
 /// The same, at a new port.
-fn serve_new<A: Allocator + Copy>(rt: &impl Abort, alloc: A, ample: A) -> Result<Report, Fail> {
-    let mut port = port(alloc, ample)?;
+fn serve_new<A: Allocator + Copy>(rt: &impl Abort, alloc: A, ample: A) -> Report {
+    let mut port = port(rt, alloc, ample);
     serve_port(rt, alloc, ample, &mut port)
 }
 
 /// Serves three turns with a call refused, and says what was counted, and whether there was such a
 /// call. Nothing is counted of the buffer for replies, which is done without.
-fn serve_refused(rt: &impl Abort, alloc: Global, call: u64) -> Result<(Report, bool), Fail> {
+fn serve_refused(rt: &impl Abort, alloc: Global, call: u64) -> (Report, bool) {
     let ample = Refusing::after(alloc, 0);
     let refusing = Refusing::after(alloc, call);
-    let report = serve_new(rt, &refusing, &ample)?;
-    Ok((report, refusing.has_refused()))
+    let report = serve_new(rt, &refusing, &ample);
+    (report, refusing.has_refused())
 }
 
 #[test]
-fn a_server_counts_what_found_no_memory(rt: HostRuntime) -> Result<(), Fail> {
+fn a_server_counts_what_found_no_memory(rt: HostRuntime) {
     let mut met = [false; 5];
     let mut without_buffer = false;
     for call in 1..MANY {
-        let (report, has_refused) = serve_refused(&rt, rt.alloc(), call)?;
+        let (report, has_refused) = serve_refused(&rt, rt.alloc(), call);
         if !has_refused {
             assert_eq!(rt; report, report_of(3, 0, 0, 0));
             assert_eq!(rt; met, [true; 5]);
             assert!(rt; without_buffer);
-            return Ok(());
+            return;
         }
         if report == report_of(3, 0, 0, 0) {
             assert!(rt; !without_buffer);
@@ -283,5 +284,5 @@ fn a_server_counts_what_found_no_memory(rt: HostRuntime) -> Result<(), Fail> {
             met[place] = true;
         }
     }
-    Err("refused each time".into())
+    panic!(rt; "refused each time");
 }

@@ -8,14 +8,18 @@ use fleet_pending::Addr;
 use fleet_site::{Config, Site, SiteFault};
 use std::alloc::{Allocator, Global};
 use std::process::Abort;
-use std::test::Fail;
 
 /// A site that asks one upstream.
-fn site<A: Allocator + Copy>(alloc: A, ample: A) -> Result<Site<A>, Fail> {
+fn site<A: Allocator + Copy>(rt: &impl Abort, alloc: A, ample: A) -> Site<A> {
     let host = 0x7f00_0001;
     let mut upstreams = Vec::new(ample);
-    upstreams.push(Addr { host, port: 5301 })?;
-    Ok(Site::new(alloc, Config::new(upstreams, Vec::new(ample))?))
+    upstreams
+        .push(Addr { host, port: 5301 })
+        .expect(rt, "memory");
+    Site::new(
+        alloc,
+        Config::new(upstreams, Vec::new(ample)).expect(rt, "a config"),
+    )
 }
 
 /// The site learns the reply with two aliases and a denial: how many observations it took, and
@@ -33,35 +37,35 @@ fn check_learning<A: Allocator + Copy>(
     rt: &impl Abort,
     refusing: &Refusing<Global>,
     site: &mut Site<A>,
-) -> Result<bool, Fail> {
-    let now = Moment::new(100).ok_or("no moment")?;
+) -> bool {
+    let now = Moment::new(100).expect(rt, "a moment");
     let (taken, is_all) = learn(site, now);
     assert_eq!(rt; is_all, !refusing.has_refused());
     assert_eq!(rt; site.clock(), now);
     assert_eq!(rt; site.cache().len(), taken);
     if is_all {
         assert_eq!(rt; taken, 3);
-        return Ok(false);
+        return false;
     }
     assert_eq!(rt; learn(site, now), (3, true));
     assert_eq!(rt; site.cache().len(), 3);
-    Ok(true)
+    true
 }
 
 /// A site learns the reply with a call refused; says whether that call was made.
-fn learn_refused(rt: &impl Abort, alloc: Global, call: u64) -> Result<bool, Fail> {
+fn learn_refused(rt: &impl Abort, alloc: Global, call: u64) -> bool {
     let ample = Refusing::after(alloc, 0);
     let refusing = Refusing::after(alloc, call);
-    let mut site = site(&refusing, &ample)?;
+    let mut site = site(rt, &refusing, &ample);
     check_learning(rt, &refusing, &mut site)
 }
 
 #[test]
-fn a_site_holds_as_many_as_it_says(rt: HostRuntime) -> Result<(), Fail> {
+fn a_site_holds_as_many_as_it_says(rt: HostRuntime) {
     for call in 1..MANY {
-        if !learn_refused(&rt, rt.alloc(), call)? {
-            return Ok(());
+        if !learn_refused(&rt, rt.alloc(), call) {
+            return;
         }
     }
-    Err("refused each time".into())
+    panic!(rt; "refused each time");
 }

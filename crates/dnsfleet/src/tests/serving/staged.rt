@@ -8,7 +8,6 @@ use crate::tests::messages::QUESTION;
 use std::alloc::Global;
 use std::cell::Cell;
 use std::net::{Ipv4Addr, Net, SocketAddr, SocketAddrV4, TcpListener, TcpStream, UdpSocket};
-use std::test::Fail;
 use std::time::Duration;
 use std::{io, time};
 
@@ -80,20 +79,20 @@ impl Net for Staged<'_> {
 /// The first upstream does not answer, to the second nothing can be sent, and then the client gets
 /// a failure, each two seconds later.
 #[test]
-fn serves_what_comes_as_time_goes_on(rt: HostRuntime) -> Result<(), Fail> {
+fn serves_what_comes_as_time_goes_on(rt: HostRuntime) {
+    let free = SocketAddrV4::new(Ipv4Addr::LOCALHOST, 0);
     let staged = Staged {
         rt: &rt,
-        client: &UdpSocket::bind(&rt, SocketAddrV4::new(Ipv4Addr::LOCALHOST, 0))?,
-        port: free_port(&rt)?,
+        client: &UdpSocket::bind(&rt, free).expect(&rt, "a socket"),
+        port: free_port(&rt, &rt),
         second: Cell::new(0),
     };
     let port = staged.port;
     let captured = Captured::new(rt.alloc());
-    let settings = settings_for(rt.alloc(), port)?;
+    let settings = settings_for(&rt, rt.alloc(), port);
     let ran = serve_settings(&staged, &captured, Ok(settings), [7; 32], 6);
     let printed = format!(in rt.alloc();
         "listening 127.0.0.1:{port}\nturns 6 received 5 sent 2 lost 1 faults 0 refused 4 short 0\n"
-    )?;
+    ).expect(&rt, "memory");
     check_end(&rt, end(captured, ran), 0, printed.as_str(), "");
-    Ok(())
 }
