@@ -11,7 +11,7 @@ use fleet_world::Event;
 use std::alloc::{AllocError, Allocator};
 
 /// What a line asks for.
-#[derive(Debug, Drop)]
+#[derive(Drop)]
 pub enum Command<'a> {
     /// The fleet has this number of sites.
     Sites {
@@ -37,7 +37,7 @@ pub enum Command<'a> {
 }
 
 /// An event of the world, its octets still as the line spells them.
-#[derive(Debug, Drop)]
+#[derive(Drop)]
 pub enum Step<'a> {
     /// A site is handed a reply.
     Learn {

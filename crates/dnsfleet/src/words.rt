@@ -62,7 +62,7 @@ pub fn moment(word: &str) -> Option<Moment>
 }
 
 /// How many sites there are: 1 to 9.
-#[derive(Clone, Copy, Debug)]
+#[derive(Clone, Copy)]
 pub struct SiteCount {
     /// The number.
     pub value: usize,
@@ -124,7 +124,7 @@ pub fn address(word: &str) -> Option<Addr>
 }
 
 /// Octets as a word spells them. Contracts see the octets.
-#[derive(Debug, Drop)]
+#[derive(Drop)]
 pub struct Hex<'a> {
     digits: &'a str,
 }
@@ -190,7 +190,7 @@ impl<'a> Hex<'a> {
 
 /// A name, as a word spells its octets in full, with letters of either case. Contracts see the name,
 /// in lower case.
-#[derive(Debug, Drop)]
+#[derive(Drop)]
 pub struct NameWord<'a> {
     octets: Hex<'a>,
 }
