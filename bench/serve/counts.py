@@ -16,7 +16,14 @@ sys.dont_write_bytecode = True
 
 import run
 
-PASSES = 10
+# Octets, ways and octets a line of the cache behind the first whose misses are counted: a second cache of one processor.
+SECOND_CACHE = "1048576,16,64"
+MISSES = {
+    "D1mr": "reads that miss the first cache",
+    "DLmr": "reads that miss the second as well",
+    "D1mw": "writes that miss the first cache",
+    "DLmw": "writes that miss the second as well",
+}
 
 
 def fill_and_ask(data, passes):
@@ -46,7 +53,7 @@ def system_calls(servers, folder, options, data):
     path = os.path.join(folder, "strace")
     tracer = subprocess.Popen(["strace", "-c", "-o", path, "-p", str(process.pid)], stderr=subprocess.DEVNULL)
     time.sleep(1)
-    asked = run.dnsperf("dnsfleet", data, ["-n", str(PASSES), "-q", "20"], None, 600)["completed"]
+    asked = run.dnsperf("dnsfleet", data, ["-n", str(options.passes), "-q", "20"], None, 600)["completed"]
     end(tracer, signal.SIGINT)
     end(process, signal.SIGTERM)
     print(f"Calls of the system over {asked:.0f} hits:")
@@ -58,16 +65,19 @@ def system_calls(servers, folder, options, data):
 
 
 class Profile:
-    """Instructions and calls of a callgrind file."""
+    """Instructions, calls and, where they were counted, misses of a callgrind file."""
 
     def __init__(self, path):
         self.names = {}
         self.own = collections.Counter()
         self.calls = collections.Counter()
-        here, called = None, False
+        self.events = collections.Counter()
+        here, called, events = None, False, []
         with open(path) as file:
             for line in file:
-                if line.startswith("fn="):
+                if line.startswith("events:"):
+                    events = line.split()[1:]
+                elif line.startswith("fn="):
                     here = self.name(line[3:])
                 elif line.startswith("cfn="):
                     there = self.name(line[4:])
@@ -76,7 +86,9 @@ class Profile:
                     called = True
                 elif re.match(r"[-+*\d]", line):
                     if not called:
-                        self.own[here] += int(line.split()[1])
+                        counts = [int(it) for it in line.split()[1:]]
+                        self.own[here] += counts[0]
+                        self.events.update(dict(zip(events, counts)))
                     called = False
 
     def name(self, text):
@@ -89,6 +101,8 @@ class Profile:
 def profile(servers, folder, options, data, passes):
     path = os.path.join(folder, f"callgrind-{passes}")
     words = ["valgrind", "--quiet", "--tool=callgrind", f"--callgrind-out-file={path}"]
+    if options.misses:
+        words += ["--cache-sim=yes", f"--LL={SECOND_CACHE}"]
     process = site(servers, folder, options, words)
     asked = fill_and_ask(data, passes)
     end(process, signal.SIGTERM)
@@ -96,8 +110,8 @@ def profile(servers, folder, options, data, passes):
 
 
 def instructions(servers, folder, options, data):
-    few, asked = profile(servers, folder, options, data, PASSES)
-    many, asked_more = profile(servers, folder, options, data, 2 * PASSES)
+    few, asked = profile(servers, folder, options, data, options.passes)
+    many, asked_more = profile(servers, folder, options, data, 2 * options.passes)
     hits = asked_more - asked
     total = (sum(many.own.values()) - sum(few.own.values())) / hits
     print(f"\nInstructions a hit, without the system's: {total:.0f}")
@@ -106,13 +120,19 @@ def instructions(servers, folder, options, data):
     print("Calls of the allocator a hit:")
     for name in ("malloc", "calloc", "realloc", "free"):
         print(f"  {(many.calls[name] - few.calls[name]) / hits:6.2f} {name}")
+    if options.misses:
+        print("Misses a hit, in callgrind's model of two caches:")
+        for event, text in MISSES.items():
+            print(f"  {(many.events[event] - few.events[event]) / hits:6.2f} {text}")
 
 
 def options_of():
     words = argparse.ArgumentParser(description=__doc__)
     words.add_argument("--program", required=True, help="the built dnsfleet")
     words.add_argument("--names", type=int, default=1000, help="how many names (1000)")
+    words.add_argument("--passes", type=int, default=10, help="how often each name is asked for, and twice that (10)")
     words.add_argument("--lines", type=int, default=30, help="how many functions are shown (30)")
+    words.add_argument("--misses", action="store_true", help="count misses of the processor's caches as well")
     return words.parse_args()
 
 
