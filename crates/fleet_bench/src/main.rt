@@ -1,0 +1,100 @@
+//! The jobs that a fleet is timed by, each over a made-up network: `fleet_bench JOB SEED COUNT`.
+//!
+//! A job prints a digest of all that came out of it, and no times. A seed (below 2^32) gives a
+//! network of its own of the same kind and size; the count says how much is done.
+//!
+//! - `hits`: a server's turns, COUNT of them: clients ask for some thousand names, most of which it
+//!   holds.
+//! - `misses`: a server's turns: each question is for a name that was not asked before.
+//! - `gossip`: three sites learn the replies of COUNT names, sweep, and take in what the others
+//!   sent, some of it late, twice or never.
+//! - `slow`: a server's turns: its first upstream takes long and loses queries, many questions are
+//!   open, names are deep, aliases come in chains, and half of the questions have capital letters.
+#![tactic(auto)]
+
+mod digest;
+mod gossip;
+mod message;
+mod network;
+mod noise;
+mod serving;
+mod zone;
+
+use digest::Digest;
+use gossip::gossip;
+use serving::{Traffic, serve_turns};
+use std::env;
+
+/// Clients that ask again and again for the same names.
+const HITS: Traffic = Traffic {
+    names: 40_000,
+    fresh: 0,
+    spelled: 0,
+    lost: 0,
+    delay: 8,
+    per_second: 4_000,
+    depth: 0,
+    chain: 2,
+};
+
+/// Clients that ask for names that nobody asked for before.
+const MISSES: Traffic = Traffic {
+    names: 0,
+    fresh: 100,
+    spelled: 0,
+    lost: 0,
+    delay: 20,
+    per_second: 4_000,
+    depth: 0,
+    chain: 2,
+};
+
+/// An upstream that is slow and loses queries, and clients that make it hard.
+const SLOW: Traffic = Traffic {
+    names: 5_000,
+    fresh: 40,
+    spelled: 50,
+    lost: 3,
+    delay: 250,
+    per_second: 200,
+    depth: 12,
+    chain: 8,
+};
+
+/// The number that a word spells.
+fn number(words: &[String], at: usize) -> anyhow::Result<u32> {
+    match words.get(at) {
+        Some(word) => Ok(word.as_str().parse::<u32>()?),
+        None => Err(anyhow::anyhow!("fleet_bench JOB SEED COUNT")),
+    }
+}
+
+/// Does a job, and gives the digest of what came out of it.
+fn work(rt: &HostRuntime, job: &str, seed: u32, count: u32) -> anyhow::Result<Digest> {
+    match job {
+        "hits" => serve_turns(rt.alloc(), &HITS, seed, count),
+        "misses" => serve_turns(rt.alloc(), &MISSES, seed, count),
+        "slow" => serve_turns(rt.alloc(), &SLOW, seed, count),
+        "gossip" => gossip(rt.alloc(), seed, count),
+        _ => Err(anyhow::anyhow!("no such job")),
+    }
+}
+
+/// Does the jobs of the words, three for each, and prints a line for each.
+fn main(rt: HostRuntime) -> anyhow::Result<()> {
+    let words: Vec<String> = env::args(&rt)?.collect(rt.alloc())?;
+    let jobs = words.len() / 3;
+    for job in 0..jobs {
+        let at = 1 + 3 * job;
+        let name = match words.get(at) {
+            Some(word) => word.as_str(),
+            None => "",
+        };
+        let seed = number(&words, at + 1)?;
+        let count = number(&words, at + 2)?;
+        let digest = work(&rt, name, seed, count)?;
+        let value = digest.value();
+        println!(rt; "{name} {value:016x}")?;
+    }
+    Ok(())
+}

@@ -1,0 +1,275 @@
+//! The names of a made-up network, and the replies that their servers give.
+
+use crate::message::{Counts, Message};
+use crate::noise::mixed;
+use std::alloc::AllocError;
+
+/// A pointer to the question's name.
+const QUESTION: u16 = 0xc00c;
+
+const A: u16 = 1;
+
+const CNAME: u16 = 5;
+
+const SOA: u16 = 6;
+
+const MX: u16 = 15;
+
+const AAAA: u16 = 28;
+
+const CONSONANTS: [u8; 20] = *b"bcdfghjklmnpqrstvwxz";
+
+const VOWELS: [u8; 5] = *b"aeiou";
+
+/// What the servers know of a name.
+#[derive(Clone, Copy)]
+enum Shape {
+    /// So many addresses of four octets.
+    Addresses(u8),
+    /// So many addresses of sixteen octets.
+    LongAddresses(u8),
+    /// So many aliases, one behind the other, and an address.
+    Aliases(u8),
+    /// Two mail servers.
+    Mail,
+    /// Nothing of the type that is asked for.
+    NoData,
+    /// That it does not exist.
+    NoName,
+}
+
+/// Names by their numbers.
+#[derive(Clone, Copy)]
+pub struct Zone {
+    /// What sets it apart from other networks.
+    pub seed: u32,
+    /// The most labels that a name has above the usual ones.
+    pub depth: u32,
+    /// The most aliases of a name, at most 8.
+    pub chain: u32,
+}
+
+/// The lower half of a word.
+fn low_half(word: u64) -> u32 {
+    (word % 4_294_967_296) as u32
+}
+
+/// The label of a host.
+fn host_label(word: u64) -> &'static [u8] {
+    match word % 6 {
+        0 => b"\x04mail",
+        1 => b"\x03api",
+        2 => b"\x03cdn",
+        3 => b"\x03img",
+        4 => b"\x06static",
+        _ => b"\x05login",
+    }
+}
+
+/// The last labels of a name, with the root.
+fn last_labels(word: u64) -> &'static [u8] {
+    match word % 8 {
+        0 => b"\x03net\x00",
+        1 => b"\x03org\x00",
+        2 => b"\x02de\x00",
+        3 => b"\x02co\x02uk\x00",
+        4 => b"\x02io\x00",
+        _ => b"\x03com\x00",
+    }
+}
+
+/// How long a record may be kept, in seconds.
+fn ttl_of(word: u64) -> u32 {
+    match word % 5 {
+        0 => 60,
+        1 => 3_600,
+        2 => 86_400,
+        _ => 300,
+    }
+}
+
+/// Adds so many syllables, which spell the number by its digits to the base 100.
+fn push_syllables(message: &mut Message, number: u64, count: u8) -> Result<(), AllocError> {
+    let mut rest = number;
+    for _ in 0..count {
+        let consonant = CONSONANTS[(rest % 20) as usize];
+        let vowel = VOWELS[(rest / 20 % 5) as usize];
+        message.push(&[consonant, vowel])?;
+        rest /= 100;
+    }
+    Ok(())
+}
+
+/// Adds the label of a domain: no two have the same.
+fn push_domain_label(message: &mut Message, domain: u32, word: u64) -> Result<(), AllocError> {
+    let more = (word % 3) as u8;
+    message.push(&[10 + 2 * more])?;
+    push_syllables(message, u64::from(domain.wrapping_mul(0x9e37_79b1)), 5)?;
+    push_syllables(message, word >> 8, more)
+}
+
+/// Adds the name of a server of aliases, in 23 octets.
+fn push_edge(message: &mut Message, word: u64) -> Result<(), AllocError> {
+    message.push(b"\x04edge\x08")?;
+    push_syllables(message, word, 4)?;
+    message.push(b"\x03cdn\x03net\x00")
+}
+
+impl Zone {
+    fn shape(self, number: u32) -> Shape {
+        let word = mixed(number, self.seed);
+        let count = word >> 32;
+        match word % 100 {
+            0..55 => Shape::Addresses(1 + (count % 4) as u8),
+            55..70 => Shape::LongAddresses(1 + (count % 2) as u8),
+            70..82 => Shape::Aliases(1 + (count % u64::from(self.chain.clamp(1, 8))) as u8),
+            82..86 => Shape::Mail,
+            86..94 => Shape::NoData,
+            _ => Shape::NoName,
+        }
+    }
+
+    /// The type that is asked for.
+    fn rtype(self, number: u32) -> u16 {
+        match self.shape(number) {
+            Shape::LongAddresses(_) => AAAA,
+            Shape::Mail => MX,
+            Shape::NoData => AAAA,
+            _ => A,
+        }
+    }
+
+    /// Adds the labels above the domain of a name.
+    fn push_host(self, message: &mut Message, number: u32) -> Result<(), AllocError> {
+        let word = mixed(number, self.seed ^ 0x5555);
+        if self.depth > 0 {
+            for level in 0..(low_half(word) % self.depth) {
+                message.push(&[
+                    3,
+                    b'd',
+                    b'0' + (level / 10 % 10) as u8,
+                    b'0' + (level % 10) as u8,
+                ])?;
+            }
+        }
+        match number % 3 {
+            0 => message.push(b"\x03www"),
+            1 => message.push(host_label(word >> 40)),
+            _ => Ok(()),
+        }
+    }
+
+    /// Adds the question for a name, and gives a pointer to its domain.
+    fn push_question(self, message: &mut Message, number: u32) -> Result<u16, AllocError> {
+        self.push_host(message, number)?;
+        let pointer = message.pointer();
+        let domain = number / 3;
+        let word = mixed(domain, self.seed ^ 0xaaaa);
+        push_domain_label(message, domain, word)?;
+        message.push(last_labels(word >> 16))?;
+        message.push_short(self.rtype(number))?;
+        message.push_short(1)?;
+        Ok(pointer)
+    }
+
+    /// The octets of the question for a name, in what another message left.
+    pub fn question(self, octets: Vec<u8>, number: u32, id: u16) -> Result<Vec<u8>, AllocError> {
+        let counts = Counts {
+            answer: 0,
+            authority: 0,
+        };
+        let mut message = Message::new(octets, id, [1, 0], counts)?;
+        self.push_question(&mut message, number)?;
+        Ok(message.into_octets())
+    }
+
+    /// Adds so many records of a name with octets that are all its own.
+    fn push_addresses(
+        self,
+        message: &mut Message,
+        owner: u16,
+        rtype: u16,
+        number: u32,
+        count: u8,
+    ) -> Result<(), AllocError> {
+        let ttl = ttl_of(mixed(number, self.seed) >> 16);
+        for place in 0..count {
+            let word = mixed(number, self.seed.wrapping_add(u32::from(place)) ^ 0x3333);
+            message.push_short(owner)?;
+            if rtype == A {
+                message.push_fixed(rtype, ttl, 4)?;
+                message.push(&(low_half(word) | 1).to_be_bytes())?;
+            } else {
+                message.push_fixed(rtype, ttl, 16)?;
+                message.push(b"\x20\x01\x0d\xb8\x00\x00\x00\x00")?;
+                message.push(&word.to_be_bytes())?;
+            }
+        }
+        Ok(())
+    }
+
+    /// Adds aliases, one behind the other, and the address of the last.
+    fn push_aliases(self, message: &mut Message, number: u32, count: u8) -> Result<(), AllocError> {
+        let mut owner = QUESTION;
+        for place in 0..count {
+            let word = mixed(number, self.seed.wrapping_add(u32::from(place)) ^ 0x7777);
+            message.push_short(owner)?;
+            message.push_fixed(CNAME, ttl_of(word >> 32), 23)?;
+            owner = message.pointer();
+            push_edge(message, word)?;
+        }
+        self.push_addresses(message, owner, A, number, 1)
+    }
+
+    /// Adds the mail servers of a name.
+    fn push_mail(self, message: &mut Message, domain: u16) -> Result<(), AllocError> {
+        for place in 1..3u8 {
+            message.push_short(QUESTION)?;
+            message.push_fixed(MX, 3_600, 9)?;
+            message.push(&[0, 10 * place, 4, b'm', b'x', b'0', b'0' + place])?;
+            message.push_short(domain)?;
+        }
+        Ok(())
+    }
+
+    /// Adds the SOA of a domain.
+    fn push_soa(self, message: &mut Message, domain: u16, number: u32) -> Result<(), AllocError> {
+        message.push_short(domain)?;
+        message.push_fixed(SOA, 3_600, 39)?;
+        message.push(b"\x03ns1")?;
+        message.push_short(domain)?;
+        message.push(b"\x0ahostmaster")?;
+        message.push_short(domain)?;
+        message.push(&(number / 3).to_be_bytes())?;
+        message.push(b"\x00\x00\x1c\x20\x00\x00\x0e\x10\x00\x12\x75\x00")?;
+        message.push(&ttl_of(u64::from(number)).to_be_bytes())
+    }
+
+    /// The octets of the reply to a question, in what another message left.
+    pub fn reply(self, octets: Vec<u8>, number: u32, id: u16) -> Result<Vec<u8>, AllocError> {
+        let shape = self.shape(number);
+        let (answer, authority, code) = match shape {
+            Shape::Addresses(count) => (count, 0, 0),
+            Shape::LongAddresses(count) => (count, 0, 0),
+            Shape::Aliases(count) => (count.saturating_add(1), 0, 0),
+            Shape::Mail => (2, 0, 0),
+            Shape::NoData => (0, 1, 0),
+            Shape::NoName => (0, 1, 3),
+        };
+        let counts = Counts { answer, authority };
+        let mut message = Message::new(octets, id, [0x81, 0x80 | code], counts)?;
+        let domain = self.push_question(&mut message, number)?;
+        match shape {
+            Shape::Addresses(count) => {
+                self.push_addresses(&mut message, QUESTION, A, number, count)?;
+            }
+            Shape::LongAddresses(count) => {
+                self.push_addresses(&mut message, QUESTION, AAAA, number, count)?;
+            }
+            Shape::Aliases(count) => self.push_aliases(&mut message, number, count)?,
+            Shape::Mail => self.push_mail(&mut message, domain)?,
+            _ => self.push_soa(&mut message, domain, number)?,
+        }
+        Ok(message.into_octets())
+    }
+}
