@@ -21,7 +21,7 @@ use fleet_front::Front;
 use fleet_observe::{Kind, Observation};
 use std::alloc::{AllocError, Allocator};
 use std::collections::BTreeMap;
-use std::collections::btree_map::Values;
+use std::collections::btree_map::{Range, Values};
 use std::marker::Model;
 use std::ops::Bound;
 
@@ -158,13 +158,9 @@ impl<A: Allocator> Held<A> {
         self.fronts.values()
     }
 
-    /// The next key after this one.
-    pub(crate) fn key_behind(&self, key: &Key<A>) -> Option<&Key<A>> {
-        let mut behind = self.fronts.range((Bound::Excluded(key), Bound::Unbounded));
-        let Some((next, _)) = behind.next() else {
-            return None;
-        };
-        Some(next)
+    /// The fronts behind this key, each with its own key, one after another.
+    pub(crate) fn behind(&self, key: &Key<A>) -> Range<'_, Key<A>, Front<Item<A>, A>> {
+        self.fronts.range((Bound::Excluded(key), Bound::Unbounded))
     }
 
     /// The number of fronts.

@@ -6,9 +6,11 @@ ghost use Rattle.fleet_cache.specs.steps.Held.{IsHeld};
 ghost use Rattle.fleet_cache.specs.steps.Reclaimed.{IsReclaimed, AllLive};
 
 use crate::held::Held;
+use crate::item::Item;
 use crate::lookup::cut_at;
 use crate::store::Key;
 use crate::words::MOST_WORDS;
+use fleet_front::Front;
 use fleet_observe::{Moment, Observation};
 use std::alloc::{AllocError, Allocator};
 
@@ -54,16 +56,39 @@ impl<A: Allocator> Cursor<A> {
         self.key.clear();
     }
 
-    /// Goes on to the next key, or back to the start where there is none. It allocates nothing:
-    /// without room for the key it goes back to the start too. Returns whether it went on.
-    fn advance(&mut self, held: &Held<A>) -> bool {
-        let Some(key) = held.key_behind(&self.key) else {
-            self.key.clear();
-            return false;
-        };
+    /// Goes on over at most `left` fronts, up to the first that holds anything which is not live at
+    /// the moment, or back to the start where there are no more. Returns how many of `left` there
+    /// are to look at behind it. It allocates nothing: without room for the key it goes back to the
+    /// start too.
+    fn pass(&mut self, held: &Held<A>, moment: Moment, left: usize) -> usize {
+        let mut rest = left;
+        for (key, front) in held.behind(&self.key) {
+            rest = rest.saturating_sub(1);
+            if rest == 0 || is_stale(held, front, moment) {
+                return if self.stop_at(key) { rest } else { 0 };
+            }
+        }
+        self.key.clear();
+        0
+    }
+
+    /// Stops at a key. Returns whether there is room for it.
+    fn stop_at(&mut self, key: &Key<A>) -> bool {
         self.key.clear();
         key.len() <= self.key.capacity() && self.key.extend_from_slice(key).is_ok()
     }
+}
+
+/// Whether a front holds anything that is not live at the moment.
+fn is_stale<A: Allocator>(held: &Held<A>, front: &Front<Item<A>, A>, moment: Moment) -> bool {
+    let Some(first) = front.items().first() else {
+        return false;
+    };
+    let cut = cut_at(held, first.observation().name().octets(), moment);
+    front
+        .items()
+        .iter()
+        .any(|item| cut.hides(item.observation()))
 }
 
 /// Drops what is not live at the moment, in a part of the fronts: those behind the cursor, which
@@ -74,9 +99,10 @@ pub(crate) fn reclaim<A: Allocator>(held: &mut Held<A>, cursor: &mut Cursor<A>, 
     ensures own { IsHeld held.old }
 {
     let mut left = (held.len() / SHARE).max(LEAST);
-    while left > 0 && cursor.advance(held) {
+    while left > 0 {
+        let rest = cursor.pass(held, moment, left);
         trim(held, &cursor.key, moment);
-        left -= 1;
+        left = rest.min(left - 1);
     }
 }
 
