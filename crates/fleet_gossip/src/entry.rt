@@ -75,7 +75,7 @@ fn copy_rdatas<A: Allocator + Copy>(alloc: A, body: &[u8]) -> Result<Vec<Octets<
     let Ok(count) = reader.read_u16() else {
         unreachable!()
     };
-    let mut rdatas = Vec::new(alloc);
+    let mut rdatas = Vec::with_capacity(alloc, usize::from(count))?;
     for _ in 0..count {
         let Ok(rdata) = read_sized(&mut reader) else {
             unreachable!()

@@ -166,7 +166,7 @@ fn to_observations<A: Allocator + Copy>(
     ensures memory { OnErr result (0 < entries.now.count) }
 {
     let mut reader = Reader::new(entries.octets);
-    let mut observations = Vec::new(alloc);
+    let mut observations = Vec::with_capacity(alloc, usize::from(entries.count))?;
     for _ in 0..entries.count {
         let Ok(entry) = read_entry(&mut reader, entries.version) else {
             unreachable!()

@@ -59,13 +59,15 @@ fn push_head<A: Allocator>(
     push_u32(out, observation.life())
 }
 
-/// Appends the entry of an observation. `Err` where an allocation fails.
+/// Appends the entry of an observation, for which room is made once. `Err` where an allocation
+/// fails.
 pub(crate) fn push_entry<A: Allocator>(
     out: &mut Vec<u8, A>,
     observation: &Observation<A>,
 ) -> Result<(), AllocError>
     ensures { OnOk result (out.new.items ≡ out.old.items ++ entry_octets observation.now) }
 {
+    out.reserve(entry_size(observation))?;
     push_head(out, observation)?;
     out.extend_from_slice(observation.name().octets())?;
     push_u16(out, observation.rtype())?;

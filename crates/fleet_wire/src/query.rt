@@ -169,7 +169,7 @@ pub fn write_query<A: Allocator, B: Allocator>(
         IsQuery v.items (query_header id) (lowercase_question question.now) (length v.items)) }
 {
     let name = question.name.octets();
-    let mut octets = Vec::new(alloc);
+    let mut octets = Vec::with_capacity(alloc, 16 + name.len())?;
     push_query_head(&mut octets, id)?;
     octets.extend_from_slice(name)?;
     push_u16(&mut octets, question.rtype)?;

@@ -138,7 +138,7 @@ pub(crate) fn records_of<A: Allocator + Copy>(
     ensures found { IfOk result (λ r. RecordsAt message.now offset r.0.items r.1) }
     ensures counted { IfOk result (λ r. length r.0.items ≡ count) }
 {
-    let mut records = Vec::new(alloc);
+    let mut records = Vec::with_capacity(alloc, usize::from(count))?;
     let mut at = offset;
     for _ in 0..count {
         let Ok(spelled) = record_at(message, at) else {

@@ -31,7 +31,7 @@ fn copies<A: Allocator + Copy>(
 ) -> Result<Vec<Octets<A>, A>, AllocError>
     ensures { IfOk result (λ v. v.items ≡ rdatas.now) }
 {
-    let mut all = Vec::new(alloc);
+    let mut all = Vec::with_capacity(alloc, rdatas.len())?;
     for rdata in rdatas {
         all.push(rdata.try_clone()?)?;
     }
