@@ -70,6 +70,14 @@ asks_anew u moment word o es rs fs v w r q s p n j =
     (opens fs (subst (λ x. NoneIs (AsksFor x.question) es) s
     (subst (λ xs. NoneIs (AsksFor v.question) xs) p n)) j refl)
 
+-- no entry has the question, as was seen before
+pub opens_new : (u moment word : ℕ) (o : PendingData) (es fs : List EntryData) (w : WaiterData)
+    (r : Result Asked PendingFault) → table u es ≡ o → NoneIs (AsksFor w.question) o.entries
+    → Opens es w moment word r fs → Asks o w moment word r (table u fs)
+opens_new u moment word o es fs w r q n j =
+    subst (λ x. Asks x w moment word r (table u fs)) q
+    (opens fs (subst (λ x. NoneIs (AsksFor w.question) x.entries) (sym q) n) j refl)
+
 pub asks_keeps : (o n : PendingData) (w : WaiterData) (moment word : ℕ)
     (r : Result Asked PendingFault) → IsPendingData o → Asks o w moment word r n → IsPendingData n
 asks_keeps o n w moment word r h (joins i e f t a j q) =

@@ -1,11 +1,12 @@
 //! The table of open questions.
 
-ghost use Rattle.std.specs.Prelude.{◌≡◌, ◌<◌, ◌≤◌, [], IfErr, IfSome, OnErr, MatchOption, option_copied, IsTrue, ◌↔◌};
+ghost use Rattle.std.specs.Prelude.{◌≡◌, ◌<◌, ◌≤◌, [], IfErr, IfSome, OnErr, MatchOption, option_copied, IsTrue, ◌↔◌, Some, length};
 ghost use Rattle.fleet_pending.specs.Asking.{Asks, Opens, Settles, Advances, ask_result, with_next_upstream};
+ghost use Rattle.fleet_pending.specs.FreeId.{IsFirstFree};
 ghost use Rattle.fleet_pending.specs.Due.{Dues, due_at, due_entry};
 ghost use Rattle.fleet_pending.specs.QueryId.{IsQueryId};
 ghost use Rattle.fleet_pending.specs.PendingData.{UsesId, AsksFor, Matches, IsEntryData, IsPendingData};
-ghost use Rattle.fleet_pending.specs.declared.bounds.TheConstants.{MOST_UPSTREAMS};
+ghost use Rattle.fleet_pending.specs.declared.bounds.TheConstants.{MOST_ENTRIES, MOST_UPSTREAMS};
 ghost use Rattle.fleet_wire.specs.declared.class.TheConstants.{IN};
 ghost use Rattle.fleet_name.specs.Places.{Finds};
 
@@ -86,6 +87,32 @@ impl<A: Allocator> Pending<A> {
             Some(i) => join(&mut self.entries[i], waiter),
             None => add_entry(&mut self.entries, waiter, moment, word),
         }
+    }
+
+    /// `ask` of a waiter whose question is new and has room, under the id that `query_id` returned
+    /// for it and the same word: nothing is searched again.
+    ///
+    /// # Errors
+    ///
+    /// `OutOfMemory` where the allocation for the new entry fails. It changes nothing, and hands the
+    /// waiter back.
+    pub fn open(
+        &mut self,
+        waiter: Waiter<A>,
+        moment: Moment,
+        word: u16,
+        id: u16,
+    ) -> Result<Asked, Unasked<A>>
+    where
+        A: Copy,
+        requires { IsQueryId self.old waiter.question word (Some id) }
+        ensures asks { Asks self.old waiter moment word (ask_result result) self.new }
+        ensures back { IfErr result (λ u. u.waiter ≡ waiter) }
+        ensures unchanged { OnErr result (self.new ≡ self.old) }
+        ensures upstreams { self.new.upstreams ≡ self.old.upstreams }
+        ensures lawful { IsPendingData self.new }
+    {
+        enter(&mut self.entries, waiter, moment, word, id)
     }
 
     /// The id of the query that asking would send now, with the same word; `None` where an entry
@@ -231,11 +258,29 @@ fn add_entry<A: Allocator + Copy>(
         let fault = PendingFault::Full;
         return Err(Unasked { fault, waiter });
     }
+    let id = first_free_id(entries.as_slice(), word);
+    enter(entries, waiter, moment, word, id)
+}
+
+/// Opens an entry for a waiter whose question is new, under the first free id from `word` upwards.
+fn enter<A: Allocator + Copy>(
+    entries: &mut Vec<Entry<A>, A>,
+    waiter: Waiter<A>,
+    moment: Moment,
+    word: u16,
+    id: u16,
+) -> Result<Asked, Unasked<A>>
+    requires few { length entries.old.items < MOST_ENTRIES }
+    requires free { IsFirstFree word entries.old.items id }
+    ensures opens { Opens entries.old.items waiter moment word (ask_result result)
+        entries.new.items }
+    ensures back { IfErr result (λ u. u.waiter ≡ waiter) }
+{
+    let _ = word;
     let fault = PendingFault::OutOfMemory;
     if let Err(_) = entries.reserve(1) {
         return Err(Unasked { fault, waiter });
     }
-    let id = first_free_id(entries.as_slice(), word);
     match make_entry(*entries.allocator(), waiter, moment, id) {
         Ok(entry) => {
             entries.push_reserved(entry);

@@ -7,6 +7,7 @@ ghost use Rattle.fleet_wire.specs.declared.class.TheConstants.{IN};
 ghost use Rattle.fleet_observe.specs.Observation.{Observations};
 ghost use Rattle.fleet_cache.specs.Cached.{IsCached};
 ghost use Rattle.fleet_pending.specs.Asking.{Asks, ask_result};
+ghost use Rattle.fleet_pending.specs.QueryId.{IsQueryId};
 ghost use Rattle.fleet_site.specs.steps.Carried.{SaysOrStops, IsAskable, IsAnswered, TurnsAway, IsFirstSaid};
 ghost use Rattle.fleet_site.specs.OutcomeData.{sends};
 ghost use Rattle.fleet_site.specs.question.Handling.{handled_result, IsInPlace};
@@ -161,29 +162,35 @@ fn forward<A: Allocator + Copy>(
     ensures table { KeepsTable pending.old pending.new }
 {
     asking_uses_query_id();
-    let outcome = first_outcome(alloc, pending, upstreams, arrival.word, &question)?;
+    let fresh = pending.query_id(&question, arrival.word);
+    let outcome = first_outcome(alloc, pending, upstreams, arrival.word, fresh, &question)?;
     let from = arrival.from;
     let id = header.id;
     let waiter = Waiter { from, id, question };
-    match join_or_open(pending, waiter, arrival) {
+    match join_or_open(pending, waiter, arrival, fresh) {
         Ok(_) => Ok(outcome),
         Err(unasked) => turn_away(alloc, from, header, unasked),
     }
 }
 
-/// What is sent where a waiter for the question is taken: where it opens an entry, the query.
+/// What is sent where a waiter for the question is taken: where it opens an entry, with a fresh id,
+/// the query.
 fn first_outcome<A: Allocator + Copy>(
     alloc: A,
     pending: &Pending<A>,
     upstreams: &[Addr],
     word: u16,
+    fresh: Option<u16>,
     question: &Question<A>,
 ) -> Result<Outcome<A>, AllocError>
-    requires { IsTableOf upstreams.now pending.now }
+    requires table { IsTableOf upstreams.now pending.now }
+    requires fresh { IsQueryId pending.now question.now word fresh }
     ensures { IfOk result (λ o.
         IsFirstSaid upstreams.now pending.now word question.now o) }
 {
-    match pending.query_id(question, word) {
+    let _ = pending;
+    let _ = word;
+    match fresh {
         Some(id) => query_for(alloc, addr_of(upstreams, 0), id, question),
         None => Ok(Outcome::without_packets(alloc, 0, None)),
     }
@@ -202,13 +209,16 @@ fn query_for<A: Allocator + Copy>(
     Outcome::with_packet(alloc, to, octets, None)
 }
 
-/// A waiter asks, and as its question is of class 1 (IN), all that wait still asked for class 1.
+/// A waiter asks, and as its question is of class 1 (IN), all that wait still asked for class 1. One
+/// with a fresh id opens an entry.
 fn join_or_open<A: Allocator + Copy>(
     pending: &mut Pending<A>,
     waiter: Waiter<A>,
     arrival: Arrival,
+    fresh: Option<u16>,
 ) -> Result<Asked, Unasked<A>>
-    requires { waiter.question.class ≡ IN }
+    requires class { waiter.question.class ≡ IN }
+    requires fresh { IsQueryId pending.old waiter.question arrival.word fresh }
     ensures asks { Asks pending.old waiter arrival.clock arrival.word
         (ask_result result) pending.new }
     ensures back { IfErr result (λ u. u.waiter ≡ waiter) }
@@ -216,7 +226,10 @@ fn join_or_open<A: Allocator + Copy>(
     ensures table { KeepsTable pending.old pending.new }
 {
     waiters_stay();
-    pending.ask(waiter, arrival.clock, arrival.word)
+    match fresh {
+        Some(id) => pending.open(waiter, arrival.clock, arrival.word, id),
+        None => pending.ask(waiter, arrival.clock, arrival.word),
+    }
 }
 
 /// The reply to a waiter that was not taken.

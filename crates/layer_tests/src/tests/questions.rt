@@ -5,6 +5,7 @@
 
 use crate::tests::observations::{moment_of, push_name, question_of};
 use crate::tests::rows::{Row, Words, check_output, is_row, read_row};
+use fleet_observe::Moment;
 use fleet_pending::{Addr, Asked, Due, Entry, Pending, PendingFault, Waiter, Waiters};
 use fleet_wire::Question;
 use std::alloc::Global;
@@ -29,13 +30,9 @@ fn push_asked(rt: &impl Abort, output: &mut String, asked: Result<Asked, Pending
     }
 }
 
-/// How a question is asked: it, the port and the identifier of its asker, the moment, and a word.
-fn ask(
-    rt: &impl Abort,
-    alloc: Global,
-    table: &mut Pending,
-    mut words: Words<'_>,
-) -> Result<Asked, PendingFault> {
+/// Who asks, when, and where the search for an identifier begins: the question, the port and the
+/// identifier of its asker, the moment, and a word.
+fn asker(rt: &impl Abort, alloc: Global, mut words: Words<'_>) -> (Waiter, Moment, u16) {
     let question = question_in(rt, alloc, &mut words);
     let port = words.word().parse().expect(rt, "a number");
     let id = words.word().parse().expect(rt, "a number");
@@ -45,7 +42,35 @@ fn ask(
         host: 0x7f00_0001,
         port,
     };
-    match table.ask(Waiter { from, id, question }, moment, word) {
+    (Waiter { from, id, question }, moment, word)
+}
+
+/// How a question is asked.
+fn ask(
+    rt: &impl Abort,
+    alloc: Global,
+    table: &mut Pending,
+    words: Words<'_>,
+) -> Result<Asked, PendingFault> {
+    let (waiter, moment, word) = asker(rt, alloc, words);
+    match table.ask(waiter, moment, word) {
+        Ok(asked) => Ok(asked),
+        Err(unasked) => Err(unasked.fault),
+    }
+}
+
+/// How a question is asked that is new and has room, under the identifier of its query.
+fn open(
+    rt: &impl Abort,
+    alloc: Global,
+    table: &mut Pending,
+    words: Words<'_>,
+) -> Result<Asked, PendingFault> {
+    let (waiter, moment, word) = asker(rt, alloc, words);
+    let id = table
+        .query_id(&waiter.question, word)
+        .expect(rt, "a new question");
+    match table.open(waiter, moment, word, id) {
         Ok(asked) => Ok(asked),
         Err(unasked) => Err(unasked.fault),
     }
@@ -159,6 +184,7 @@ fn show_result(
 ) {
     match call {
         "ask" => push_asked(rt, output, ask(rt, alloc, table, words)),
+        "open" => push_asked(rt, output, open(rt, alloc, table, words)),
         "query_id" => show_query_id(rt, alloc, table, words, output),
         "find" => show_found(rt, alloc, table, words, output),
         "settle" => settle(rt, table, words, output),
@@ -222,6 +248,18 @@ ask 0001 1 6001 7 100 4660 => send 0 4661
 query_id 0002 1 4660 => 4662
 settle 4660 => 6001/7;6002/8;
 query_id 0000 1 4660 => 4660";
+    let mut table = Pending::new(rt.alloc(), 2);
+    check_calls(&rt, rt.alloc(), &mut table, rows);
+}
+
+#[test]
+fn a_new_question_is_opened_under_the_identifier_of_its_query(rt: HostRuntime) {
+    let rows = "
+open 0000 1 6001 7 100 4660 => send 0 4660
+ask 0000 1 6002 8 100 9 => joined
+open 0001 1 6001 7 100 4660 => send 0 4661
+settle 4660 => 6001/7;6002/8;
+find 0 4661 0001 1 => true";
     let mut table = Pending::new(rt.alloc(), 2);
     check_calls(&rt, rt.alloc(), &mut table, rows);
 }

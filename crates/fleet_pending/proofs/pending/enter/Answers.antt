@@ -1,7 +1,7 @@
 use Rattle.std.proofs.Common.{refl, rules}
 use Rattle.fleet_pending.specs.Asking.{is_sent}
-use Rattle.fleet_pending.proofs.pending.add_entry.Goals as goal
+use Rattle.fleet_pending.proofs.pending.enter.Goals as goal
 
 pub returns-in-Ok-clause-opens : goal.returns-in-Ok-clause-opens
 returns-in-Ok-clause-opens g c =
-    is_sent c.first_free_id-id.result (search rules) (search rules) refl (search rules)
+    is_sent c.args.id (search rules) (search rules) refl (search rules)

@@ -1,0 +1,24 @@
+use Rattle.std.proofs.Common.{subst}
+use Rattle.fleet_pending.specs.PendingData.{IsPendingData}
+use Rattle.fleet_pending.specs.Asking.{ask_result}
+use Rattle.fleet_pending.proofs.Table.{opens_new, asks_keeps}
+use Rattle.fleet_pending.proofs.Unchanged.{unchanged}
+use Rattle.fleet_pending.proofs.pending.Pending.open.Goals as goal
+
+pub returns-clause-asks : goal.returns-clause-asks
+returns-clause-asks g c =
+    opens_new _ c.args.moment c.args.word c.args.self.now c.self.inside.entries.items
+    c.enter.new.entries.items c.args.waiter (ask_result c.enter.result) c.self.view_is
+    c.requires.0 c.enter.ensures.opens
+
+pub invariant_of-self : goal.invariant_of-self
+invariant_of-self g c =
+    asks_keeps _ _ _ _ _ _ (subst IsPendingData c.self.view_is c.self.invariant)
+    (returns-clause-asks g c)
+
+pub returns-clause-unchanged : goal.returns-clause-unchanged
+returns-clause-unchanged g c =
+    unchanged _ _ _ _ _ c.enter.result (returns-clause-asks g c)
+
+pub returns-clause-lawful : goal.returns-clause-lawful
+returns-clause-lawful g c = invariant_of-self g c
