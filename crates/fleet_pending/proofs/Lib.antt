@@ -10,3 +10,4 @@ pub mod Settled
 pub mod Waiting
 pub mod DueCount
 pub mod Unchanged
+mod Soonest

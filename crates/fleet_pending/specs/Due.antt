@@ -43,3 +43,7 @@ due_at o moment = count_by (λ e. nat_le e.deadline moment) o.entries
 -- a is served before b: an earlier deadline, or the same and a lesser id
 abbrev pub IsBefore : EntryData → EntryData → Type 0
 IsBefore a b = (a.deadline < b.deadline) ⊎ ((a.deadline ≡ b.deadline) × (a.id < b.id))
+
+-- no entry's time is over before this moment
+abbrev pub NoneSooner : Seconds → List EntryData → Type 0
+NoneSooner soonest es = (i : ℕ) (e : EntryData) → At es i e → soonest ≤ e.deadline

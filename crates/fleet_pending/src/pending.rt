@@ -13,7 +13,9 @@ ghost use Rattle.fleet_name.specs.Places.{Finds};
 use crate::answer::{Asked, Due, PendingFault, Unasked};
 use crate::bounds::{MOST_ENTRIES, TRY_SECONDS};
 use crate::entry::{Entry, join, make_entry};
-use crate::search::{asks_for, first_due_entry, first_free_id, place_of_id, place_of_question};
+use crate::search::{
+    asks_for, first_due_entry, first_free_id, place_of_id, place_of_question, soonest_of,
+};
 use crate::waiter::Waiter;
 use fleet_observe::Moment;
 use fleet_wire::Question;
@@ -21,22 +23,26 @@ use fleet_wire::class::IN;
 use std::alloc::{Allocator, Global};
 use std::marker::Model;
 
-/// The open questions.
+/// The open questions. No entry's time is over before `soonest`, so that nobody looks for one that
+/// is due where none can be.
 #[derive(Drop)]
 pub struct Pending<A: Allocator = Global> {
     upstreams: u8,
     entries: Vec<Entry<A>, A>,
+    soonest: u64,
 }
 
 impl<A: Allocator> Model for Pending<A> {
     ghost use Rattle.fleet_pending.specs.PendingData.{PendingData, IsPendingData};
+    ghost use Rattle.fleet_pending.specs.Due.{NoneSooner};
 
     ghost Value = { PendingData };
 
     ghost view = { λ p. record { upstreams = p.upstreams; entries = p.entries.items } };
 
     ghost invariant = { λ p.
-        IsPendingData (record { upstreams = p.upstreams; entries = p.entries.items }) };
+        IsPendingData (record { upstreams = p.upstreams; entries = p.entries.items })
+        × NoneSooner p.soonest p.entries.items };
 }
 
 impl<A: Allocator> Pending<A> {
@@ -51,6 +57,7 @@ impl<A: Allocator> Pending<A> {
         Pending {
             upstreams,
             entries: Vec::new(alloc),
+            soonest: u64::MAX,
         }
     }
 
@@ -85,7 +92,10 @@ impl<A: Allocator> Pending<A> {
     {
         match place_of_question(self.entries.as_slice(), &waiter.question) {
             Some(i) => join(&mut self.entries[i], waiter),
-            None => add_entry(&mut self.entries, waiter, moment, word),
+            None => {
+                self.soonest = self.soonest.min(moment.value() + TRY_SECONDS);
+                add_entry(&mut self.entries, waiter, moment, word)
+            }
         }
     }
 
@@ -112,6 +122,7 @@ impl<A: Allocator> Pending<A> {
         ensures upstreams { self.new.upstreams ≡ self.old.upstreams }
         ensures lawful { IsPendingData self.new }
     {
+        self.soonest = self.soonest.min(moment.value() + TRY_SECONDS);
         enter(&mut self.entries, waiter, moment, word, id)
     }
 
@@ -166,7 +177,9 @@ impl<A: Allocator> Pending<A> {
         ensures lawful { IsPendingData self.new }
     {
         let i = place_of_id(self.entries.as_slice(), id)?;
-        Some(self.entries.remove(i))
+        let entry = self.entries.remove(i);
+        self.soonest = soonest_of(self.entries.as_slice());
+        Some(entry)
     }
 
     /// Removes all entries; the room is kept.
@@ -175,6 +188,7 @@ impl<A: Allocator> Pending<A> {
         ensures lawful { IsPendingData self.new }
     {
         self.entries.clear();
+        self.soonest = u64::MAX;
     }
 
     /// What is to be done first at a moment; `None` where no entry is due. An entry is due where its
@@ -188,6 +202,9 @@ impl<A: Allocator> Pending<A> {
             (λ _. 0 < due_at self.now moment) }
         ensures lawful { IsPendingData self.now }
     {
+        if moment.value() < self.soonest {
+            return None;
+        }
         let entry = first_due_entry(self.entries.as_slice(), moment.value())?;
         let id = entry.id;
         let upstream = entry.upstream + 1;
@@ -214,6 +231,7 @@ impl<A: Allocator> Pending<A> {
                 let next = self.entries[i].upstream + 1;
                 if next < self.upstreams {
                     move_on(&mut self.entries[i], moment);
+                    self.soonest = soonest_of(self.entries.as_slice());
                     true
                 } else {
                     false

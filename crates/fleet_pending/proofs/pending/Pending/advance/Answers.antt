@@ -1,5 +1,6 @@
 use Rattle.std.proofs.Common.{refl, arith, subst}
 use Rattle.fleet_pending.specs.PendingData.{UsesId, IsPendingData}
+use Rattle.fleet_pending.specs.Due.{NoneSooner}
 use Rattle.fleet_pending.proofs.Table.{read_at, advances, advance_keeps, stays, next_below}
 use Rattle.fleet_pending.proofs.pending.Pending.advance.Goals as goal
 
@@ -10,16 +11,18 @@ move_on-requires g c =
     let m = read_at ids c.as_slice.ensures.value c.in-Some.ensures c.index_mut.ensures.value in
     let n = next_below _ c.args.id c.in-Some.i _ _ _ _ c.behind-self.view_is k m
     c.if-next-self.true in
-    omega (arith, n, c.self.invariant.upstreams)
+    omega (arith, n, c.self.invariant.0.upstreams)
 
 pub invariant_of-self : goal.invariant_of-self
 invariant_of-self g c =
     let ids = UsesId c.args.id in
     let k = read_at ids c.as_slice.ensures.value c.in-Some.ensures c.index.ensures in
-    let m = read_at ids c.as_slice.ensures.value c.in-Some.ensures c.index_mut.ensures.value in
-    advance_keeps _ _ c.args.id c.args.moment c.self.invariant
-    (advances _ _ c.in-Some.i _ _ _ _ _ _ c.move_on.new.entry refl c.behind-self.view_is k m
-    c.if-next-self.true c.move_on.ensures)
+    let m = read_at ids c.as_slice.ensures.value c.in-Some.ensures c.index_mut.ensures.value in (
+      advance_keeps _ _ c.args.id c.args.moment c.self.invariant.0
+          (advances _ _ c.in-Some.i _ _ _ _ _ _ c.move_on.new.entry refl c.behind-self.view_is k m
+          c.if-next-self.true c.move_on.ensures),
+      subst (NoneSooner c.soonest_of-self-inside.result) c.as_slice-then-next-self.ensures.value c.soonest_of-self-inside.ensures,
+    )
 
 pub returns-then-next-self-clause-advances : goal.returns-then-next-self-clause-advances
 returns-then-next-self-clause-advances g c =
@@ -31,7 +34,7 @@ returns-then-next-self-clause-advances g c =
 
 pub returns-then-next-self-clause-lawful : goal.returns-then-next-self-clause-lawful
 returns-then-next-self-clause-lawful g c =
-    advance_keeps _ _ _ _ (subst IsPendingData c.self.view_is c.self.invariant)
+    advance_keeps _ _ _ _ (subst IsPendingData c.self.view_is c.self.invariant.0)
     (returns-then-next-self-clause-advances g c)
 
 pub returns-else-next-self-clause-advances : goal.returns-else-next-self-clause-advances
@@ -39,5 +42,5 @@ returns-else-next-self-clause-advances g c =
     let ids = UsesId c.args.id in
     let k = read_at ids c.as_slice.ensures.value c.in-Some.ensures c.index.ensures in
     let s = stays _ c.args.id c.in-Some.i _ _ _ _ c.self.view_is c.behind-self.view_is
-    c.self.invariant k c.if-next-self.false in
+    c.self.invariant.0 k c.if-next-self.false in
     (s, refl)

@@ -6,4 +6,4 @@ pub returns-clause-is_open : goal.returns-clause-is_open
 returns-clause-is_open g c =
     let ids = UsesId c.args.id in
     let k = read_at ids c.as_slice.ensures.value c.in_ok-i.ensures c.index.ensures in
-    c.self.invariant.open_ones c.in_ok-i.i _ k.there
+    c.self.invariant.0.open_ones c.in_ok-i.i _ k.there

@@ -15,12 +15,12 @@ pub returns-then-matches-clause-is_open : goal.returns-then-matches-clause-is_op
 returns-then-matches-clause-is_open g c =
     let ids = UsesId c.args.id in
     let k = read_at ids c.as_slice.ensures.value c.in_ok-i.ensures c.index-entry.ensures in
-    c.self.invariant.open_ones c.in_ok-i.i _ k.there
+    c.self.invariant.0.open_ones c.in_ok-i.i _ k.there
 
 pub returns-else-matches-clause-finds : goal.returns-else-matches-clause-finds
 returns-else-matches-clause-finds g c =
     let ids = UsesId c.args.id in
     let q = c.args.question.now in
     let k = read_at ids c.as_slice.ensures.value c.in_ok-i.ensures c.index-entry.ensures in
-    finds_none _ c.args.upstream c.args.id c.in_ok-i.i _ _ q _ c.self.view_is c.self.invariant k
+    finds_none _ c.args.upstream c.args.id c.in_ok-i.i _ _ q _ c.self.view_is c.self.invariant.0 k
     (λ p. let z : false ≡ true = c.if-matches.ensures.1 p in cc)

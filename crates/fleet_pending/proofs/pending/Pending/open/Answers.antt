@@ -1,7 +1,8 @@
-use Rattle.std.proofs.Common.{subst}
+use Rattle.std.proofs.Common.{subst, arith}
 use Rattle.fleet_pending.specs.PendingData.{IsPendingData}
 use Rattle.fleet_pending.specs.Asking.{ask_result}
 use Rattle.fleet_pending.proofs.Table.{opens_new, asks_keeps}
+use Rattle.fleet_pending.proofs.Soonest.{soonest_opened}
 use Rattle.fleet_pending.proofs.Unchanged.{unchanged}
 use Rattle.fleet_pending.proofs.pending.Pending.open.Goals as goal
 
@@ -12,13 +13,18 @@ returns-clause-asks g c =
     c.requires.0 c.enter.ensures.opens
 
 pub invariant_of-self : goal.invariant_of-self
-invariant_of-self g c =
-    asks_keeps _ _ _ _ _ _ (subst IsPendingData c.self.view_is c.self.invariant)
-    (returns-clause-asks g c)
+invariant_of-self g c = (
+  asks_keeps _ _ _ _ _ _ (subst IsPendingData c.self.view_is c.self.invariant.0)
+      (returns-clause-asks g c),
+  soonest_opened c.self.inside.soonest c.min-self-inside.result c.args.moment c.args.word
+      c.self.inside.entries.items c.enter.new.entries.items _ (ask_result c.enter.result)
+      c.self.invariant.1 (omega (arith, c.min-self-inside.ensures))
+      (omega (arith, c.min-self-inside.ensures, c.value.ensures.value)) c.enter.ensures.opens,
+)
 
 pub returns-clause-unchanged : goal.returns-clause-unchanged
 returns-clause-unchanged g c =
     unchanged _ _ _ _ _ c.enter.result (returns-clause-asks g c)
 
 pub returns-clause-lawful : goal.returns-clause-lawful
-returns-clause-lawful g c = invariant_of-self g c
+returns-clause-lawful g c = (invariant_of-self g c).0
