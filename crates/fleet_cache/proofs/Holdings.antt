@@ -15,7 +15,6 @@ use Rattle.fleet_cache.specs.Live.{has_ended, is_live, live_of}
 use Rattle.fleet_cache.specs.Dominates.{dominates}
 use Rattle.fleet_cache.specs.Cached.{item_order, IsCached, IsCovered, IsPast, IsNeedless, IsSameSet}
 use Rattle.fleet_cache.specs.steps.Held.{IsHeld, IsTaken}
-use Rattle.fleet_cache.specs.steps.Slots.{items_of, IsLaid, IsPut}
 use Rattle.fleet_cache.specs.steps.Noted.{NotedData, AreNoted, HasNone, HasNoneShorter}
 use Rattle.fleet_cache.specs.steps.Reclaimed.{IsThinned, IsReclaimed}
 use Rattle.fleet_cache.specs.steps.Orders.{over_from}
@@ -289,31 +288,15 @@ thinned_held items rest held order of_items = record {
   };
 }
 
--- the map took an observation in, or was left as it was
-module _ {K E : Type 0} (octets : K → List ℕ) (es new : List (K × List ObservationData))
-    (x : ObservationData) (held : IsHeld (items_of es)) where
-  pub put_taken : (r : Result Bool E) → IfOk r (IsPut octets es new x)
-      → IfOk r (IsTaken (items_of es) (items_of new) x)
-  put_taken (Err e) put = tt
-  put_taken (Ok kept) put = record {
-    front = put.taken (items_of es) held.front;
-    size = put.size;
-    needless = put.needless;
-  }
-
-  pub stored_held : IsLaid octets es → IsObservation x → (r : Result Bool E)
-      → IfOk r (IsPut octets es new x) → OnErr r (new ≡ es)
-      → IsHeld (items_of new) × (IsLaid octets new
-      × ((o : ObservationData) → Has (items_of new) o → Has (x ∷ items_of es) o))
-  stored_held laid one (Err e) put same = (
-    subst (λ v. IsHeld (items_of v)) (sym same) held,
-    (subst (IsLaid octets) (sym same) laid, λ o h. inr (subst (λ v. Has (items_of v) o) same h)),
-  )
-  stored_held laid one (Ok kept) put same =
-      let front = put.taken (items_of es) held.front in (
-        taken_held (items_of es) (items_of new) x held one front,
-        (put.laid, front.of_set),
-      )
+-- an observation was taken in, or what is held was left as it was
+pub stored_held : {E : Type 0} (items new : List ObservationData) (x : ObservationData)
+    → IsHeld items → IsObservation x → (r : Result Bool E) → IfOk r (IsTaken items new x)
+    → OnErr r (new ≡ items)
+    → IsHeld new × ((o : ObservationData) → Has new o → Has (x ∷ items) o)
+stored_held items new x held one (Err e) taken same =
+    (subst IsHeld (sym same) held, λ o h. inr (subst (λ v. Has v o) same h))
+stored_held items new x held one (Ok kept) taken same =
+    (taken_held items new x held one taken.front, taken.front.of_set)
 
 -- where a length is not noted, no name of it is there
 pub noted_none : (kind : Kind) (noted : NotedData) (items : List ObservationData) (size : ℕ)

@@ -16,6 +16,11 @@ mod Reclaiming
 mod Best
 mod Past
 mod Looked
+mod Merging
+mod Both
+mod Storing
+mod Trimming
+mod ShortKeys
 mod Climbing
 mod Answers
 mod Underway

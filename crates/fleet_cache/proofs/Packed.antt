@@ -10,7 +10,7 @@ use Rattle.std.proofs.lemmas.Cmp.{ranked, tied_itself, nat_cmp_total, nat_list_c
 use Rattle.std.proofs.lemmas.List.{length-drop}
 use Rattle.std.proofs.lemmas.Map.Lookups.{exact_unsigned, exact_bytes}
 use Rattle.fleet_cache.specs.declared.words.TheConstants.{WEIGHTS}
-use Rattle.fleet_cache.specs.steps.Packed.{weigh, octet_words_within, octet_words, IsPackable}
+use Rattle.fleet_cache.specs.steps.Packed.{weigh, octet_words_within, octet_words_from, octet_words, IsPackable}
 use Rattle.fleet_name.specs.Name.{wire, IsLabel}
 use Rattle.fleet_name.proofs.Lemmas.{wire_cons, wire_exact}
 use Rattle.fleet_observe.specs.Preference.{octets_cmp, name_cmp}
@@ -180,10 +180,24 @@ within_cmp (suc k) (x ∷ xs) (y ∷ ys) a b s n m =
     (weigh_tied WEIGHTS are_weights p q a b s tied) (omega (arith, n, i)) (omega (arith, m, j)))
     ∙ weigh_cmp WEIGHTS are_weights p q a b s
 
+from_cmp : (n k : ℕ) (xs ys : List ℕ) → AreBytes xs → AreBytes ys → Settled xs ys
+    → length xs ≤ 8 * (n + k) → length ys ≤ 8 * (n + k)
+    → octets_cmp (octet_words_from n k xs) (octet_words_from n k ys) ≡ octets_cmp xs ys
+from_cmp zero k xs ys a b s i j = within_cmp k xs ys a b s (omega (arith, i)) (omega (arith, j))
+from_cmp (suc n) k xs ys a b s i j =
+    let p = length-drop 8 xs in
+    let q = length-drop 8 ys in
+    behind_tied (weigh WEIGHTS xs) (weigh WEIGHTS ys)
+    (octets_cmp (octet_words_from n k (drop 8 xs)) (octet_words_from n k (drop 8 ys)))
+    (octets_cmp (drop 8 xs) (drop 8 ys))
+    (λ tied. from_cmp n k (drop 8 xs) (drop 8 ys) (bytes_left 8 xs a) (bytes_left 8 ys b)
+    (weigh_tied WEIGHTS are_weights xs ys a b s tied) (omega (arith, i, p)) (omega (arith, j, q)))
+    ∙ weigh_cmp WEIGHTS are_weights xs ys a b s
+
 pub packed_cmp : (n m : List (List ℕ)) → IsPackable n → IsPackable m
     → octets_cmp (octet_words (wire n)) (octet_words (wire m)) ≡ name_cmp n m
 unfolding octet_words
-packed_cmp n m a b = within_cmp 32 (wire n) (wire m) a.bytes b.bytes
+packed_cmp n m a b = from_cmp 4 28 (wire n) (wire m) a.bytes b.bytes
     (names_settled n m a.named.labels b.named.labels) (omega (arith, a.named.fits))
     (omega (arith, b.named.fits))
 

@@ -2,9 +2,9 @@
 use Rattle.std.proofs.Common.{ℕ, zero, suc, ◌+◌, ◌-◌, ◌*◌, ◌≡◌, ◌<◌, ◌≤◌, List, [], ◌∷◌, ◌++◌, length, take, drop, slice_index_or, Fits, w8, refl, sym, ap, ◌∙◌, arith, append_assoc, append-nil, length-append}
 use Rattle.std.specs.List.{AllByRecursion}
 use Rattle.std.specs.Int.{w64, from_be_bytes}
-use Rattle.std.proofs.lemmas.List.{length-drop}
+use Rattle.std.proofs.lemmas.List.{length-drop, nil_from_length}
 use Rattle.fleet_cache.specs.declared.words.TheConstants.{WEIGHTS}
-use Rattle.fleet_cache.specs.steps.Packed.{weigh, octet_words_within, octet_words}
+use Rattle.fleet_cache.specs.steps.Packed.{weigh, octet_words_within, octet_words_from, octet_words}
 
 -- what is read as octets is below 256
 pub bytes_read : (xs : List ℕ) → ((i : ℕ) → Fits w8 (slice_index_or xs i 0))
@@ -85,8 +85,8 @@ words_so_far octets words new rest word whole fits some same is_new =
 
 -- at the end nothing is left
 pub all_packed : (octets words rest : List ℕ) → octet_words_within 32 octets ≡ words
-    ++ octet_words_within (32 - length words) rest → length rest ≡ 0 → words ≡ octet_words octets
-unfolding octet_words
+    ++ octet_words_within (32 - length words) rest → length rest ≡ 0
+    → words ≡ octet_words_within 32 octets
 all_packed octets words [] whole none = sym (whole
     ∙ (ap (λ v. words ++ v) (packed_none (32 - length words)) ∙ append-nil words))
 all_packed octets words (x ∷ rest) whole none = absurd (omega (arith, none))
@@ -95,8 +95,52 @@ all_packed octets words (x ∷ rest) whole none = absurd (omega (arith, none))
 pub last_packed : (octets words new rest : List ℕ) (word : ℕ)
     → octet_words_within 32 octets ≡ words ++ octet_words_within (32 - length words) rest
     → length rest ≤ 8 * (32 - length words) → 0 < length rest → length rest ≤ 8
-    → word ≡ weigh WEIGHTS rest → new ≡ words ++ word ∷ [] → new ≡ octet_words octets
+    → word ≡ weigh WEIGHTS rest → new ≡ words ++ word ∷ [] → new ≡ octet_words_within 32 octets
 last_packed octets words new rest word whole fits some few same is_new =
     let more = words_so_far octets words new rest word whole fits some same is_new in
     let count = length-drop 8 rest in
     all_packed octets new (drop 8 rest) more.0 (omega (arith, count, few))
+
+-- words that are there need no zeros
+from_within : (n k j : ℕ) (xs : List ℕ) → j ≡ n + k → 8 * n < length xs
+    → octet_words_within j xs ≡ octet_words_from n k xs
+from_within zero k j xs e more = ap (λ v. octet_words_within v xs) (omega (arith, e))
+from_within (suc n) k j xs e more =
+    let count = length-drop 8 xs in
+    packed_more j (n + k) xs (omega (arith, more)) (omega (arith, e))
+    ∙ ap (λ v. weigh WEIGHTS xs ∷ v)
+    (from_within n k (n + k) (drop 8 xs) refl (omega (arith, more, count)))
+
+pub long_packed : (octets : List ℕ) → 32 < length octets
+    → octet_words_within 32 octets ≡ octet_words octets
+unfolding octet_words
+long_packed octets long = from_within 4 28 32 octets refl long
+
+-- a name that is not short has more words
+pub long_more : (octets : List ℕ) → 32 < length octets → length (octet_words octets) ≡ 4 → ⊥
+unfolding octet_words
+long_more octets long four =
+    let rest = drop 8 (drop 8 (drop 8 (drop 8 octets))) in
+    let a = length-drop 8 octets in
+    let b = length-drop 8 (drop 8 octets) in
+    let c = length-drop 8 (drop 8 (drop 8 octets)) in
+    let d = length-drop 8 (drop 8 (drop 8 (drop 8 octets))) in
+    let more = ap length (packed_more 28 27 rest (omega (arith, long, a, b, c, d)) refl) in
+    absurd (omega (arith, four, more))
+
+-- a short name has just four
+pub short_packed : (octets : List ℕ) → length octets ≤ 32
+    → weigh WEIGHTS octets ∷ weigh WEIGHTS (drop 8 octets)
+    ∷ weigh WEIGHTS (drop 8 (drop 8 octets)) ∷ weigh WEIGHTS (drop 8 (drop 8 (drop 8 octets))) ∷ []
+    ≡ octet_words octets
+unfolding octet_words
+short_packed octets short =
+    let rest = drop 8 (drop 8 (drop 8 (drop 8 octets))) in
+    let a = length-drop 8 octets in
+    let b = length-drop 8 (drop 8 octets) in
+    let c = length-drop 8 (drop 8 (drop 8 octets)) in
+    let d = length-drop 8 (drop 8 (drop 8 (drop 8 octets))) in
+    let none : rest ≡ [] = nil_from_length rest (omega (arith, short, a, b, c, d)) in
+    ap (λ v. weigh WEIGHTS octets ∷ weigh WEIGHTS (drop 8 octets)
+    ∷ weigh WEIGHTS (drop 8 (drop 8 octets)) ∷ weigh WEIGHTS (drop 8 (drop 8 (drop 8 octets))) ∷ v)
+    (sym (ap (octet_words_within 28) none ∙ packed_none 28))

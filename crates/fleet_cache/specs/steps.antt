@@ -8,3 +8,4 @@ pub mod Noted
 pub mod Keyed
 pub mod Reclaimed
 pub mod CutAt
+pub mod Merged

@@ -10,23 +10,23 @@ ghost use Rattle.fleet_cache.specs.steps.Held.{IsHeld, IsTaken};
 ghost use Rattle.fleet_cache.specs.steps.Keyed.{HasNoKey, IsOfKey, IsOfName};
 ghost use Rattle.fleet_cache.specs.steps.Noted.{HasNone, HasNoneShorter};
 ghost use Rattle.fleet_cache.specs.steps.Reclaimed.{IsTrimmed, IsCleared};
+ghost use Rattle.fleet_cache.specs.steps.Merged.{merged};
 ghost use Rattle.fleet_cache.specs.steps.Slots.{concat};
 
 use crate::cut::Cut;
+use crate::fronts::{Both, Fronts};
 use crate::item::Item;
 use crate::noted::Noted;
-use crate::store::{Fronts, Key, covers, drop_hidden, store};
-use crate::words::pack;
+use crate::store::Key;
+use crate::words::ShortKey;
 use fleet_front::Front;
 use fleet_observe::{Kind, Observation};
 use std::alloc::{AllocError, Allocator};
-use std::collections::BTreeMap;
-use std::collections::btree_map::{Range, Values};
+use std::collections::btree_map::Range;
 use std::marker::Model;
-use std::ops::Bound;
 
 /// The observations that a cache holds in memory: those of a name in one front, by kind, then type,
-/// then the preferred first, and the fronts in a map by the octets of the names. None dominates
+/// then the preferred first, and the fronts in maps by the octets of the names. None dominates
 /// another. `denied` says at which lengths of names there may be a name error, `flushed` at which a
 /// flush.
 #[derive(Drop)]
@@ -41,17 +41,15 @@ impl<A: Allocator> Model for Held<A> {
     ghost use Rattle.fleet_observe.specs.Observation.{ObservationData};
     ghost use Rattle.fleet_observe.specs.declared.observation.kind.Kind.TheVariants.{NameError, Flush};
     ghost use Rattle.fleet_cache.specs.steps.Held.{IsHeld};
-    ghost use Rattle.fleet_cache.specs.steps.Slots.{items_of, IsLaid};
     ghost use Rattle.fleet_cache.specs.steps.Noted.{AreNoted};
 
     ghost Value = { List ObservationData };
 
-    ghost view = { λ h. items_of h.fronts.entries };
+    ghost view = { λ h. h.fronts };
 
-    ghost invariant = { λ h. IsHeld (items_of h.fronts.entries)
-        × IsLaid (λ k. k.items) h.fronts.entries
-        × AreNoted NameError h.denied (items_of h.fronts.entries)
-        × AreNoted Flush h.flushed (items_of h.fronts.entries) };
+    ghost invariant = { λ h. IsHeld h.fronts
+        × AreNoted NameError h.denied h.fronts
+        × AreNoted Flush h.flushed h.fronts };
 }
 
 impl<A: Allocator> Held<A> {
@@ -62,7 +60,7 @@ impl<A: Allocator> Held<A> {
         ensures { result ≡ [] }
     {
         Held {
-            fronts: BTreeMap::new(alloc),
+            fronts: Fronts::new(alloc),
             denied: Noted::new(),
             flushed: Noted::new(),
         }
@@ -81,7 +79,7 @@ impl<A: Allocator> Held<A> {
     {
         self.denied.note(Kind::NameError, &observation);
         self.flushed.note(Kind::Flush, &observation);
-        store(&mut self.fronts, alloc, observation)
+        self.fronts.store(alloc, observation)
     }
 
     /// Drops what a cut hides of the front of a name, and the front where nothing is left of it.
@@ -89,7 +87,7 @@ impl<A: Allocator> Held<A> {
         ensures trimmed { IsTrimmed key.now.items cut.now self.old self.new }
         ensures cleared { IsCleared key.now.items cut.now self.new }
     {
-        drop_hidden(&mut self.fronts, key, cut);
+        self.fronts.trim(key, cut);
     }
 
     /// Drops all observations.
@@ -106,7 +104,7 @@ impl<A: Allocator> Held<A> {
         ensures covered { IsTrue result ↔ IsCovered self.now observation.now }
         ensures own { IsHeld self.now }
     {
-        covers(&self.fronts, observation)
+        self.fronts.covers(observation)
     }
 
     /// The front of a name, by the words of its key.
@@ -115,7 +113,7 @@ impl<A: Allocator> Held<A> {
             (λ f. IsOfKey self.now words.now f.now) }
         ensures own { IsHeld self.now }
     {
-        self.fronts.get(words)
+        self.fronts.front(words)
     }
 
     /// The items of a name, by its octets.
@@ -125,8 +123,7 @@ impl<A: Allocator> Held<A> {
             → IsOfName kind self.now n result.now }
         ensures own { IsHeld self.now }
     {
-        let words = pack(name);
-        let Some(front) = self.front(words.as_slice()) else {
+        let Some(front) = self.fronts.at(name) else {
             return &[];
         };
         front.items()
@@ -150,17 +147,23 @@ impl<A: Allocator> Held<A> {
         &[]
     }
 
-    /// The fronts, one after another.
-    pub(crate) fn fronts(&self) -> Values<'_, Key<A>, Front<Item<A>, A>>
-        ensures items { concat result ≡ self.now }
+    /// The fronts of short names and those of the others, one after another.
+    pub(crate) fn both(&self) -> Both<'_, A>
+        ensures items { merged (concat result.short) (concat result.long) ≡ self.now }
         ensures own { IsHeld self.now }
     {
-        self.fronts.values()
+        self.fronts.both()
     }
 
-    /// The fronts behind this key, each with its own key, one after another.
-    pub(crate) fn behind(&self, key: &Key<A>) -> Range<'_, Key<A>, Front<Item<A>, A>> {
-        self.fronts.range((Bound::Excluded(key), Bound::Unbounded))
+    /// The fronts of short names behind the key with these words, each with its own key, one after
+    /// another; all of them where no short name has so many words.
+    pub(crate) fn short_behind(&self, words: &[u64]) -> Range<'_, ShortKey, Front<Item<A>, A>> {
+        self.fronts.short_behind(words)
+    }
+
+    /// The fronts of other names behind this key, each with its own key, one after another.
+    pub(crate) fn long_behind(&self, key: &Key<A>) -> Range<'_, Key<A>, Front<Item<A>, A>> {
+        self.fronts.long_behind(key)
     }
 
     /// The number of fronts.

@@ -9,6 +9,7 @@
 mod answer;
 mod cache;
 mod cut;
+mod fronts;
 mod held;
 mod item;
 mod items;
@@ -16,6 +17,7 @@ mod laws;
 mod lookup;
 mod noted;
 mod reclaim;
+mod short;
 mod shown;
 mod store;
 mod words;

@@ -9,7 +9,7 @@ use crate::held::Held;
 use crate::item::Item;
 use crate::lookup::cut_at;
 use crate::store::Key;
-use crate::words::MOST_WORDS;
+use crate::words::{MOST_WORDS, SHORT_WORDS};
 use fleet_front::Front;
 use fleet_observe::{Moment, Observation};
 use std::alloc::{AllocError, Allocator};
@@ -20,7 +20,8 @@ const SHARE: usize = 256;
 /// .. and at this many at least, if there are as many.
 const LEAST: usize = 4096;
 
-/// Where reclaiming stopped: the key of the front that it looked at last, or no words at the start.
+/// Where reclaiming stopped: the words of the key of the front that it looked at last, which is of a
+/// short name where they are `SHORT_WORDS`, or no words at the start. Short names come first.
 #[derive(Drop)]
 pub(crate) struct Cursor<A: Allocator> {
     key: Key<A>,
@@ -56,13 +57,22 @@ impl<A: Allocator> Cursor<A> {
         self.key.clear();
     }
 
-    /// Goes on over at most `left` fronts, up to the first that holds anything which is not live at
-    /// the moment, or back to the start where there are no more. Returns how many of `left` there
-    /// are to look at behind it. It allocates nothing: without room for the key it goes back to the
-    /// start too.
+    /// Goes on over at most `left` fronts, those of short names first, up to the first that holds
+    /// anything which is not live at the moment, or back to the start where there are no more.
+    /// Returns how many of `left` there are to look at behind it. It allocates nothing: without room
+    /// for the key it goes back to the start too.
     fn pass(&mut self, held: &Held<A>, moment: Moment, left: usize) -> usize {
         let mut rest = left;
-        for (key, front) in held.behind(&self.key) {
+        if self.key.len() <= SHORT_WORDS {
+            for (key, front) in held.short_behind(&self.key) {
+                rest = rest.saturating_sub(1);
+                if rest == 0 || is_stale(held, front, moment) {
+                    return if self.stop_at(&key.words()) { rest } else { 0 };
+                }
+            }
+            self.key.clear();
+        }
+        for (key, front) in held.long_behind(&self.key) {
             rest = rest.saturating_sub(1);
             if rest == 0 || is_stale(held, front, moment) {
                 return if self.stop_at(key) { rest } else { 0 };
@@ -72,10 +82,10 @@ impl<A: Allocator> Cursor<A> {
         0
     }
 
-    /// Stops at a key. Returns whether there is room for it.
-    fn stop_at(&mut self, key: &Key<A>) -> bool {
+    /// Stops at the key with these words. Returns whether there is room for it.
+    fn stop_at(&mut self, words: &[u64]) -> bool {
         self.key.clear();
-        key.len() <= self.key.capacity() && self.key.extend_from_slice(key).is_ok()
+        words.len() <= self.key.capacity() && self.key.extend_from_slice(words).is_ok()
     }
 }
 

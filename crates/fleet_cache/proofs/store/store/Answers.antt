@@ -1,50 +1,25 @@
-use Rattle.std.proofs.Common.{◌≡◌, ◌+◌, ◌≤◌, length, ℕ, Bool, false, List, ◌∷◌, ◌↔◌, Some, None, Result, Ok, Err, IfOk, OnOk, OnErr, sym, ap, ◌∙◌, subst}
-use Rattle.std.specs.Map.{lookup, set_value}
+use Rattle.std.proofs.Common.{◌≡◌, false, List, ◌∷◌, ◌↔◌, None, IfOk, OnOk, OnErr, sym, ◌∙◌, subst}
+use Rattle.std.specs.Map.{lookup}
 use Rattle.std.specs.Ordering.{is_eq}
 use Rattle.std.proofs.lemmas.Result.{on_err_weaker}
-use Rattle.std.proofs.lemmas.Map.Steps.{set_value_same}
 use Rattle.fleet_front.specs.Front.{IsFront as IsFrontOf, IsCovered as IsCoveredBy}
 use Rattle.fleet_observe.specs.Observation.{ObservationData}
-use Rattle.fleet_cache.specs.steps.Packed.{words_of, IsPackable}
+use Rattle.fleet_cache.specs.steps.Packed.{words_of}
 use Rattle.fleet_observe.specs.Preference.{octets_cmp}
 use Rattle.fleet_cache.specs.Dominates.{dominates}
 use Rattle.fleet_cache.specs.steps.Row.{row}
-use Rattle.fleet_cache.specs.steps.Slots.{IsLaid, IsPut}
-use Rattle.fleet_cache.proofs.Slots.{slot_of_key, put_edited, put_entered}
+use Rattle.fleet_cache.proofs.Slots.{put_entered}
+use Rattle.fleet_cache.proofs.Storing.{put_in_place, put_nothing}
 use Rattle.fleet_cache.proofs.Looked.{none_covers, covered_there}
 use Rattle.fleet_front.proofs.Lemmas.{on_err}
 use Rattle.fleet_cache.proofs.store.store.Goals as goal
-
--- the front that the map had was changed in place
-module _ {K : Type 0} (octets : K → List ℕ) (es new : List (K × List ObservationData))
-    (f g : List ObservationData) (x : ObservationData) (q : List ℕ) (same : q ≡ words_of x)
-    (fits : IsPackable x.name) (laid : IsLaid octets es)
-    (is : new ≡ set_value (λ k. is_eq (octets_cmp q (octets k))) es g)
-    (found : Some f ≡ lookup (λ k. is_eq (octets_cmp q (octets k))) es) {E : Type 0} where
-  put_in_place : (r : Result Bool E) → ((s : List ObservationData)
-      → IsFrontOf row dominates s f → OnOk r (IsFrontOf row dominates (x ∷ s) g))
-      → IfOk r (λ kept. (kept ≡ false) ↔ IsCoveredBy dominates f x) → length g ≤ length f + 1
-      → IfOk r (IsPut octets es new x)
-  put_in_place (Err e) taken known size = known
-  put_in_place (Ok kept) taken known size =
-      let at : lookup (λ k. is_eq (octets_cmp (words_of x) (octets k))) es ≡ Some f =
-      rw (← same) (sym found) in
-      let written : new ≡ set_value (λ k. is_eq (octets_cmp (words_of x) (octets k))) es g =
-      rw (← same) is in
-      let own = (slot_of_key octets es (words_of x) f laid at).slot.own_front in
-      put_edited octets es new f g x kept laid at written fits (taken f own) size known
-
-  put_nothing : (r : Result Bool E) → OnErr r (g ≡ f) → OnErr r (new ≡ es)
-  put_nothing r e = on_err_weaker r (λ same_front. is
-      ∙ ap (set_value (λ k. is_eq (octets_cmp q (octets k))) es) same_front
-      ∙ set_value_same (λ k. is_eq (octets_cmp q (octets k))) es f (sym found)) e
 
 pub returns-in-Some-clause-put : goal.returns-in-Some-clause-put
 returns-in-Some-clause-put g c = put_in_place (λ k. k.items) c.args.fronts.now.entries
     (c.get_mut.follows.lender c.take.new.self).entries c.in-Some.front.now c.take.new.self
     c.args.observation c.as_slice.result.now (c.as_slice.ensures.value
     ∙ c.words_of_observation-words.ensures.words) c.words_of_observation-words.ensures.packable
-    c.requires (c.get_mut.follows.holds c.take.new.self).0 c.in-Some.ensures.value c.take.result
+    c.requires.laid (c.get_mut.follows.holds c.take.new.self).0 c.in-Some.ensures.value c.take.result
     (subst (λ v. (s : List ObservationData) → IsFrontOf row dominates s c.in-Some.front.now
     → OnOk c.take.result (IsFrontOf row dominates (v ∷ s) c.take.new.self)) c.new.ensures
     c.take.ensures.taken) (subst (λ v. IfOk c.take.result
@@ -56,7 +31,7 @@ returns-in-Some-clause-err g c = put_nothing (λ k. k.items) c.args.fronts.now.e
     (c.get_mut.follows.lender c.take.new.self).entries c.in-Some.front.now c.take.new.self
     c.args.observation c.as_slice.result.now (c.as_slice.ensures.value
     ∙ c.words_of_observation-words.ensures.words) c.words_of_observation-words.ensures.packable
-    c.requires (c.get_mut.follows.holds c.take.new.self).0 c.in-Some.ensures.value c.take.result
+    c.requires.laid (c.get_mut.follows.holds c.take.new.self).0 c.in-Some.ensures.value c.take.result
     c.take.ensures.err
 
 pub returns-clause-put : goal.returns-clause-put
@@ -69,7 +44,7 @@ returns-clause-put g c =
     c.args.fronts.now.entries ≡ None = rw (← same) (sym c.in_default.ensures.value) in
     put_entered (λ k. k.items) c.args.fronts.now.entries c.insert.new.self.entries
     c.in_ok-front.front c.args.observation c.in_ok-key.key (c.in_ok-key.ensures.items
-    ∙ (c.as_slice-2.ensures.value ∙ c.words_of_observation-words.ensures.words)) c.requires gone
+    ∙ (c.as_slice-2.ensures.value ∙ c.words_of_observation-words.ensures.words)) c.requires.laid gone
     (rw (← none) c.in_ok-insert.ensures.entries) c.words_of_observation-words.ensures.packable
     c.in_ok-front.ensures.front c.in_ok-front.ensures.size
 
@@ -81,7 +56,7 @@ returns-in-Some-clause-memory g c =
     let o = c.args.observation in
     let same : c.as_slice.result.now ≡ words_of o = c.as_slice.ensures.value
     ∙ c.words_of_observation-words.ensures.words in
-    let there = covered_there (λ k. k.items) c.as_slice.result.now es f c.requires
+    let there = covered_there (λ k. k.items) c.as_slice.result.now es f c.requires.laid
     (sym c.in-Some.ensures.value) o same in
     on_err_weaker c.take.result (λ free k. free (there.1 k))
     (subst (λ v. OnErr c.take.result (¬ IsCoveredBy dominates f v)) c.new.ensures
@@ -90,17 +65,17 @@ returns-in-Some-clause-memory g c =
 pub returns-in_err-key-clause-memory : goal.returns-in_err-key-clause-memory
 returns-in_err-key-clause-memory g c = on_err _
     (none_covers (λ k. k.items) c.as_slice.result.now c.args.fronts.now.entries c.args.observation
-    (c.as_slice.ensures.value ∙ c.words_of_observation-words.ensures.words) c.requires
+    (c.as_slice.ensures.value ∙ c.words_of_observation-words.ensures.words) c.requires.laid
     (sym c.in_default.ensures.value))
 
 pub returns-in_err-front-clause-memory : goal.returns-in_err-front-clause-memory
 returns-in_err-front-clause-memory g c = on_err _
     (none_covers (λ k. k.items) c.as_slice.result.now c.args.fronts.now.entries c.args.observation
-    (c.as_slice.ensures.value ∙ c.words_of_observation-words.ensures.words) c.requires
+    (c.as_slice.ensures.value ∙ c.words_of_observation-words.ensures.words) c.requires.laid
     (sym c.in_default.ensures.value))
 
 pub returns-in_err-insert-clause-memory : goal.returns-in_err-insert-clause-memory
 returns-in_err-insert-clause-memory g c = on_err _
     (none_covers (λ k. k.items) c.as_slice.result.now c.args.fronts.now.entries c.args.observation
-    (c.as_slice.ensures.value ∙ c.words_of_observation-words.ensures.words) c.requires
+    (c.as_slice.ensures.value ∙ c.words_of_observation-words.ensures.words) c.requires.laid
     (sym c.in_default.ensures.value))

@@ -3,11 +3,11 @@ use Rattle.std.proofs.lemmas.Bool.Decides.{nat_tests}
 use Rattle.std.proofs.lemmas.List.{length-take}
 use Rattle.fleet_cache.specs.declared.words.TheConstants.{MOST_WORDS, WORD_OCTETS}
 use Rattle.fleet_cache.specs.steps.Packed.{octet_words_within}
-use Rattle.fleet_cache.proofs.Packing.{bytes_read, first_weighed, words_so_far, all_packed, last_packed}
+use Rattle.fleet_cache.proofs.Packing.{bytes_read, first_weighed, words_so_far, all_packed, last_packed, long_packed}
 use Rattle.fleet_cache.proofs.words.pack.Goals as goal
 
 pub loop-first-init : goal.loop-first-init
-loop-first-init c = rw c.new-words.ensures (refl, omega (arith, c.requires))
+loop-first-init c = rw c.new-words.ensures (refl, omega (arith, c.requires.fits))
 
 pub loop-first-preserved : goal.loop-first-preserved
 loop-first-preserved c =
@@ -30,7 +30,7 @@ returns-then-is_empty-clause-words c =
     let none : length c.loop-first.rest.now ≡ 0 =
     grind (arith, nat_tests, c.is_empty.ensures, c.if-is_empty.true) in
     all_packed c.args.octets.now c.loop-first.words.items c.loop-first.rest.now
-    c.loop-first.invariant.0 none
+    c.loop-first.invariant.0 none ∙ long_packed c.args.octets.now c.requires.long
 
 pub returns-then-is_empty-clause-bytes : goal.returns-then-is_empty-clause-bytes
 returns-then-is_empty-clause-bytes c = bytes_read c.args.octets.now c.type_inv.octets
@@ -44,6 +44,7 @@ returns-clause-words c =
     last_packed c.args.octets.now c.loop-first.words.items c.push-2.new.self.items rest
     c.word_of.result c.loop-first.invariant.0 c.loop-first.invariant.1 some
     (omega (arith, few)) c.word_of.ensures c.push-2.ensures.items
+    ∙ long_packed c.args.octets.now c.requires.long
 
 pub returns-clause-bytes : goal.returns-clause-bytes
 returns-clause-bytes c = bytes_read c.args.octets.now c.type_inv.octets
