@@ -8,6 +8,7 @@ mod Beats
 mod Lawful
 mod Caches
 mod Holdings
+mod LentItems
 pub mod Lemmas
 mod Packed
 mod Packing

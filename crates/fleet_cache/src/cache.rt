@@ -3,7 +3,9 @@
 ghost use Rattle.std.specs.Prelude.{◌≡◌, ◌^◌, ◌<◌, ◌≤◌, max, true, false, [], ◌∷◌, ◌++◌, ◌↔◌, length, take, IsTrue, IfOk, IfErr, OnOk, OnErr};
 ghost use Rattle.fleet_name.specs.Types.{Labels};
 ghost use Rattle.fleet_name.specs.Name.{wire, IsWire};
-ghost use Rattle.fleet_observe.specs.Observation.{IsObservation, Observations};
+ghost use Rattle.fleet_observe.specs.Lent.{IsLent};
+ghost use Rattle.fleet_observe.specs.Members.{Has};
+ghost use Rattle.fleet_observe.specs.Observation.{IsObservation, ObservationData, Observations};
 ghost use Rattle.fleet_cache.specs.Cached.{IsCached, IsPast, IsNeedless, IsNeededAt, IsSameSet};
 ghost use Rattle.fleet_cache.specs.Answer.{answer_of};
 ghost use Rattle.fleet_cache.specs.Shown.{AllSome};
@@ -13,9 +15,10 @@ ghost use Rattle.fleet_cache.specs.Kinds.{HasKinds};
 use crate::answer::{Answer, follow};
 use crate::held::Held;
 use crate::items::Items;
+use crate::lent::has_lent;
 use crate::lookup::is_past;
 use crate::reclaim::{Cursor, reclaim};
-use fleet_observe::{Moment, Observation};
+use fleet_observe::{LentObservation, Moment, Observation};
 use fleet_wire::{LentQuestion, Question};
 use std::alloc::{AllocError, Allocator, Global};
 use std::marker::Model;
@@ -126,6 +129,22 @@ impl<A: Allocator> Cache<A> {
             taken += 1;
         }
         Ok(())
+    }
+
+    /// Whether what is lent is held, so that it need not be taken in: it is one of the items, or one
+    /// that has ended at the floor or is withdrawn and is still in memory. It is compared in place,
+    /// and nothing is allocated.
+    pub fn holds(&self, lent: &LentObservation<'_>) -> bool
+        requires { IsWire lent.now.name.now }
+        ensures needless { (o : ObservationData) → IsLent lent.now o → IsTrue result
+            → IsNeedless self.now.floor self.now.items o }
+        ensures taken { (o : ObservationData) (s : Observations) → IsLent lent.now o → IsTrue result
+            → IsCached s self.now.floor self.now.items
+            → IsCached (o ∷ s) self.now.floor self.now.items }
+        ensures items { (o : ObservationData) → IsLent lent.now o → Has self.now.items o
+            → IsTrue result }
+    {
+        has_lent(self.held.at(lent.name), lent)
     }
 
     /// Takes copies of the other's items in, in their order, and then purges to its floor: it is

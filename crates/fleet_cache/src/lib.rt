@@ -14,6 +14,7 @@ mod held;
 mod item;
 mod items;
 mod laws;
+mod lent;
 mod lookup;
 mod noted;
 mod reclaim;

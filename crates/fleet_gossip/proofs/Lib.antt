@@ -15,4 +15,5 @@ pub mod NameSteps
 pub mod Memory
 pub mod Making
 pub mod FrameSteps
+pub mod Taking
 pub mod PackSteps

@@ -1,3 +1,4 @@
 pub mod Reading
 pub mod EntryOf
 pub mod Packs
+pub mod Taking

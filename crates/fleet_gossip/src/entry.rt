@@ -4,6 +4,7 @@ ghost use Rattle.std.specs.Prelude.{◌≡◌, ◌++◌, IfOk, MatchResult};
 ghost use Rattle.fleet_name.specs.Types.{Labels};
 ghost use Rattle.fleet_name.specs.Name.{wire, IsName, IsWire};
 ghost use Rattle.fleet_observe.specs.Body.{positive_body, negative_body};
+ghost use Rattle.fleet_observe.specs.Lent.{IsLent};
 ghost use Rattle.fleet_observe.specs.Observation.{ObservationData};
 ghost use Rattle.fleet_observe.specs.declared.observation.kind.Kind.TheVariants.{Positive, Flush};
 ghost use Rattle.fleet_observe.specs.Checks.{denied_kind, denied_type};
@@ -18,7 +19,7 @@ use crate::head::{Head, read_head, read_type};
 use crate::name::read_name;
 use crate::reader::Reader;
 use fleet_name::{Name, Octets};
-use fleet_observe::{Kind, Observation, Soa};
+use fleet_observe::{Kind, LentObservation, Observation, Soa};
 use std::alloc::{AllocError, Allocator};
 
 /// A lawful entry that was read. Its name and its body are borrowed from the frame.
@@ -156,6 +157,21 @@ impl FrameEntry<'_> {
     {
         let name = copy_name(alloc, self.name)?;
         Ok(Observation::flush(name, self.head.stamp))
+    }
+
+    /// The observation of the entry, with what it borrows.
+    pub fn lent(&self) -> LentObservation<'_>
+        ensures { (o : ObservationData) → IsEntryOf self.now o → IsLent result o }
+    {
+        LentObservation {
+            kind: self.head.kind,
+            name: self.name,
+            rtype: self.rtype,
+            rank: self.head.rank,
+            stamp: self.head.stamp,
+            life: self.head.life,
+            body: self.body,
+        }
     }
 
     /// The observation of the entry. `Err` where an allocation fails.

@@ -136,7 +136,7 @@ fn check_entries(entries: &Entries<'_>) -> Result<(), FrameFault>
 }
 
 /// The entries of a frame, each of them lawful; `Err` is the first fault. This allocates nothing.
-fn read_frame(octets: &[u8]) -> Result<Entries<'_>, FrameFault>
+pub(crate) fn read_frame(octets: &[u8]) -> Result<Entries<'_>, FrameFault>
     ensures { MatchResult result (λ entries.
         IsFrameOfEntries octets.now entries.version entries.count entries.octets.now)
         (FrameFails octets.now) }

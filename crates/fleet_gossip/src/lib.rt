@@ -18,9 +18,11 @@ mod laws;
 mod name;
 mod packer;
 mod reader;
+mod take;
 mod writer;
 
 pub use fault::FrameFault;
 pub use frame::{OLDEST_VERSION, VERSION, decode, encode};
 pub use laws::{entry_fits, list_or_fault, one_fault, one_list, one_packing, one_spelling};
 pub use packer::{pack, sweep};
+pub use take::{TakeFault, take_frame};

@@ -1,5 +1,5 @@
 -- The lemmas of this crate's words. Crates above cite these, and no other file of proofs/.
-use Rattle.std.proofs.Common.{◌≡◌, ℕ, inl, inr, ◌/◌, ◌%◌, List, [], ◌∷◌, length, refl, ap, ◌∙◌, arith, length-append}
+use Rattle.std.proofs.Common.{◌≡◌, ℕ, inl, inr, ◌/◌, ◌%◌, List, [], ◌∷◌, length, refl, sym, ap, ◌∙◌, arith, length-append}
 use Rattle.std.specs.declared.cmp.Ordering.{Ordering}
 use Rattle.std.specs.declared.cmp.Ordering.TheVariants.{Less, Equal, Greater}
 use Rattle.std.specs.Ordering.{nat_cmp, ordering_then, ordering_reverse}
@@ -8,8 +8,10 @@ use Rattle.fleet_name.specs.Name.{wire}
 use Rattle.fleet_name.proofs.Lemmas.{split_same, wire_exact}
 use Rattle.fleet_wire.specs.Number.{u16_octets}
 use Rattle.fleet_observe.specs.Observation.{ObservationData, expires, key_at, kind_number, IsRank, IsDenialRank}
+use Rattle.fleet_observe.specs.Lent.{IsLent}
 use Rattle.fleet_observe.specs.Preference.{name_cmp, preference, preference_total}
 use Rattle.fleet_observe.specs.declared.observation.kind.Kind.{Kind}
+use Rattle.fleet_observe.specs.declared.observation.lent.LentObservation.{LentObservation}
 use Rattle.fleet_observe.specs.declared.observation.kind.Kind.TheVariants.{NameError, NoData, Positive, Flush}
 
 -- what is equal one after the other is equal both times
@@ -80,6 +82,21 @@ preference_exact x y e =
     let u : x.rtype ≡ y.rtype = exact_unsigned _ _ f.0 in
     let v : x.name ≡ y.name = wire_exact _ _ (exact_bytes _ _ g.0) in
     let w : x.body ≡ y.body = exact_bytes _ _ g.1 in
+    let z : observation_of (x.rank, x.stamp, x.life, x.kind, x.rtype, x.name, x.body)
+    ≡ observation_of (y.rank, y.stamp, y.life, y.kind, y.rtype, y.name, y.body) = cc in
+    z
+
+-- what is lent is one observation
+pub lent_exact : (lent : LentObservation) (x y : ObservationData) → IsLent lent x → IsLent lent y
+    → x ≡ y
+lent_exact lent x y h k =
+    let n : x.name ≡ y.name = wire_exact _ _ (sym h.named ∙ k.named) in
+    let p : x.rank ≡ y.rank = sym h.rank ∙ k.rank in
+    let q : x.stamp ≡ y.stamp = sym h.stamp ∙ k.stamp in
+    let s : x.life ≡ y.life = sym h.life ∙ k.life in
+    let t : x.kind ≡ y.kind = sym h.kind ∙ k.kind in
+    let u : x.rtype ≡ y.rtype = sym h.rtype ∙ k.rtype in
+    let w : x.body ≡ y.body = sym h.body ∙ k.body in
     let z : observation_of (x.rank, x.stamp, x.life, x.kind, x.rtype, x.name, x.body)
     ≡ observation_of (y.rank, y.stamp, y.life, y.kind, y.rtype, y.name, y.body) = cc in
     z

@@ -4,6 +4,7 @@ pub mod Lawful
 pub mod Orders
 pub mod Lemmas
 pub mod Bodies
+pub mod Lent
 pub mod Spelling
 pub mod Sections
 pub mod Sets

@@ -4,6 +4,7 @@ pub mod Observation
 pub mod Preference
 pub mod Checks
 pub mod BodyParts
+pub mod Lent
 pub mod RrSet
 pub mod Soa
 pub mod Walk

@@ -1,6 +1,7 @@
 //! Laws of what replies mean. Each function does nothing: its contract is the law.
 
 ghost use Rattle.fleet_observe.specs.Observation.{OneKey};
+ghost use Rattle.fleet_observe.specs.Lent.{OneLent};
 ghost use Rattle.fleet_observe.specs.Walk.{OneWalk};
 ghost use Rattle.fleet_observe.specs.DigestOf.{DigestIsSound, DigestOrFault};
 ghost use Rattle.fleet_observe.specs.Observations.{OneDigest, OneObserved, EachOnce};
@@ -8,6 +9,11 @@ ghost use Rattle.fleet_observe.specs.Observations.{OneDigest, OneObserved, EachO
 /// A key is of one name, one kind and one type.
 pub fn one_key()
     ensures { OneKey }
+{}
+
+/// What is lent is one observation.
+pub fn one_lent()
+    ensures { OneLent }
 {}
 
 /// From a name there is one walk at most.

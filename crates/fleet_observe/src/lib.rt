@@ -11,10 +11,11 @@ mod reply;
 
 pub use bounds::{LONGEST_BODY, LONGEST_DENIAL, LONGEST_LIFE};
 pub use items::Items;
-pub use laws::{digest_or_fault, each_once, one_digest, one_key, one_walk};
+pub use laws::{digest_or_fault, each_once, one_digest, one_key, one_lent, one_walk};
 pub use observation::Observation;
 pub use observation::fault::ObservationFault;
 pub use observation::kind::Kind;
+pub use observation::lent::LentObservation;
 pub use observation::moment::Moment;
 pub use observation::order::preference_laws;
 pub use observation::soa::Soa;

@@ -1,8 +1,9 @@
 //! What an observation is: its parts, their lawful values, its body and its order.
 
-ghost use Rattle.std.specs.Prelude.{◌≡◌, ◌≢◌, ℕ, ◌+◌, ◌≤◌, [], ◌++◌, length, MatchOption, MatchResult, IfOk, OnOk, IfSome};
+ghost use Rattle.std.specs.Prelude.{◌≡◌, ◌≢◌, ℕ, ◌+◌, ◌≤◌, [], ◌++◌, ◌↔◌, length, IsTrue, MatchOption, MatchResult, IfOk, OnOk, IfSome};
 ghost use Rattle.fleet_observe.specs.Body.{positive_body, negative_body, AreRdatas, IsDenial};
 ghost use Rattle.fleet_observe.specs.Observation.{expires as end_of, flush_at, IsNegativeKind, IsObservation};
+ghost use Rattle.fleet_observe.specs.Lent.{IsLent};
 ghost use Rattle.fleet_observe.specs.Checks.{denied_kind, denied_type, MakesPositive, IsPositiveFault, MakesNegative, IsNegativeFault};
 ghost use Rattle.fleet_observe.specs.declared.bounds.TheConstants.{LONGEST_BODY};
 ghost use Rattle.fleet_observe.specs.declared.observation.kind.Kind.TheVariants.{Positive};
@@ -10,6 +11,7 @@ ghost use Rattle.fleet_observe.specs.declared.observation.kind.Kind.TheVariants.
 pub(crate) mod body;
 pub(crate) mod fault;
 pub(crate) mod kind;
+pub(crate) mod lent;
 pub(crate) mod moment;
 pub(crate) mod order;
 pub(crate) mod soa;
@@ -19,6 +21,7 @@ use crate::bounds::{LATEST, LONGEST_DENIAL, LONGEST_LIFE};
 use crate::observation::body::Body;
 use crate::observation::fault::ObservationFault;
 use crate::observation::kind::Kind;
+use crate::observation::lent::{LentObservation, is_body};
 use crate::observation::moment::Moment;
 use crate::observation::soa::Soa;
 use crate::observation::values::{
@@ -297,6 +300,24 @@ impl<A: Allocator> Observation<A> {
         let mut octets = Vec::with_capacity(alloc, self.body.len())?;
         self.append_body(&mut octets)?;
         Ok(octets)
+    }
+
+    /// Whether it is what is lent. What differs soonest is compared first, and the body last, octet
+    /// by octet. This allocates nothing.
+    pub fn equals(&self, lent: &LentObservation<'_>) -> bool
+        ensures equal { IsTrue result ↔ IsLent lent.now self.now }
+        ensures lawful { IsObservation self.now }
+    {
+        if self.stamp != lent.stamp || self.life != lent.life || self.rank != lent.rank {
+            return false;
+        }
+        if self.kind != lent.kind || self.rtype != lent.rtype {
+            return false;
+        }
+        if self.name.octets() != lent.name {
+            return false;
+        }
+        is_body(&self.body, lent.body)
     }
 
     /// A copy of the observation. `Err` where an allocation fails.

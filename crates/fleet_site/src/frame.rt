@@ -10,11 +10,11 @@ ghost use Rattle.fleet_site.specs.gossip.Frame.{Framed};
 
 use crate::outcome::{Outcome, Refusal, SiteFault};
 use fleet_cache::Cache;
-use fleet_gossip::{FrameFault, decode};
+use fleet_gossip::TakeFault;
 use fleet_observe::Observation;
 use std::alloc::Allocator;
 
-/// A frame's observations are taken.
+/// A frame's observations are taken. For those that are held already nothing is allocated.
 pub(crate) fn take_frame<A: Allocator + Copy>(
     alloc: A,
     cache: &mut Cache<A>,
@@ -27,14 +27,14 @@ pub(crate) fn take_frame<A: Allocator + Copy>(
         (record { cache = cache.new; asking = o }) }
     ensures floor { cache.new.floor ≡ cache.old.floor }
 {
-    match decode(alloc, octets) {
-        Ok(observations) => take_all(alloc, cache, observations),
-        Err(fault) => {
-            if fault == FrameFault::OutOfMemory {
-                return Err(SiteFault::OutOfMemory { taken: 0 });
+    match fleet_gossip::take_frame(alloc, cache, octets) {
+        Ok(taken) => Ok(Outcome::without_packets(alloc, taken, None)),
+        Err(stop) => match stop {
+            TakeFault::Refused(fault) => {
+                Ok(Outcome::without_packets(alloc, 0, Some(Refusal::Frame(fault))))
             }
-            Ok(Outcome::without_packets(alloc, 0, Some(Refusal::Frame(fault))))
-        }
+            TakeFault::OutOfMemory { taken } => Err(SiteFault::OutOfMemory { taken }),
+        },
     }
 }
 

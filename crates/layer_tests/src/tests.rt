@@ -5,7 +5,7 @@
 //! has tests: of names and octets; of lists of items; of messages that are cut off or lie (`faults`), that servers
 //! sent (`captures`) and that are read in place; of what replies say, and of observations that are
 //! made; of fronts; of caches, flushes, exchanges between caches and the memory that purges give
-//! back; of frames and their second entries; of open questions.
+//! back; of frames, their second entries, and frames that are taken; of open questions.
 
 mod caches;
 mod calls;
@@ -27,3 +27,4 @@ mod replies;
 mod rows;
 mod second_entries;
 mod tables;
+mod taken;

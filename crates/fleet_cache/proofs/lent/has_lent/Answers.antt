@@ -1,0 +1,31 @@
+use Rattle.std.proofs.Common.{inl, inr, refl, sym, ◌∙◌, subst, arith}
+use mathlib.Core.Bool.{false≢true}
+use Rattle.fleet_observe.specs.Lent.{IsLent}
+use Rattle.fleet_cache.proofs.LentItems.{has_at, has_from, none_behind}
+use Rattle.fleet_cache.proofs.lent.has_lent.Goals as goal
+
+pub returns-then-equals : goal.returns-then-equals
+returns-then-equals g c = (
+  λ told. (
+    c.item-item.result,
+    has_at c.args.items.now c.loop-item.item-index c.item-item.result (omega arith) c.item-item.is,
+    subst (IsLent c.args.lent.now) c.observation.ensures (c.equals.ensures.equal.0 c.if-equals.true),
+  ),
+  λ some. refl,
+)
+
+pub loop-item-preserved : goal.loop-item-preserved
+loop-item-preserved g c = λ o has lent.
+    elim (has_from c.args.items.now c.loop-item.item-index c.item-item.result o (omega arith)
+    c.item-item.is (c.loop-item.invariant o has lent)) [
+      | inl same ↦ absurd (false≢true (sym c.if-equals.false ∙ c.equals.ensures.equal.1
+          (subst (IsLent c.args.lent.now) (sym (c.observation.ensures ∙ same)) lent)))
+      | inr later ↦ later
+    ]
+
+pub returns : goal.returns
+returns g c = (
+  λ e. absurd (false≢true e),
+  λ some. absurd (none_behind c.args.items.now c.loop-item.item-index some.0 c.loop-item-test.false
+      (c.loop-item.invariant some.0 some.1 some.2)),
+)

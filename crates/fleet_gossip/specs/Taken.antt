@@ -1,0 +1,45 @@
+-- What a cache takes of a frame.
+-- Serves `take_frame`.
+use Rattle.std.specs.Prelude.{◌≡◌, ℕ, ◌<◌, ◌++◌, length, take, slice_get, Some}
+use Rattle.fleet_name.specs.Types.{OctetList}
+use Rattle.fleet_observe.specs.Members.{Has}
+use Rattle.fleet_observe.specs.Observation.{ObservationData, Observations}
+use Rattle.fleet_cache.specs.Cached.{CacheData, IsCached}
+use Rattle.fleet_gossip.specs.Frame.{SpellsFrame}
+use Rattle.fleet_gossip.specs.Faults.{FrameFails}
+use Rattle.fleet_gossip.specs.declared.fault.FrameFault.{FrameFault}
+use Rattle.fleet_gossip.specs.declared.take.TakeFault.{TakeFault}
+use Rattle.fleet_gossip.specs.declared.take.TakeFault.TheVariants.{Refused, OutOfMemory}
+
+-- the cache took these observations in
+abbrev pub Takes : CacheData → CacheData → Observations → Type 0
+Takes before after list = (s : Observations) → IsCached s before.floor before.items
+    → IsCached (list ++ s) after.floor after.items
+
+-- the octets are the frame of a list of `count` observations, and the cache took them all in
+pub record TakesFrame (octets : OctetList) (before after : CacheData) (count : ℕ) : Type 0 where
+  pub list : Observations
+  pub spelled : SpellsFrame octets list
+  pub counted : count ≡ length list
+  pub cached : Takes before after list
+
+-- the octets are the frame of a list, and the cache took its first `taken` observations in; it
+-- doesn't hold the next one
+pub record TakesFirst (octets : OctetList) (before after : CacheData) (taken : ℕ) : Type 0 where
+  pub list : Observations
+  pub spelled : SpellsFrame octets list
+  pub within : taken < length list
+  pub cached : Takes before after (take taken list)
+  pub unheld : (o : ObservationData) → slice_get list taken ≡ Some o → ¬ Has after.items o
+
+-- the octets are no frame, for this fault, and the cache is as it was
+pub record RefusesFrame (octets : OctetList) (before after : CacheData) (f : FrameFault) : Type 0
+  where
+    pub fault : FrameFails octets f
+    pub unspelled : (list : Observations) → ¬ SpellsFrame octets list
+    pub same : after ≡ before
+
+-- why a frame was not taken whole
+abbrev pub StopsAt : OctetList → CacheData → CacheData → TakeFault → Type 0
+StopsAt octets before after (Refused f) = RefusesFrame octets before after f
+StopsAt octets before after (OutOfMemory taken) = TakesFirst octets before after taken

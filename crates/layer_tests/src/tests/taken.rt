@@ -1,0 +1,114 @@
+//! Frames that are taken into a cache, where there is memory and where none is left, and
+//! observations that are lent.
+
+use crate::tests::frames::{DENIED, ONE, TWO};
+use crate::tests::observations::moment_of;
+use crate::tests::rows::octets_of;
+use fleet_cache::Cache;
+use fleet_gossip::{FrameFault, TakeFault, decode, take_frame};
+use fleet_observe::{LentObservation, Observation};
+use linked_list_allocator::LocalHeap;
+use std::alloc::{AllocError, Global};
+use std::process::Abort;
+
+/// Takes the frame of a word.
+fn take<'a>(
+    rt: &impl Abort,
+    global: Global,
+    heap: &'a LocalHeap,
+    cache: &mut Cache<&'a LocalHeap>,
+    word: &str,
+) -> Result<usize, TakeFault> {
+    let octets = octets_of(rt, global, word);
+    take_frame(heap, cache, octets.as_slice())
+}
+
+/// All that is left of a heap.
+fn rest_of<'a>(
+    rt: &impl Abort,
+    global: Global,
+    heap: &'a LocalHeap,
+) -> Vec<Vec<u8, &'a LocalHeap>> {
+    let mut all = Vec::new(global);
+    for size in [4096, 256, 16, 1] {
+        for _ in 0..64u8 {
+            let part: Result<Vec<u8, &LocalHeap>, AllocError> = Vec::with_capacity(heap, size);
+            if let Ok(part) = part {
+                all.push(part).expect(rt, "memory");
+            }
+        }
+    }
+    all
+}
+
+/// What is held is taken again where nothing is left of the heap, and what is not held is not.
+fn check_full<'a>(
+    rt: &impl Abort,
+    global: Global,
+    heap: &'a LocalHeap,
+    cache: &mut Cache<&'a LocalHeap>,
+) {
+    let rest = rest_of(rt, global, heap);
+    assert!(rt; !rest.is_empty());
+    assert_eq!(rt; take(rt, global, heap, cache, DENIED), Ok(2));
+    assert_eq!(rt;
+        take(rt, global, heap, cache, TWO),
+        Err(TakeFault::OutOfMemory { taken: 1 })
+    );
+    assert_eq!(rt; cache.len(), 2);
+}
+
+/// The same, of a cache over this heap. The second entry of `TWO` then dominates the first one.
+fn check_heap(rt: &impl Abort, global: Global, heap: &LocalHeap) {
+    let mut cache = Cache::new(heap);
+    assert_eq!(rt; take(rt, global, heap, &mut cache, DENIED), Ok(2));
+    check_full(rt, global, heap, &mut cache);
+    assert_eq!(rt;
+        take(rt, global, heap, &mut cache, "@0001"),
+        Err(TakeFault::Refused(FrameFault::Truncated))
+    );
+    assert_eq!(rt; take(rt, global, heap, &mut cache, "@0000"), Ok(0));
+    assert_eq!(rt; take(rt, global, heap, &mut cache, TWO), Ok(2));
+    assert_eq!(rt; cache.len(), 2);
+    assert_eq!(rt; take(rt, global, heap, &mut cache, ONE), Ok(1));
+    assert_eq!(rt; cache.len(), 2);
+}
+
+#[test]
+fn what_is_held_is_taken_without_memory(rt: HostRuntime) {
+    let heap = LocalHeap::new(rt.alloc(), 1 << 14).expect(&rt, "memory");
+    check_heap(&rt, rt.alloc(), &heap)
+}
+
+/// Whether an observation is what it lends, and a cache of it alone holds this; and that neither is so
+/// where one value is another.
+fn check_lent(rt: &impl Abort, alloc: Global, observation: &Observation) {
+    let body = observation.write_body(alloc).expect(rt, "memory");
+    let mut cache = Cache::new(alloc);
+    cache
+        .take(observation.try_clone().expect(rt, "memory"))
+        .expect(rt, "memory");
+    let lent = LentObservation {
+        kind: observation.kind(),
+        name: observation.name().octets(),
+        rtype: observation.rtype(),
+        rank: observation.rank(),
+        stamp: observation.stamp(),
+        life: observation.life(),
+        body: body.as_slice(),
+    };
+    let other = LentObservation {
+        stamp: moment_of(rt, "101"),
+        ..lent
+    };
+    assert!(rt; observation.equals(&lent) && cache.holds(&lent));
+    assert!(rt; !observation.equals(&other) && !cache.holds(&other));
+}
+
+#[test]
+fn what_is_lent_is_compared_in_place(rt: HostRuntime) {
+    let frame = octets_of(&rt, rt.alloc(), DENIED);
+    for observation in &decode(rt.alloc(), frame.as_slice()).expect(&rt, "a frame") {
+        check_lent(&rt, rt.alloc(), observation);
+    }
+}
