@@ -9,3 +9,4 @@ pub mod Keyed
 pub mod Reclaimed
 pub mod CutAt
 pub mod Merged
+pub mod Soonest

@@ -14,9 +14,9 @@ ghost use Rattle.fleet_cache.specs.steps.Slots.{concat};
 use crate::cut::Cut;
 use crate::item::Item;
 use crate::short::{Short, drop_hidden as drop_hidden_short, store as store_short};
+use crate::slot::Slot;
 use crate::store::{Key, Long, covers_in, drop_hidden, store};
 use crate::words::{ShortKey, pack, short_key};
-use fleet_front::Front;
 use fleet_observe::Observation;
 use std::alloc::{AllocError, Allocator};
 use std::collections::BTreeMap;
@@ -62,7 +62,7 @@ impl<A: Allocator> Fronts<A> {
     }
 
     /// The front of a name, by its octets.
-    pub(crate) fn at(&self, name: &[u8]) -> Option<&Front<Item<A>, A>>
+    pub(crate) fn at(&self, name: &[u8]) -> Option<&Slot<A>>
         requires { IsWire name.now }
         ensures found { MatchOption result (HasNoKey self.now (octet_words name.now))
             (λ f. IsOfKey self.now (octet_words name.now) f.now) }
@@ -76,7 +76,7 @@ impl<A: Allocator> Fronts<A> {
     }
 
     /// The front of a name, by the words of its key.
-    pub(crate) fn front(&self, words: &[u64]) -> Option<&Front<Item<A>, A>>
+    pub(crate) fn front(&self, words: &[u64]) -> Option<&Slot<A>>
         ensures { MatchOption result (HasNoKey self.now words.now)
             (λ f. IsOfKey self.now words.now f.now) }
     {
@@ -155,7 +155,7 @@ impl<A: Allocator> Fronts<A> {
 
     /// The fronts of short names behind the key with these words, each with its own key, one after
     /// another; all of them where no short name has so many words.
-    pub(crate) fn short_behind(&self, words: &[u64]) -> Range<'_, ShortKey, Front<Item<A>, A>> {
+    pub(crate) fn short_behind(&self, words: &[u64]) -> Range<'_, ShortKey, Slot<A>> {
         let Some(key) = ShortKey::of_words(words) else {
             return self.short.range(..);
         };
@@ -163,7 +163,7 @@ impl<A: Allocator> Fronts<A> {
     }
 
     /// The fronts of other names behind this key, each with its own key, one after another.
-    pub(crate) fn long_behind(&self, key: &Key<A>) -> Range<'_, Key<A>, Front<Item<A>, A>> {
+    pub(crate) fn long_behind(&self, key: &Key<A>) -> Range<'_, Key<A>, Slot<A>> {
         self.long.range((Bound::Excluded(key), Bound::Unbounded))
     }
 }
@@ -172,7 +172,7 @@ impl<A: Allocator> Fronts<A> {
 #[derive(Drop)]
 pub(crate) struct Both<'a, A: Allocator> {
     /// Of short names.
-    pub short: Values<'a, ShortKey, Front<Item<A>, A>>,
+    pub short: Values<'a, ShortKey, Slot<A>>,
     /// Of the others.
-    pub long: Values<'a, Key<A>, Front<Item<A>, A>>,
+    pub long: Values<'a, Key<A>, Slot<A>>,
 }

@@ -5,6 +5,7 @@ ghost use Rattle.fleet_name.specs.Types.{Labels};
 ghost use Rattle.fleet_name.specs.Name.{wire, IsWire};
 ghost use Rattle.fleet_observe.specs.declared.observation.kind.Kind.{Kind};
 ghost use Rattle.fleet_observe.specs.declared.observation.kind.Kind.TheVariants.{NameError, Flush};
+ghost use Rattle.fleet_cache.specs.declared.noted.TheConstants.{LENGTHS};
 ghost use Rattle.fleet_cache.specs.Cached.{IsCovered};
 ghost use Rattle.fleet_cache.specs.steps.Held.{IsHeld, IsTaken};
 ghost use Rattle.fleet_cache.specs.steps.Keyed.{HasNoKey, IsOfKey, IsOfName};
@@ -17,9 +18,9 @@ use crate::cut::Cut;
 use crate::fronts::{Both, Fronts};
 use crate::item::Item;
 use crate::noted::Noted;
+use crate::slot::Slot;
 use crate::store::Key;
 use crate::words::ShortKey;
-use fleet_front::Front;
 use fleet_observe::{Kind, Observation};
 use std::alloc::{AllocError, Allocator};
 use std::collections::btree_map::Range;
@@ -108,7 +109,7 @@ impl<A: Allocator> Held<A> {
     }
 
     /// The front of a name, by the words of its key.
-    pub(crate) fn front(&self, words: &[u64]) -> Option<&Front<Item<A>, A>>
+    pub(crate) fn front(&self, words: &[u64]) -> Option<&Slot<A>>
         ensures found { MatchOption result (HasNoKey self.now words.now)
             (λ f. IsOfKey self.now words.now f.now) }
         ensures own { IsHeld self.now }
@@ -157,12 +158,12 @@ impl<A: Allocator> Held<A> {
 
     /// The fronts of short names behind the key with these words, each with its own key, one after
     /// another; all of them where no short name has so many words.
-    pub(crate) fn short_behind(&self, words: &[u64]) -> Range<'_, ShortKey, Front<Item<A>, A>> {
+    pub(crate) fn short_behind(&self, words: &[u64]) -> Range<'_, ShortKey, Slot<A>> {
         self.fronts.short_behind(words)
     }
 
     /// The fronts of other names behind this key, each with its own key, one after another.
-    pub(crate) fn long_behind(&self, key: &Key<A>) -> Range<'_, Key<A>, Front<Item<A>, A>> {
+    pub(crate) fn long_behind(&self, key: &Key<A>) -> Range<'_, Key<A>, Slot<A>> {
         self.fronts.long_behind(key)
     }
 
@@ -188,6 +189,13 @@ impl<A: Allocator> Held<A> {
         ensures own { IsHeld self.now }
     {
         self.flushed.has_length_of(name)
+    }
+
+    /// Whether a flush may be held of any name.
+    pub(crate) fn may_flush_any(&self) -> bool
+        ensures { result ≡ false → HasNoneShorter Flush LENGTHS self.now }
+    {
+        self.flushed.has_any()
     }
 
     /// Whether a name error may be held of a name of fewer octets.

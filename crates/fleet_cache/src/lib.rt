@@ -20,6 +20,7 @@ mod noted;
 mod reclaim;
 mod short;
 mod shown;
+mod slot;
 mod store;
 mod words;
 

@@ -4,6 +4,7 @@ ghost use Rattle.std.specs.Prelude.{◌≡◌, ◌≤◌, ◌<◌, false, [], �
 ghost use Rattle.fleet_name.specs.declared.bounds.TheConstants.{LONGEST_NAME};
 ghost use Rattle.fleet_observe.specs.Observation.{IsObservation, Observations};
 ghost use Rattle.fleet_observe.specs.declared.observation.kind.Kind.{Kind};
+ghost use Rattle.fleet_cache.specs.declared.noted.TheConstants.{LENGTHS};
 ghost use Rattle.fleet_cache.specs.steps.Noted.{AreNoted};
 
 use fleet_name::bounds::LONGEST_NAME;
@@ -63,6 +64,13 @@ impl Noted {
         ensures { result ≡ get_or self.now.lengths (length name.now) false }
     {
         self.lengths[name.len()]
+    }
+
+    /// Whether any observation was noted.
+    pub(crate) fn has_any(&self) -> bool
+        ensures { result ≡ nat_lt self.now.least LENGTHS }
+    {
+        self.least < LENGTHS
     }
 
     /// Whether an observation of a name with fewer octets than this one was noted.

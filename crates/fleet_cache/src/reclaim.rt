@@ -8,9 +8,9 @@ ghost use Rattle.fleet_cache.specs.steps.Reclaimed.{IsReclaimed, AllLive};
 use crate::held::Held;
 use crate::item::Item;
 use crate::lookup::cut_at;
+use crate::slot::Slot;
 use crate::store::Key;
 use crate::words::{MOST_WORDS, SHORT_WORDS};
-use fleet_front::Front;
 use fleet_observe::{Moment, Observation};
 use std::alloc::{AllocError, Allocator};
 
@@ -89,8 +89,15 @@ impl<A: Allocator> Cursor<A> {
     }
 }
 
-/// Whether a front holds anything that is not live at the moment.
-fn is_stale<A: Allocator>(held: &Held<A>, front: &Front<Item<A>, A>, moment: Moment) -> bool {
+/// Whether a front holds anything that is not live at the moment. Where none of it has ended and no
+/// flush was noted, none of its items is looked at.
+fn is_stale<A: Allocator>(held: &Held<A>, front: &Slot<A>, moment: Moment) -> bool {
+    if front.soonest() <= moment.value() {
+        return true;
+    }
+    if !held.may_flush_any() {
+        return false;
+    }
     let Some(first) = front.items().first() else {
         return false;
     };

@@ -8,15 +8,15 @@ ghost use Rattle.fleet_cache.specs.steps.Reclaimed.{IsTrimmed, IsCleared};
 
 use crate::cut::Cut;
 use crate::item::Item;
+use crate::slot::Slot;
 use crate::store::front_of;
 use crate::words::ShortKey;
-use fleet_front::Front;
 use fleet_observe::Observation;
 use std::alloc::{AllocError, Allocator};
 use std::collections::BTreeMap;
 
 /// The fronts of short names.
-pub(crate) type Short<A> = BTreeMap<ShortKey, Front<Item<A>, A>, A>;
+pub(crate) type Short<A> = BTreeMap<ShortKey, Slot<A>, A>;
 
 /// Takes an observation into the front of its name, which has this key. `false` where it is there or
 /// dominated. `Err` where an allocation fails; nothing changes.

@@ -13,9 +13,9 @@ ghost use Rattle.fleet_cache.specs.steps.Reclaimed.{IsTrimmed, IsCleared};
 
 use crate::cut::Cut;
 use crate::item::Item;
+use crate::slot::Slot;
 use crate::words::{MOST_WORDS, pack};
 use arrayvec::ArrayVec;
-use fleet_front::Front;
 use fleet_observe::Observation;
 use std::alloc::{AllocError, Allocator};
 use std::collections::BTreeMap;
@@ -24,7 +24,7 @@ use std::collections::BTreeMap;
 pub(crate) type Key<A> = Vec<u64, A>;
 
 /// The fronts of names that are not short.
-pub(crate) type Long<A> = BTreeMap<Key<A>, Front<Item<A>, A>, A>;
+pub(crate) type Long<A> = BTreeMap<Key<A>, Slot<A>, A>;
 
 /// The words of the key of an observation's name, on the stack.
 fn words_of_observation<A: Allocator>(observation: &Observation<A>) -> ArrayVec<u64, MOST_WORDS>
@@ -87,11 +87,11 @@ pub(crate) fn drop_hidden<A: Allocator>(fronts: &mut Long<A>, words: &[u64], cut
 pub(crate) fn front_of<A: Allocator>(
     alloc: A,
     observation: Observation<A>,
-) -> Result<Front<Item<A>, A>, AllocError>
+) -> Result<Slot<A>, AllocError>
     ensures front { IfOk result (IsFront row dominates (observation ∷ [])) }
     ensures size { IfOk result (λ front. length front ≤ 1) }
 {
-    let mut front = Front::new(alloc);
+    let mut front = Slot::new(alloc);
     front.take(Item::new(observation))?;
     Ok(front)
 }
