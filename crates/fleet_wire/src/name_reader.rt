@@ -1,9 +1,10 @@
 //! Reading a name (RFC 1035 3.1, 4.1.4).
 
 ghost use Rattle.std.specs.Prelude.{◌≡◌, ℕ, ◌+◌, ◌-◌, ◌<◌, ◌≤◌, ◌++◌, length, slice_index, IfOk, IfErr, MatchResult};
+ghost use Rattle.fleet_name.specs.Types.{Labels};
 ghost use Rattle.fleet_name.specs.Name.{label_octets, lower_all, labels_of, IsSpelling};
 ghost use Rattle.fleet_name.specs.declared.bounds.TheConstants.{LONGEST_LABEL, LONGEST_NAME};
-ghost use Rattle.fleet_wire.specs.NameAt.{NameAt};
+ghost use Rattle.fleet_wire.specs.NameAt.{NameAt, ReadsName};
 ghost use Rattle.fleet_wire.specs.Fault.{FaultAt, NameFails};
 ghost use Rattle.fleet_wire.specs.steps.Step.{IsStep};
 
@@ -130,6 +131,32 @@ pub(crate) fn spelling_at(message: &[u8], offset: usize) -> Result<Spelled, Read
             }
             Step::Pointer(target) => {
                 end = Some(end.unwrap_or(at + 2));
+                at = target;
+                start = target;
+            }
+        }
+    }
+}
+
+/// Where the name at a place of a message ends, its pointers followed. What it spells is read and not
+/// kept.
+pub(crate) fn name_end(message: &[u8], offset: usize) -> Result<usize, ReadFault>
+    ensures found { IfOk result (λ e. (n : Labels) × ReadsName message.now offset n e) }
+    ensures fault { IfErr result (λ f. NameFails message.now offset f) }
+{
+    let mut used = 1;
+    let mut at = offset;
+    let mut start = offset;
+    let mut past = None;
+    loop {
+        match step_at(message, at, start, used)? {
+            Step::End => return Ok(past.unwrap_or(at + 1)),
+            Step::Label(label) => {
+                used += 1 + label.len();
+                at += 1 + label.len();
+            }
+            Step::Pointer(target) => {
+                past = Some(past.unwrap_or(at + 2));
                 at = target;
                 start = target;
             }

@@ -6,9 +6,9 @@ ghost use Rattle.fleet_wire.specs.Record.{RecordData, spelled_record_data, Recor
 ghost use Rattle.fleet_wire.specs.declared.bounds.TheConstants.{LONGEST_MESSAGE};
 
 use crate::fault::ReadFault;
-use crate::name_reader::{Spelled, name_of, spelling_at};
+use crate::name_reader::{Spelled, name_end, name_of, spelling_at};
 use crate::number::{read_u16, read_u32};
-use crate::shape::{Rdata, rdata_at};
+use crate::shape::{Rdata, rdata_at, rdata_passes};
 use fleet_name::{Name, Octets};
 use std::alloc::{AllocError, Allocator, Global};
 use std::marker::Model;
@@ -84,6 +84,25 @@ fn record_at(message: &[u8], offset: usize) -> Result<SpelledRecord, ReadFault>
     })
 }
 
+/// Where the record at a place of a message ends. What it says is read and not kept.
+fn record_end(message: &[u8], offset: usize) -> Result<usize, ReadFault>
+    requires short { length message.now ≤ LONGEST_MESSAGE }
+    ensures found { IfOk result (λ e. (r : RecordData) × RecordAt message.now offset r e) }
+    ensures fault { IfErr result (λ f. RecordFails message.now offset f) }
+{
+    let past = name_end(message, offset)?;
+    let begin = past + 10;
+    if message.len() < begin {
+        return Err(ReadFault::Truncated);
+    }
+    let count = read_u16(message, past + 8) as usize;
+    if message.len() < begin + count {
+        return Err(ReadFault::Truncated);
+    }
+    rdata_passes(message, begin, count, read_u16(message, past))?;
+    Ok(begin + count)
+}
+
 /// Where `count` records in a row end that begin at a place of a message.
 pub(crate) fn records_end(message: &[u8], offset: usize, count: u16) -> Result<usize, ReadFault>
     requires short { length message.now ≤ LONGEST_MESSAGE }
@@ -93,7 +112,7 @@ pub(crate) fn records_end(message: &[u8], offset: usize, count: u16) -> Result<u
 {
     let mut at = offset;
     for _ in 0..count {
-        at = record_at(message, at)?.end;
+        at = record_end(message, at)?;
     }
     Ok(at)
 }

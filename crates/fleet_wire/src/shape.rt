@@ -1,7 +1,7 @@
 //! What RDATA holds (RFC 1035 3.3, RFC 2782).
 
 ghost use Rattle.std.specs.Prelude.{◌≡◌, ◌+◌, ◌<◌, ◌≤◌, ◌++◌, length, take, drop, Some, None, IfOk, IfErr, IfSome, MatchOption, MatchResult};
-ghost use Rattle.fleet_name.specs.Types.{Labels};
+ghost use Rattle.fleet_name.specs.Types.{Labels, OctetList};
 ghost use Rattle.fleet_name.specs.Name.{lower, wire};
 ghost use Rattle.fleet_name.specs.declared.bounds.TheConstants.{LONGEST_NAME};
 ghost use Rattle.fleet_wire.specs.NameAt.{ReadsName};
@@ -11,7 +11,7 @@ ghost use Rattle.fleet_wire.specs.declared.fault.ReadFault.TheVariants.{Truncate
 ghost use Rattle.fleet_wire.specs.declared.bounds.TheConstants.{LONGEST_MESSAGE};
 
 use crate::fault::ReadFault;
-use crate::name_reader::spelling_at;
+use crate::name_reader::{name_end, spelling_at};
 use crate::rtype::{CNAME, MB, MD, MF, MG, MINFO, MR, MX, NS, PTR, SOA, SRV};
 use arrayvec::ArrayVec;
 use fleet_name::bounds::LONGEST_NAME;
@@ -136,4 +136,49 @@ pub(crate) fn rdata_at(
         return Err(ReadFault::BadRdata);
     }
     Ok(octets)
+}
+
+/// Where the parts at a place end. What they hold is read and not kept.
+fn parts_end(message: &[u8], parts: &[Part], offset: usize) -> Result<usize, ReadFault>
+    requires within { offset ≤ length message.now }
+    ensures found { IfOk result (λ e.
+        (octets : OctetList) × PartsAt message.now parts.now offset octets e) }
+    ensures fault { IfErr result (λ f. PartsFail message.now parts.now offset f) }
+{
+    let mut at = offset;
+    for part in parts {
+        match part {
+            Part::Plain(count) => {
+                if message.len() - at < *count {
+                    return Err(ReadFault::Truncated);
+                }
+                at += *count;
+            }
+            Part::Name => at = name_end(message, at)?,
+        }
+    }
+    Ok(at)
+}
+
+/// That RDATA of a type, `count` octets at a place, has no fault: those that `rdata_at` finds, the
+/// same first.
+pub(crate) fn rdata_passes(
+    message: &[u8],
+    at: usize,
+    count: usize,
+    rtype: u16,
+) -> Result<(), ReadFault>
+    requires within { at + count ≤ length message.now }
+    requires short { length message.now ≤ LONGEST_MESSAGE }
+    ensures found { IfOk result (λ _.
+        (octets : OctetList) × ShapeAt message.now at count (shape_of rtype) octets) }
+    ensures fault { IfErr result (λ f. ShapeFails message.now at count (shape_of rtype) f) }
+{
+    let Some(parts) = parts_of(rtype) else {
+        return Ok(());
+    };
+    if parts_end(message, parts, at)? != at + count {
+        return Err(ReadFault::BadRdata);
+    }
+    Ok(())
 }

@@ -1,6 +1,5 @@
 use Rattle.std.proofs.Common.{◌++◌, ◌∷◌, [], refl, arith, length-append}
 use Rattle.std.proofs.lemmas.Result.{err_from_is_err_and}
-use Rattle.fleet_wire.specs.Record.{spelled_record_data}
 use Rattle.fleet_wire.proofs.Records.{records_more}
 use Rattle.fleet_wire.proofs.record.records_end.Goals as goal
 
@@ -16,9 +15,9 @@ returns-in_err-at-clause-fault c =
 
 pub loop-preserved : goal.loop-preserved
 loop-preserved c =
-    let i = c.loop.invariant in let one = spelled_record_data c.in_ok-at.field-0 in
+    let i = c.loop.invariant in let one = c.in_ok-at.ensures.found in
     record {
-      before = i.before ++ one ∷ [];
-      found = records_more _ _ _ _ i.before one i.found c.in_ok-at.ensures.found;
-      counted = rw (length-append i.before (one ∷ [])) (omega (arith, i.counted));
+      before = i.before ++ one.0 ∷ [];
+      found = records_more _ _ _ _ i.before one.0 i.found one.1;
+      counted = rw (length-append i.before (one.0 ∷ [])) (omega (arith, i.counted));
     }
