@@ -44,7 +44,7 @@ behind_head version octets rest f head is h =
 module _ (version : ℕ) (octets named part typed : List ℕ) (head : Head)
     (is : IsHead version octets head named)
     (at : IsPart IsWire named part typed) where
-  name_lies : named ≡ wire at.lawful.name ++ typed
+  pub name_lies : named ≡ wire at.lawful.name ++ typed
   name_lies = at.whole ∙ ap (λ (x : List ℕ). x ++ typed) at.lawful.whole
 
   pub type_fails : (f : FrameFault) → TypeFails head.kind at.lawful.name typed f

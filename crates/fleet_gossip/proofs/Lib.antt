@@ -9,6 +9,7 @@ pub mod Bodies
 pub mod Entries
 pub mod Frames
 pub mod Heads
+pub mod Passing
 pub mod BodySteps
 pub mod Packing
 pub mod NameSteps

@@ -14,6 +14,7 @@ mod entry;
 mod fault;
 mod frame;
 mod head;
+mod known;
 mod laws;
 mod name;
 mod packer;

@@ -9,9 +9,10 @@ ghost use Rattle.fleet_gossip.specs.steps.EntryOf.{IsEntryOf};
 ghost use Rattle.fleet_gossip.specs.steps.Reading.{AreEntryOctets};
 ghost use Rattle.fleet_gossip.specs.steps.Taking.{TakesEntries, TakesFirstEntries};
 
-use crate::entry::{FrameEntry, read_entry};
+use crate::entry::FrameEntry;
 use crate::fault::FrameFault;
 use crate::frame::{Entries, read_frame};
+use crate::known::read_known_entry;
 use crate::reader::Reader;
 use fleet_cache::{Cache, Stopped};
 use std::alloc::{AllocError, Allocator};
@@ -72,9 +73,7 @@ fn take_entries<A: Allocator + Copy>(
 {
     let mut reader = Reader::new(entries.octets);
     for taken in 0..entries.count {
-        let Ok(entry) = read_entry(&mut reader, entries.version) else {
-            unreachable!()
-        };
+        let entry = read_known_entry(&mut reader, entries.version);
         if take_entry(alloc, cache, &entry).is_err() {
             return Err(Stopped {
                 taken: usize::from(taken),

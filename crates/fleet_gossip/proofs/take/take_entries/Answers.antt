@@ -6,7 +6,8 @@ use Rattle.fleet_cache.specs.Cached.{CacheData}
 use Rattle.fleet_cache.proofs.Lemmas.{HasTaken, taken_none, taken_more, at_ok, at_err}
 use Rattle.fleet_gossip.specs.Entry.{AreIn}
 use Rattle.fleet_gossip.specs.Frame.{entries}
-use Rattle.fleet_gossip.proofs.FrameSteps.{next_fails, next_of, next_lawful}
+use Rattle.fleet_gossip.proofs.FrameSteps.{next_of, next_lawful}
+use Rattle.fleet_gossip.proofs.Passing.{next_there}
 use Rattle.fleet_gossip.proofs.Taking.{one_over, takes_all, takes_first}
 use Rattle.fleet_gossip.proofs.take.take_entries.Goals as goal
 
@@ -23,19 +24,18 @@ loop-taken-init g c = record {
   held = taken_none c.args.cache.now;
 }
 
-pub unreachable-requires : goal.unreachable-requires
-unreachable-requires g c =
+pub read_known_entry-entry-requires : goal.read_known_entry-entry-requires
+read_known_entry-entry-requires g c =
     let i = c.loop-taken.invariant in
-    next_fails _ i.left _ _ i.lawful_left i.whole (omega (arith, i.all, c.loop-taken-test.true))
-    c.in_default.ensures
+    next_there _ i.left _ i.lawful_left i.whole (omega (arith, i.all, c.loop-taken-test.true))
 
 pub take_entry-requires : goal.take_entry-requires
-take_entry-requires g c = (c.in-Ok.ensures.0, c.in-Ok.ensures.1)
+take_entry-requires g c = (c.read_known_entry-entry.ensures.0, c.read_known_entry-entry.ensures.1)
 
 pub returns-then-is_err-clause-taken : goal.returns-then-is_err-clause-taken
 returns-then-is_err-clause-taken g c =
     let i = c.loop-taken.invariant in
-    let read = c.in-Ok.ensures in
+    let read = c.read_known_entry-entry.ensures in
     let next = next_of _ i.left _ read.0 _ i.lawful_left i.whole
     (omega (arith, i.all, c.loop-taken-test.true)) read.1.lawful read.3 in
     let same : c.take_entry.new.cache ≡ c.loop-taken.cache =
@@ -53,7 +53,7 @@ returns-then-is_err-clause-taken g c =
 pub loop-taken-preserved : goal.loop-taken-preserved
 loop-taken-preserved g c =
     let i = c.loop-taken.invariant in
-    let read = c.in-Ok.ensures in
+    let read = c.read_known_entry-entry.ensures in
     let next = next_of _ i.left _ read.0 _ i.lawful_left i.whole
     (omega (arith, i.all, c.loop-taken-test.true)) read.1.lawful read.3 in
     let over = one_over i.done i.left next.others read.0 next.left_is in
