@@ -1,6 +1,6 @@
 -- Names in full and in lower case, among octets.
-use Rattle.std.proofs.Common.{◌≡◌, ℕ, ◌+◌, ◌≤◌, List, [], ◌∷◌, ◌++◌, length, take, drop, refl, sym, ap, ◌∙◌, subst, arith, append_assoc, length-append, drop-cons, add-one}
-use Rattle.std.proofs.Math.Seq.{drop-append_seam}
+use Rattle.std.proofs.Common.{◌≡◌, ℕ, ◌+◌, ◌-◌, ◌≤◌, List, [], ◌∷◌, ◌++◌, length, take, drop, refl, sym, ap, ◌∙◌, subst, arith, append_assoc, length-append, drop-cons, add-one}
+use Rattle.std.proofs.Math.Seq.{drop-append_seam, take-append_seam}
 use Rattle.std.proofs.lemmas.List.{append-nil, take-append-drop, length-take-le, drop-drop}
 use Rattle.std.proofs.lemmas.Grind.{flat_map-append}
 use Rattle.std.specs.List.{flat_map, AllByRecursion}
@@ -47,6 +47,48 @@ lies_label m p s label t e at (goes_on l rest at' r is) =
     )
 lies_label m p s label t e at (points q past at' lt r is) = absurd (omega (arith, at, at'))
 
+-- One more label in a row behind others, and the zero octet behind them.
+module _ (m front : List ℕ) (at : ℕ) (before : List (List ℕ))
+    (whole : front ≡ flat_map label_octets before ++ drop at m) where
+  pub behind_zero : EndAt m at → front ≡ wire before ++ drop (at + 1) m
+  behind_zero ended =
+      let rest : drop at m ≡ 0 ∷ drop (at + 1) m =
+      rw (add-one, drop-cons m at 0 ended.begins, ended.zero_octet) refl in
+      whole ∙ (ap (λ (x : List ℕ). flat_map label_octets before ++ x) rest
+      ∙ sym (append_assoc (flat_map label_octets before) (0 ∷ []) (drop (at + 1) m)))
+
+  pub behind_label : (label : List ℕ) → LabelAt m at label
+      → front ≡ flat_map label_octets (before ++ label ∷ []) ++ drop (at + (1 + length label)) m
+  behind_label label found =
+      let rest : drop at m ≡ length label ∷ drop (at + 1) m =
+      rw (add-one, drop-cons m at 0 found.begins, found.counted) refl in
+      let sum : at + 1 + length label ≡ at + (1 + length label) = omega arith in
+      let back : drop (length label) (drop (at + 1) m) ≡ drop (at + (1 + length label)) m =
+      rw (drop-drop, sum) refl in
+      let inner : drop (at + 1) m ≡ label ++ drop (at + (1 + length label)) m =
+      sym (take-append-drop (length label) (drop (at + 1) m))
+      ∙ (ap (λ (x : List ℕ). x ++ drop (length label) (drop (at + 1) m)) (sym found.octets)
+      ∙ ap (λ (x : List ℕ). label ++ x) back) in
+      let frames : flat_map label_octets (before ++ label ∷ [])
+      ≡ flat_map label_octets before ++ label_octets label =
+      rw (flat_map-append, append-nil) refl in
+      whole ∙ (ap (λ (x : List ℕ). flat_map label_octets before ++ x)
+      (rest ∙ ap (λ (x : List ℕ). length label ∷ x) inner)
+      ∙ (sym (append_assoc (flat_map label_octets before) (label_octets label)
+      (drop (at + (1 + length label)) m))
+      ∙ ap (λ (x : List ℕ). x ++ drop (at + (1 + length label)) m) (sym frames)))
+
+  -- the octets from s on, up to the zero octet
+  pub up_to_zero : (s : ℕ) → front ≡ drop s m → at ≡ s + length (flat_map label_octets before)
+      → EndAt m at → take (at + 1 - s) (drop s m) ≡ flat_map label_octets before ++ 0 ∷ []
+  up_to_zero s is size ended =
+      let named = flat_map label_octets before ++ 0 ∷ [] in
+      let count : at + 1 - s ≡ length named =
+      omega (arith, size, length-append (flat_map label_octets before) (0 ∷ [])) in
+      ap (λ (k : ℕ). take k (drop s m)) count
+      ∙ (ap (λ (x : List ℕ). take (length named) x) (sym is ∙ behind_zero ended)
+      ∙ take-append_seam named (drop (at + 1) m))
+
 -- The labels read so far, and what any name at the front goes on with.
 module _ (m : List ℕ) (at : ℕ) (before : List (List ℕ))
     (whole : m ≡ flat_map label_octets before ++ drop at m)
@@ -58,11 +100,7 @@ module _ (m : List ℕ) (at : ℕ) (before : List (List ℕ))
   room = omega (arith, named.fits, length-append (flat_map label_octets before) (0 ∷ []), size)
 
   pub name_ends : EndAt m at → m ≡ wire before ++ drop (at + 1) m
-  name_ends ended =
-      let rest : drop at m ≡ 0 ∷ drop (at + 1) m =
-      rw (add-one, drop-cons m at 0 ended.begins, ended.zero_octet) refl in
-      whole ∙ (ap (λ (x : List ℕ). flat_map label_octets before ++ x) rest
-      ∙ sym (append_assoc (flat_map label_octets before) (0 ∷ []) (drop (at + 1) m)))
+  name_ends = behind_zero m m at before whole
 
   pub no_name : (f : ReadFault) → FaultAt m at 0 (at + 1) f → (n : List (List ℕ)) (others : List ℕ)
       → IsName n → m ≡ wire n ++ others → ⊥
@@ -91,24 +129,7 @@ module _ (m : List ℕ) (at : ℕ) (before : List (List ℕ))
     module _ (low : lower label ≡ label) (fits : at + 1 + length label + 1 ≤ LONGEST_NAME) where
       pub more_whole : m
           ≡ flat_map label_octets (before ++ label ∷ []) ++ drop (at + (1 + length label)) m
-      more_whole =
-          let rest : drop at m ≡ length label ∷ drop (at + 1) m =
-          rw (add-one, drop-cons m at 0 found.begins, found.counted) refl in
-          let sum : at + 1 + length label ≡ at + (1 + length label) = omega arith in
-          let back : drop (length label) (drop (at + 1) m) ≡ drop (at + (1 + length label)) m =
-          rw (drop-drop, sum) refl in
-          let inner : drop (at + 1) m ≡ label ++ drop (at + (1 + length label)) m =
-          sym (take-append-drop (length label) (drop (at + 1) m))
-          ∙ (ap (λ (x : List ℕ). x ++ drop (length label) (drop (at + 1) m)) (sym found.octets)
-          ∙ ap (λ (x : List ℕ). label ++ x) back) in
-          let frames : flat_map label_octets (before ++ label ∷ [])
-          ≡ flat_map label_octets before ++ label_octets label =
-          rw (flat_map-append, append-nil) refl in
-          whole ∙ (ap (λ (x : List ℕ). flat_map label_octets before ++ x)
-          (rest ∙ ap (λ (x : List ℕ). length label ∷ x) inner)
-          ∙ (sym (append_assoc (flat_map label_octets before) (label_octets label)
-          (drop (at + (1 + length label)) m))
-          ∙ ap (λ (x : List ℕ). x ++ drop (at + (1 + length label)) m) (sym frames)))
+      more_whole = behind_label m m at before whole label found
 
       pub more_size : at + (1 + length label)
           ≡ length (flat_map label_octets (before ++ label ∷ []))

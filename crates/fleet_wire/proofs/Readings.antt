@@ -71,7 +71,7 @@ length-lower_all (l ∷ n) =
     octets_first (lower l) (lower_all n) (lower_all (l ∷ n)) refl
     ∙ (rw (length-map, length-lower_all n) (sym (octets_first l n (l ∷ n) refl)))
 
-octets_fit : (n : List (List ℕ)) → IsName (lower_all n) → octets n + 1 ≤ LONGEST_NAME
+pub octets_fit : (n : List (List ℕ)) → IsName (lower_all n) → octets n + 1 ≤ LONGEST_NAME
 octets_fit n named =
     omega (
       arith,

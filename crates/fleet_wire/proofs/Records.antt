@@ -1,6 +1,6 @@
 -- Records, a query and a reply are read in one way, or have a first fault.
 use mathlib.Core.Logic.{inl, inr}
-use Rattle.std.proofs.Common.{◌≡◌, ℕ, ◌+◌, ◌<◌, List, [], ◌∷◌, ◌++◌, length, refl, sym, ap, ◌∙◌, subst, arith, Bool, true, false, get_or}
+use Rattle.std.proofs.Common.{◌≡◌, ℕ, ◌+◌, ◌<◌, ◌≤◌, List, [], ◌∷◌, ◌++◌, length, refl, sym, ap, ◌∙◌, subst, arith, Bool, true, false, get_or}
 use Rattle.fleet_name.specs.Name.{wire, lower_all}
 use Rattle.fleet_wire.specs.Number.{u16_at, u32_at}
 use Rattle.fleet_wire.specs.NameAt.{ReadsName}
@@ -70,6 +70,18 @@ record_or_fault m p r e f at (inr h) =
     let same = one_reads m p h.0 r.name h.1 at.past h.2 at.name in
     fixed_or_fault m p r e f at (subst (λ (q : ℕ). FixedFails m q f) same.1 h.3)
 
+-- what is behind the name of a record, wherever its name was read
+pub record_behind : (m : List ℕ) (p : ℕ) (n : List (List ℕ)) (past : ℕ) (r : RecordData) (e : ℕ)
+    → ReadsName m p n past → RecordAt m p r e
+    → (past + 10 + u16_at m (past + 8) ≤ length m)
+    × ShapeAt m (past + 10) (u16_at m (past + 8)) (shape_of (u16_at m past)) r.rdata
+record_behind m p n past r e reads at =
+    let same = one_reads m p r.name n at.past past at.name reads in (
+      subst (λ (q : ℕ). q + 10 + u16_at m (q + 8) ≤ length m) same.1 at.room,
+      shape_moved m past at.past (u16_at m past) r.rtype r.rdata same.1
+          (at.rtype ∙ ap (λ (q : ℕ). u16_at m q) same.1) at.rdata,
+    )
+
 pub one_row : (m : List ℕ) (p : ℕ) (a b : List RecordData) (x y : ℕ) → RecordsAt m p a x
     → RecordsAt m p b y → length a ≡ length b → (a ≡ b) × (x ≡ y)
 one_row m p [] [] x y one two n = (refl, one ∙ sym two)
@@ -108,11 +120,11 @@ records_more m p middle e [] r before at = (e, subst (λ (q : ℕ). RecordAt m q
 records_more m p middle e (first ∷ rs) r before at =
     (before.0, before.1, records_more m before.0 middle e rs r before.2 at)
 
--- where records are in a row, the first one doesn't fail, and the others follow it
-pub first_lies : (m : List ℕ) (p count : ℕ) (f : ReadFault) → HasRecords m p count → 0 < count
-    → RecordFails m p f → ⊥
-first_lies m p count f ([], e, at, n) some h = omega (arith, n, some)
-first_lies m p count f (r ∷ rs, e, at, n) some h = record_or_fault m p r at.0 f at.1 h
+-- where records are in a row, one is first, and the others follow it
+pub first_lies : (m : List ℕ) (p count : ℕ) → HasRecords m p count → 0 < count
+    → (r : RecordData) × (e : ℕ) × RecordAt m p r e
+first_lies m p count ([], e, at, n) some = absurd (omega (arith, n, some))
+first_lies m p count (r ∷ rs, e, at, n) some = (r, at.0, at.1)
 
 pub others_lie : (m : List ℕ) (p count left : ℕ) (r : RecordData) (past : ℕ)
     → HasRecords m p count

@@ -4,14 +4,13 @@
 use Rattle.std.specs.Prelude.{◌≡◌, ℕ, ◌+◌, ◌<◌, ◌≤◌, ◌⊎◌, List, [], ◌∷◌, length}
 use Rattle.fleet_name.specs.Types.{Labels, OctetList}
 use Rattle.fleet_wire.specs.Types.{Place, RType, Seconds}
-use Rattle.fleet_name.specs.Name.{lower_all, labels_of, IsName}
+use Rattle.fleet_name.specs.Name.{IsName}
 use Rattle.fleet_wire.specs.Number.{u16_at, u32_at}
 use Rattle.fleet_wire.specs.NameAt.{ReadsName}
 use Rattle.fleet_wire.specs.Fault.{NameFails}
 use Rattle.fleet_wire.specs.Shape.{shape_of, ShapeAt, ShapeFails, IsPlain}
 use Rattle.fleet_wire.specs.declared.fault.ReadFault.{ReadFault}
 use Rattle.fleet_wire.specs.declared.fault.ReadFault.TheVariants.{Truncated}
-use Rattle.fleet_wire.specs.declared.record.SpelledRecord.{SpelledRecord}
 
 -- a record: its owner as labels, the TTL as it was read, and its RDATA
 pub record RecordData : Type 0 where
@@ -64,16 +63,6 @@ pub record IsPlainRecord (r : RecordData) : Type 0 where
   pub rdata : IsPlain r.rtype r.rdata
 
 -- What follows, private contracts alone cite.
-
--- a record as it was read, before anything of it is allocated
-abbrev pub spelled_record_data : SpelledRecord → RecordData
-spelled_record_data r = record {
-  name = lower_all (labels_of r.owner.octets.items);
-  rtype = r.rtype;
-  class = r.class;
-  ttl = r.ttl;
-  rdata = r.rdata.items;
-}
 
 -- `count` records are at p in a row
 abbrev pub HasRecords : OctetList → Place → ℕ → Type 0

@@ -1,14 +1,15 @@
 //! Records (RFC 1035 4.1.3).
 
 ghost use Rattle.std.specs.Prelude.{◌≡◌, ◌≤◌, List, length, IfOk, IfErr};
-ghost use Rattle.fleet_name.specs.Name.{labels_of, IsSpelling};
-ghost use Rattle.fleet_wire.specs.Record.{RecordData, spelled_record_data, RecordAt, RecordFails, RecordsAt, HasRecords, RecordsFail};
+ghost use Rattle.fleet_wire.specs.Record.{RecordData, RecordAt, RecordFails, RecordsAt, HasRecords, RecordsFail};
+ghost use Rattle.fleet_wire.specs.Types.{Place};
 ghost use Rattle.fleet_wire.specs.declared.bounds.TheConstants.{LONGEST_MESSAGE};
 
 use crate::fault::ReadFault;
-use crate::name_reader::{Spelled, name_end, name_of, spelling_at};
+use crate::name_reader::name_end;
 use crate::number::{read_u16, read_u32};
-use crate::shape::{Rdata, rdata_at, rdata_passes};
+use crate::piece::name_at;
+use crate::shape::{rdata_of, rdata_passes};
 use fleet_name::{Name, Octets};
 use std::alloc::{AllocError, Allocator, Global};
 use std::marker::Model;
@@ -41,47 +42,6 @@ impl<A: Allocator> Model for Record<A> {
       ttl = r.ttl;
       rdata = r.rdata;
     } };
-}
-
-/// A record as it was read, before anything of it is allocated.
-#[derive(Drop)]
-pub(crate) struct SpelledRecord {
-    pub(crate) owner: Spelled,
-    pub(crate) rtype: u16,
-    pub(crate) class: u16,
-    pub(crate) ttl: u32,
-    pub(crate) rdata: Rdata,
-    /// Where it ends in the message.
-    pub(crate) end: usize,
-}
-
-/// The record at a place of a message.
-fn record_at(message: &[u8], offset: usize) -> Result<SpelledRecord, ReadFault>
-    requires short { length message.now ≤ LONGEST_MESSAGE }
-    ensures found { IfOk result (λ r. RecordAt message.now offset (spelled_record_data r) r.end) }
-    ensures spelled { IfOk result (λ r. IsSpelling r.owner.octets.items) }
-    ensures counted { IfOk result (λ r. r.owner.labels ≡ length (labels_of r.owner.octets.items)) }
-    ensures fault { IfErr result (λ f. RecordFails message.now offset f) }
-{
-    let owner = spelling_at(message, offset)?;
-    let past = owner.end;
-    if message.len() - past < 10 {
-        return Err(ReadFault::Truncated);
-    }
-    let rtype = read_u16(message, past);
-    let count = read_u16(message, past + 8) as usize;
-    if message.len() - past - 10 < count {
-        return Err(ReadFault::Truncated);
-    }
-    let rdata = rdata_at(message, past + 10, count, rtype)?;
-    Ok(SpelledRecord {
-        owner,
-        rtype,
-        class: read_u16(message, past + 2),
-        ttl: read_u32(message, past + 4),
-        rdata,
-        end: past + 10 + count,
-    })
 }
 
 /// Where the record at a place of a message ends. What it says is read and not kept.
@@ -117,31 +77,30 @@ pub(crate) fn records_end(message: &[u8], offset: usize, count: u16) -> Result<u
     Ok(at)
 }
 
-/// The record with a name and RDATA of its own. `Err` where an allocation fails.
-fn record_of<A: Allocator + Copy>(
+/// The record at a place of a message, with a name and RDATA of its own, and where it ends. The
+/// caller has read it once. `Err` where an allocation fails.
+fn record_at<A: Allocator + Copy>(
     alloc: A,
-    spelled: &SpelledRecord,
-) -> Result<Record<A>, AllocError>
-    requires spelled { IsSpelling spelled.now.owner.octets.items }
-    requires counted { spelled.now.owner.labels
-        ≡ length (labels_of spelled.now.owner.octets.items) }
-    ensures { IfOk result (λ r. r ≡ spelled_record_data spelled.now) }
+    message: &[u8],
+    offset: usize,
+) -> Result<(Record<A>, usize), AllocError>
+    requires short { length message.now ≤ LONGEST_MESSAGE }
+    requires found { (r : RecordData) × (e : Place) × RecordAt message.now offset r e }
+    ensures { IfOk result (λ r. RecordAt message.now offset r.0 r.1) }
 {
-    let name = name_of(alloc, &spelled.owner)?;
-    let rdata = Octets::copy_of(alloc, spelled.rdata.as_slice())?;
-    let SpelledRecord {
-        rtype,
-        class,
-        ttl,
-        ..
-    } = *spelled;
-    Ok(Record {
+    let (name, past) = name_at(alloc, message, offset)?;
+    // Behind the name are ten octets, since the caller has read them.
+    prove!(past + 10 <= message.len());
+    let rtype = read_u16(message, past);
+    let count = read_u16(message, past + 8) as usize;
+    let record = Record {
         name,
         rtype,
-        class,
-        ttl,
-        rdata,
-    })
+        class: read_u16(message, past + 2),
+        ttl: read_u32(message, past + 4),
+        rdata: rdata_of(alloc, message, past + 10, count, rtype)?,
+    };
+    Ok((record, past + 10 + count))
 }
 
 /// The `count` records in a row at a place of a message, and where they end. The caller has read
@@ -160,11 +119,9 @@ pub(crate) fn records_of<A: Allocator + Copy>(
     let mut records = Vec::with_capacity(alloc, usize::from(count))?;
     let mut at = offset;
     for _ in 0..count {
-        let Ok(spelled) = record_at(message, at) else {
-            unreachable!()
-        };
-        records.push(record_of(alloc, &spelled)?)?;
-        at = spelled.end;
+        let (record, end) = record_at(alloc, message, at)?;
+        records.push(record)?;
+        at = end;
     }
     Ok((records, at))
 }

@@ -14,7 +14,9 @@ use crate::fault::ReadFault;
 use crate::name_reader::{name_end, spelling_at};
 use crate::rtype::{CNAME, MB, MD, MF, MG, MINFO, MR, MX, NS, PTR, SOA, SRV};
 use arrayvec::ArrayVec;
+use fleet_name::Octets;
 use fleet_name::bounds::LONGEST_NAME;
+use std::alloc::{AllocError, Allocator};
 
 /// A part of RDATA.
 #[derive(Clone, Copy, Debug, PartialEq, Eq)]
@@ -113,29 +115,27 @@ fn parts_at(message: &[u8], parts: &[Part], offset: usize) -> Result<(Rdata, usi
     Ok((octets, at))
 }
 
-/// RDATA of a type, `count` octets at a place, with each name in full and in lower case. `BadRdata`
-/// where its parts end at another octet.
-pub(crate) fn rdata_at(
+/// RDATA of a type, `count` octets at a place, with each name in full and in lower case, in one
+/// allocation. The caller has read it once. `Err` where its allocation fails.
+pub(crate) fn rdata_of<A: Allocator>(
+    alloc: A,
     message: &[u8],
     at: usize,
     count: usize,
     rtype: u16,
-) -> Result<Rdata, ReadFault>
+) -> Result<Octets<A>, AllocError>
     requires within { at + count ≤ length message.now }
     requires short { length message.now ≤ LONGEST_MESSAGE }
-    ensures found { IfOk result (λ r. ShapeAt message.now at count (shape_of rtype) r.items) }
-    ensures fault { IfErr result (λ f. ShapeFails message.now at count (shape_of rtype) f) }
+    requires found { (octets : OctetList) × ShapeAt message.now at count (shape_of rtype) octets }
+    ensures { IfOk result (λ r. ShapeAt message.now at count (shape_of rtype) r) }
 {
     let Some(parts) = parts_of(rtype) else {
-        let mut octets = ArrayVec::new();
-        append_octets(&mut octets, octets_at(message, at, count)?);
-        return Ok(octets);
+        return Octets::copy_of(alloc, &message[at..at + count]);
     };
-    let (octets, end) = parts_at(message, parts, at)?;
-    if end != at + count {
-        return Err(ReadFault::BadRdata);
-    }
-    Ok(octets)
+    let Ok((octets, _)) = parts_at(message, parts, at) else {
+        unreachable!()
+    };
+    Octets::copy_of(alloc, octets.as_slice())
 }
 
 /// Where the parts at a place end. What they hold is read and not kept.
@@ -160,8 +160,8 @@ fn parts_end(message: &[u8], parts: &[Part], offset: usize) -> Result<usize, Rea
     Ok(at)
 }
 
-/// That RDATA of a type, `count` octets at a place, has no fault: those that `rdata_at` finds, the
-/// same first.
+/// That RDATA of a type, `count` octets at a place, has no fault: one of its parts, or `BadRdata`
+/// where they end at another octet.
 pub(crate) fn rdata_passes(
     message: &[u8],
     at: usize,
