@@ -1,6 +1,7 @@
 -- What the two maps hold together: short names are in one of them, the others in the other one.
-use Rattle.std.proofs.Common.{ℕ, ◌≡◌, Bool, true, false, not, List, ◌∷◌, ◌↔◌, inl, inr, Option, Some, None, MatchOption, Bor, Result, Ok, Err, IfOk, OnErr, length, refl, sym, ap, ◌∙◌, subst}
+use Rattle.std.proofs.Common.{ℕ, ◌≡◌, Bool, true, false, not, List, [], ◌∷◌, ◌↔◌, inl, inr, Option, Some, None, MatchOption, Bor, Result, Ok, Err, IfOk, OnErr, length, refl, sym, ap, ◌∙◌, subst}
 use Rattle.std.specs.Map.{lookup}
+use mathlib.Core.Bool.{true≢false}
 use Rattle.std.specs.Option.{option_copied}
 use Rattle.std.specs.Ordering.{is_eq}
 use Rattle.fleet_observe.specs.Members.{Has}
@@ -15,12 +16,12 @@ use Rattle.fleet_cache.specs.steps.Keyed.{HasNoKey, IsOfKey}
 use Rattle.fleet_cache.specs.steps.Merged.{merged}
 use Rattle.fleet_cache.specs.steps.Packed.{words_of, short_words, AreLong}
 use Rattle.fleet_cache.specs.steps.Reclaimed.{IsTrimmed, IsCleared}
-use Rattle.fleet_cache.specs.steps.Slots.{items_of, IsLaid, IsPut}
+use Rattle.fleet_cache.specs.steps.Slots.{is_nil, items_of, IsLaid, IsPut}
 use Rattle.fleet_cache.proofs.Holdings.{thinned_held}
 use Rattle.fleet_cache.proofs.Looked.{look_none, look_some}
 use Rattle.fleet_cache.proofs.Merging.{AreNamed, AreApart, IsSplit, split_short, split_long, more_size, merged_descends, part_front, cover_words, split_covered, split_front, split_trimmed, split_cleared, split_none, split_found}
 use Rattle.fleet_cache.proofs.ShortKeys.{field_cmp, same_test}
-use Rattle.fleet_cache.proofs.Slots.{in_slot, items_descend}
+use Rattle.fleet_cache.proofs.Slots.{in_slot, items_descend, slot_of_key}
 
 abbrev Slots : Type 0 → Type 0
 Slots K = List (K × List ObservationData)
@@ -118,6 +119,31 @@ module _ {K : Type 0} (octets : K → List ℕ) where
     look_long q more r e =
         both_found Whole (items_of ls) (items_of ss) q (split_long (items_of ss) (items_of ls))
         (none_short q more) r (front_found octets q ls after r e)
+
+    -- the front of a key that is in one of the maps
+    pub found_short : (key : ShortKey) (f : List ObservationData)
+        → lookup (λ k. is_eq (field_cmp key k)) ss ≡ Some f → IsOfKey Whole (short_words key) f
+    found_short key f e = split_found Whole (items_of ss) (items_of ls) (short_words key)
+        (split_short (items_of ss) (items_of ls)) (none_long (short_words key) refl) f
+        (look_some short_words (short_words key) ss f laid
+        (sym (ap (λ t. lookup t ss) (same_test key)) ∙ e))
+
+    -- a key in the map of long names is none of a short one
+    keyed_long : (q : List ℕ) (f : List ObservationData) → IsOfKey (items_of ls) q f
+        → is_nil f ≡ false → length q ≡ 4 → ⊥
+    keyed_long q (x ∷ f) found some four =
+        long x (found.member x (inl refl)) (ap length (found.keyed x (inl refl)) ∙ four)
+    keyed_long q [] found some four = absurd (true≢false some)
+
+    pub found_long : (key : K) (f : List ObservationData)
+        → lookup (λ k. is_eq (octets_cmp (octets key) (octets k))) ls ≡ Some f
+        → IsOfKey Whole (octets key) f
+    found_long key f e =
+        let found = look_some octets (octets key) ls f after e in
+        split_found Whole (items_of ls) (items_of ss) (octets key)
+        (split_long (items_of ss) (items_of ls)) (none_short (octets key)
+        (keyed_long (octets key) f found (slot_of_key octets ls (octets key) f after e).slot.some)) f
+        found
 
     -- x, of a short name, is apart from what the other map holds
     more_short : (x : ObservationData) → length (words_of x) ≡ 4

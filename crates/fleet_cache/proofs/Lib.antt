@@ -17,6 +17,7 @@ mod Reclaiming
 mod Best
 mod Past
 mod Looked
+mod Passing
 mod Merging
 mod Both
 mod Storing

@@ -1,10 +1,14 @@
 //! Dropping what is not live any more, a part of the map at a time.
 
-ghost use Rattle.std.specs.Prelude.{OnErr};
+ghost use Rattle.std.specs.Prelude.{◌≡◌, ℕ, List, false, OnErr};
+ghost use Rattle.std.specs.List.{list_any};
 ghost use Rattle.fleet_cache.specs.Cached.{IsCovered};
+ghost use Rattle.fleet_cache.specs.Cut.{is_hidden};
 ghost use Rattle.fleet_cache.specs.steps.Held.{IsHeld};
-ghost use Rattle.fleet_cache.specs.steps.Reclaimed.{IsReclaimed, AllLive};
+ghost use Rattle.fleet_cache.specs.steps.Keyed.{IsOfKey};
+ghost use Rattle.fleet_cache.specs.steps.Reclaimed.{IsReclaimed, AllLive, IsLiveFront};
 
+use crate::cut::Cut;
 use crate::held::Held;
 use crate::item::Item;
 use crate::lookup::cut_at;
@@ -89,9 +93,12 @@ impl<A: Allocator> Cursor<A> {
     }
 }
 
-/// Whether a front holds anything that is not live at the moment. Where none of it has ended and no
-/// flush was noted, none of its items is looked at.
-fn is_stale<A: Allocator>(held: &Held<A>, front: &Slot<A>, moment: Moment) -> bool {
+/// Whether a front of a cache holds anything that is not live at the moment. Where none of it has
+/// ended and no flush was noted, none of its items is looked at.
+fn is_stale<A: Allocator>(held: &Held<A>, front: &Slot<A>, moment: Moment) -> bool
+    requires { (words : List ℕ) × IsOfKey held.now words front.now }
+    ensures { result ≡ false → IsLiveFront moment held.now front.now }
+{
     if front.soonest() <= moment.value() {
         return true;
     }
@@ -102,10 +109,14 @@ fn is_stale<A: Allocator>(held: &Held<A>, front: &Slot<A>, moment: Moment) -> bo
         return false;
     };
     let cut = cut_at(held, first.observation().name().octets(), moment);
-    front
-        .items()
-        .iter()
-        .any(|item| cut.hides(item.observation()))
+    hides_any(&cut, front.items())
+}
+
+/// Whether a cut hides any of these items.
+fn hides_any<A: Allocator>(cut: &Cut, items: &[Item<A>]) -> bool
+    ensures { result ≡ list_any (is_hidden cut.now) items.now }
+{
+    items.iter().any(|item| cut.hides(item.observation()))
 }
 
 /// Drops what is not live at the moment, in a part of the fronts: those behind the cursor, which

@@ -70,9 +70,11 @@ impl<A: Allocator> Slot<A> {
         ensures memory { OnErr result (¬ IsCovered self.old item) }
         ensures err { OnErr result (self.new ≡ self.old) }
     {
-        let kept = self.front.take(item);
-        self.soonest = soonest_of(self.front.items());
-        kept
+        let kept = self.front.take(item)?;
+        if kept {
+            self.soonest = soonest_of(self.front.items());
+        }
+        Ok(kept)
     }
 
     /// Drops what a cut hides.

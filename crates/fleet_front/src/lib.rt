@@ -87,6 +87,7 @@ impl<T: Ranked, A: Allocator> Front<T, A> {
         ensures taken { (s : List T) → IsFront T.order T.dominates s self.old
             → OnOk result (IsFront T.order T.dominates (value ∷ s) self.new) }
         ensures kept { IfOk result (λ kept. (kept ≡ false) ↔ IsCovered T.dominates self.old value) }
+        ensures same { IfOk result (λ kept. kept ≡ false → self.new ≡ self.old) }
         ensures size { length self.new ≤ length self.old + 1 }
         ensures memory { OnErr result (¬ IsCovered T.dominates self.old value) }
         ensures err { OnErr result (self.new ≡ self.old) }

@@ -23,6 +23,7 @@ mod names;
 mod observations;
 mod purges;
 mod questions;
+mod reclaims;
 mod replies;
 mod rows;
 mod second_entries;

@@ -38,3 +38,7 @@ IsCleared words cut items =
 abbrev pub AllLive : List ℕ → Seconds → Observations → Observations → Type 0
 AllLive words m items rest =
     (o : ObservationData) → Has rest o → words_of o ≡ words → is_live items m o ≡ true
+
+-- each item of a front lives at the moment m, as the items say
+abbrev pub IsLiveFront : Seconds → Observations → Observations → Type 0
+IsLiveFront m items front = (o : ObservationData) → Has front o → is_live items m o ≡ true

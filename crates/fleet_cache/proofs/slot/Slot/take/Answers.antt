@@ -1,4 +1,4 @@
-use Rattle.std.proofs.Common.{◌≡◌, ◌∷◌, ◌↔◌, false, IfOk, OnOk, OnErr, subst}
+use Rattle.std.proofs.Common.{◌≡◌, ◌∷◌, ◌↔◌, false, sym, subst}
 use Rattle.fleet_observe.specs.Observation.{Observations}
 use Rattle.fleet_cache.specs.Dominates.{dominates}
 use Rattle.fleet_cache.specs.Front.{IsFront}
@@ -7,20 +7,25 @@ use Rattle.fleet_cache.specs.steps.Row.{row}
 use Rattle.fleet_cache.specs.steps.Soonest.{NoneSooner}
 use Rattle.fleet_cache.proofs.slot.Slot.take.Goals as goal
 
-pub invariant_of-self : goal.invariant_of-self
-invariant_of-self g c =
+pub invariant_of-self-then-kept : goal.invariant_of-self-then-kept
+invariant_of-self-then-kept g c =
     subst (NoneSooner c.soonest_of-self-inside.result) c.items.ensures.items
     c.soonest_of-self-inside.ensures
 
-pub returns-clause-taken : goal.returns-clause-taken
-returns-clause-taken g c = subst (λ v. (s : Observations) → IsFront row dominates s v
-    → OnOk c.take-kept.result (IsFront row dominates (c.args.item ∷ s) c.take-kept.new.self))
-    c.self.view_is c.take-kept.ensures.taken
+pub invariant_of-self-else-kept : goal.invariant_of-self-else-kept
+invariant_of-self-else-kept g c = subst (NoneSooner c.self.inside.soonest)
+    (sym (c.in_ok-kept.ensures.same c.if-kept.false)) c.self.invariant
 
-pub returns-clause-kept : goal.returns-clause-kept
-returns-clause-kept g c = subst (λ v. IfOk c.take-kept.result
-    (λ kept. (kept ≡ false) ↔ IsCovered v c.args.item)) c.self.view_is c.take-kept.ensures.kept
+pub returns-then-kept-clause-taken : goal.returns-then-kept-clause-taken
+returns-then-kept-clause-taken g c = subst (λ v. (s : Observations) → IsFront row dominates s v
+    → IsFront row dominates (c.args.item ∷ s) c.take.new.self) c.self.view_is
+    c.in_ok-kept.ensures.taken
 
-pub returns-clause-memory : goal.returns-clause-memory
-returns-clause-memory g c = subst (λ v. OnErr c.take-kept.result (¬ IsCovered v c.args.item))
-    c.self.view_is c.take-kept.ensures.memory
+pub returns-then-kept-clause-kept : goal.returns-then-kept-clause-kept
+returns-then-kept-clause-kept g c = subst (λ v. (c.in_ok-kept.kept ≡ false)
+    ↔ IsCovered v c.args.item) c.self.view_is c.in_ok-kept.ensures.kept
+
+pub returns-else-kept-clause-taken : goal.returns-else-kept-clause-taken
+returns-else-kept-clause-taken g c = subst (λ v. (s : Observations) → IsFront row dominates s v
+    → IsFront row dominates (c.args.item ∷ s) c.take.new.self) c.self.view_is
+    c.in_ok-kept.ensures.taken
