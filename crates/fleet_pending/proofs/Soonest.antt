@@ -3,6 +3,7 @@ use Rattle.std.proofs.Common.{◌≡◌, ℕ, ◌+◌, ◌<◌, ◌≤◌, ◌�
 use Rattle.std.proofs.lemmas.Option.{slice_get_within}
 use Rattle.std.proofs.lemmas.Bool.{cases_eq}
 use Rattle.fleet_name.specs.Places.{At}
+use Rattle.std.specs.List.{remove}
 use Rattle.fleet_name.proofs.Lemmas.{at_same, at_set}
 use Rattle.fleet_pending.specs.Waiter.{WaiterData}
 use Rattle.fleet_pending.specs.PendingData.{EntryData}
@@ -11,7 +12,7 @@ use Rattle.fleet_pending.specs.Asking.{Joins, waits_already, waits_too, no_place
 use Rattle.fleet_pending.specs.declared.bounds.TheConstants.{TRY_SECONDS}
 use Rattle.fleet_pending.specs.declared.answer.Asked.{Asked}
 use Rattle.fleet_pending.specs.declared.answer.PendingFault.{PendingFault}
-use Rattle.fleet_pending.proofs.Placed.{at_push}
+use Rattle.fleet_pending.proofs.Placed.{at_push, at_remove}
 
 -- so it is of the first n
 abbrev pub SoonestTo : List EntryData → ℕ → ℕ → Type 0
@@ -71,3 +72,19 @@ soonest_opened s t moment word es fs w r h l m (no_room many result_is same) k x
     let b = h k x (subst (λ v. At v k x) same a) in omega (arith, b, l)
 soonest_opened s t moment word es fs w r h l m (no_memory_for_room few result_is same) k x a =
     let b = h k x (subst (λ v. At v k x) same a) in omega (arith, b, l)
+
+-- what is left ends no sooner
+pub soonest_removed : (s i : ℕ) (es ns : List EntryData) → NoneSooner s es → ns ≡ remove es i
+    → NoneSooner s ns
+soonest_removed s i es ns h n j x a =
+    let r = at_remove es i j x (subst (λ v. At v j x) n a) in h r.0 x r.1
+
+-- who moves on has its time
+pub soonest_moved : (s t i moment : ℕ) (es : List EntryData) (f : EntryData) → NoneSooner s es
+    → t ≤ s → t ≤ moment + TRY_SECONDS → f.deadline ≡ moment + TRY_SECONDS
+    → NoneSooner t (slice_set es i f)
+soonest_moved s t i moment es f h l m is k x a = go (at_set es i k f x a)
+  where
+    go : ((k ≡ i) × (x ≡ f)) ⊎ ((k ≢ i) × At es k x) → t ≤ x.deadline
+    go (inl p) = let d = ap (λ v. v.deadline) p.1 in omega (arith, d, m, is)
+    go (inr p) = let b = h k x p.1 in omega (arith, b, l)

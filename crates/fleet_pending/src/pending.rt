@@ -177,9 +177,7 @@ impl<A: Allocator> Pending<A> {
         ensures lawful { IsPendingData self.new }
     {
         let i = place_of_id(self.entries.as_slice(), id)?;
-        let entry = self.entries.remove(i);
-        self.soonest = soonest_of(self.entries.as_slice());
-        Some(entry)
+        Some(self.entries.remove(i))
     }
 
     /// Removes all entries; the room is kept.
@@ -219,6 +217,17 @@ impl<A: Allocator> Pending<A> {
         }
     }
 
+    /// Looks for the first deadline, where one may have passed by a moment. Who was told by `due`
+    /// that no entry is due then calls this, so that `due` looks at none before the deadline that
+    /// comes next. Nothing changes that is seen.
+    pub fn look_ahead(&mut self, moment: Moment)
+        ensures { self.new ≡ self.old }
+    {
+        if self.soonest <= moment.value() {
+            self.soonest = soonest_of(self.entries.as_slice());
+        }
+    }
+
     /// Moves the entry with an id to the next upstream; its time is over 2 seconds after the
     /// moment. `false` where there is no such entry or no further upstream: then nothing changes.
     pub fn advance(&mut self, id: u16, moment: Moment) -> bool
@@ -230,8 +239,8 @@ impl<A: Allocator> Pending<A> {
             Some(i) => {
                 let next = self.entries[i].upstream + 1;
                 if next < self.upstreams {
+                    self.soonest = self.soonest.min(moment.value() + TRY_SECONDS);
                     move_on(&mut self.entries[i], moment);
-                    self.soonest = soonest_of(self.entries.as_slice());
                     true
                 } else {
                     false

@@ -142,7 +142,10 @@ pub(crate) fn serve_due<A: Allocator + Copy>(
         Err(_) => return Err(SiteFault::OutOfMemory { taken: 0 }),
     };
     match plan {
-        Plan::Idle(outcome) => Ok(outcome),
+        Plan::Idle(outcome) => {
+            pending.look_ahead(clock);
+            Ok(outcome)
+        }
         Plan::Retry(id, outcome) => {
             let _ = pending.advance(id, clock);
             Ok(and_more(pending, clock, outcome))

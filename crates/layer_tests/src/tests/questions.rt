@@ -157,6 +157,19 @@ fn show_due(
     }
 }
 
+/// What is due first at a moment, of a table that looked ahead at it.
+fn look_ahead(
+    rt: &impl Abort,
+    alloc: Global,
+    table: &mut Pending,
+    words: Words<'_>,
+    output: &mut String,
+) {
+    let mut moment = words;
+    table.look_ahead(moment_of(rt, moment.word()));
+    show_due(rt, alloc, table, words, output);
+}
+
 /// Whether an entry goes on to its next upstream.
 fn advance(rt: &impl Abort, table: &mut Pending, mut words: Words<'_>, output: &mut String) {
     let id = words.word().parse().expect(rt, "a number");
@@ -189,6 +202,7 @@ fn show_result(
         "find" => show_found(rt, alloc, table, words, output),
         "settle" => settle(rt, table, words, output),
         "due" => show_due(rt, alloc, table, words, output),
+        "look_ahead" => look_ahead(rt, alloc, table, words, output),
         "advance" => advance(rt, table, words, output),
         "entry" => show_entry(rt, table, words, output),
         _ => panic!(rt; "no such call"),
@@ -322,6 +336,33 @@ ask 0000 1 6002 7 100 1 => joined
 find 0 1 0000 1 => true
 find 0 1 0000 3 => false";
     let mut table = Pending::new(rt.alloc(), 1);
+    check_calls(&rt, rt.alloc(), &mut table, rows);
+}
+
+/// Each look ahead comes behind the deadline that the table knew as its first one, at it, or before
+/// it.
+#[test]
+fn looking_ahead_changes_nothing(rt: HostRuntime) {
+    let rows = "
+look_ahead 100 => none
+ask 0001 1 6001 7 100 1 => send 0 1
+ask 0002 1 6001 8 101 2 => send 0 2
+look_ahead 101 => none
+look_ahead 102 => retry 1 1 0001.
+advance 1 102 => true
+due 102 => none
+look_ahead 102 => none
+due 103 => retry 1 2 0002.
+settle 2 => 6001/8;
+look_ahead 103 => none
+due 104 => failed 1
+look_ahead 104 => failed 1
+settle 1 => 6001/7;
+look_ahead 200 => none
+ask 0003 1 6001 9 50 3 => send 0 3
+due 51 => none
+due 52 => retry 1 3 0003.";
+    let mut table = Pending::new(rt.alloc(), 2);
     check_calls(&rt, rt.alloc(), &mut table, rows);
 }
 

@@ -138,9 +138,8 @@ impl Plain {
         let Some(front) = self.fronts.get(&key_of(rt, alloc, observation)) else {
             return false;
         };
-        front
-            .iter()
-            .any(|held| held.kind() == observation.kind() && held.rtype() == observation.rtype())
+        front.iter().any(|held| held.kind() == observation.kind()
+            && held.rtype() == observation.rtype())
     }
 }
 

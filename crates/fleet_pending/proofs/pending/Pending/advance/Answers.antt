@@ -1,6 +1,6 @@
-use Rattle.std.proofs.Common.{refl, arith, subst}
+use Rattle.std.proofs.Common.{refl, ap, arith, subst}
 use Rattle.fleet_pending.specs.PendingData.{UsesId, IsPendingData}
-use Rattle.fleet_pending.specs.Due.{NoneSooner}
+use Rattle.fleet_pending.proofs.Soonest.{soonest_moved}
 use Rattle.fleet_pending.proofs.Table.{read_at, advances, advance_keeps, stays, next_below}
 use Rattle.fleet_pending.proofs.pending.Pending.advance.Goals as goal
 
@@ -21,7 +21,9 @@ invariant_of-self g c =
       advance_keeps _ _ c.args.id c.args.moment c.self.invariant.0
           (advances _ _ c.in-Some.i _ _ _ _ _ _ c.move_on.new.entry refl c.behind-self.view_is k m
           c.if-next-self.true c.move_on.ensures),
-      subst (NoneSooner c.soonest_of-self-inside.result) c.as_slice-then-next-self.ensures.value c.soonest_of-self-inside.ensures,
+      soonest_moved c.self.inside.soonest _ c.in-Some.i c.args.moment c.self.inside.entries.items
+          c.move_on.new.entry c.self.invariant.1 (omega (arith, c.min-self-inside.ensures))
+          (omega (arith, c.min-self-inside.ensures, c.value.ensures.value)) (ap (λ e. e.deadline) c.move_on.ensures),
     )
 
 pub returns-then-next-self-clause-advances : goal.returns-then-next-self-clause-advances
