@@ -1,19 +1,27 @@
 -- What is lent and found among what is held.
-use Rattle.std.proofs.Common.{◌≡◌, ℕ, zero, suc, ◌+◌, ◌<◌, ◌≤◌, ◌⊎◌, ◌↔◌, inl, inr, Bool, IsTrue, List, [], ◌∷◌, length, get_or, drop, not, refl, sym, ap, ◌∙◌, subst, add-one}
+use Rattle.std.proofs.Common.{◌≡◌, ℕ, zero, suc, ◌+◌, ◌<◌, ◌≤◌, ◌⊎◌, ◌↔◌, inl, inr, Bool, true, IsTrue, List, [], ◌∷◌, length, get_or, drop, not, refl, sym, ap, ◌∙◌, subst, add-one, arith}
+use Rattle.std.specs.Ordering.{nat_cmp, ordering_then, ordering_reverse, is_gt}
+use Rattle.std.specs.declared.cmp.Ordering.{Ordering}
+use Rattle.std.specs.declared.cmp.Ordering.TheVariants.{Less, Equal, Greater}
 use Rattle.std.proofs.Math.Seq.{drop-cons}
 use Rattle.std.proofs.lemmas.Bool.{cases_Bool}
+use Rattle.std.proofs.lemmas.Cmp.{nat_cmp_total}
 use Rattle.std.proofs.lemmas.List.{drop_all}
+use mathlib.Core.Bool.{false≢true}
 use Rattle.fleet_name.specs.Name.{wire}
 use Rattle.fleet_name.proofs.Lemmas.{Has-in_filter}
 use Rattle.fleet_observe.specs.Members.{Has}
-use Rattle.fleet_observe.specs.Observation.{ObservationData, AreObservations}
+use Rattle.fleet_observe.specs.Observation.{ObservationData, AreObservations, kind_number}
+use Rattle.fleet_observe.specs.Preference.{preference}
 use Rattle.fleet_observe.specs.Lent.{IsLent}
 use Rattle.fleet_observe.specs.declared.observation.kind.Kind.{Kind}
 use Rattle.fleet_observe.specs.declared.observation.lent.LentObservation.{LentObservation}
 use Rattle.fleet_observe.proofs.Lemmas.{lent_exact}
 use Rattle.fleet_cache.specs.Live.{is_live, live_of}
 use Rattle.fleet_cache.specs.Cached.{IsNeedless}
+use Rattle.fleet_cache.specs.Front.{IsDescending}
 use Rattle.fleet_cache.specs.steps.Keyed.{IsOfName}
+use Rattle.fleet_cache.specs.steps.Row.{row, is_behind}
 use Rattle.fleet_cache.proofs.Holdings.{past_test}
 
 -- the items from an index on: the one there, and the others
@@ -44,6 +52,38 @@ pub has_at : (xs : List ObservationData) (i : ℕ) (x : ObservationData) → i <
     → x ≡ get_or xs i x → Has xs x
 has_at xs i x h e = has_dropped xs i x
     (subst (λ (v : List ObservationData). Has v x) (sym (split_at xs i x h e)) (inl refl))
+
+-- the items of a list in order come behind those before them
+later_behind : (order : ObservationData → ObservationData → Ordering) (xs : List ObservationData)
+    (i : ℕ) (x z : ObservationData) → IsDescending order xs → i < length xs → x ≡ get_or xs i x
+    → Has (drop (suc i) xs) z → order x z ≡ Greater
+later_behind order [] i x z down within is has = absurd has
+later_behind order (y ∷ xs) zero x z down within is has =
+    let same : x ≡ y = is in subst (λ v. order v z ≡ Greater) (sym same) (down.0 z has)
+later_behind order (y ∷ xs) (suc i) x z down within is has =
+    later_behind order xs i x z down.1 (omega (arith, within)) is has
+
+-- what is behind by two comparisons isn't ahead by them
+not_ahead : (kinds types others : Ordering) → is_gt (ordering_then kinds types) ≡ true
+    → ordering_then (ordering_reverse kinds) (ordering_then (ordering_reverse types) others)
+    ≡ Greater → ⊥
+not_ahead Less types others behind ahead = absurd (false≢true behind)
+not_ahead Equal Less others behind ahead = absurd (false≢true behind)
+not_ahead Equal Equal others behind ahead = absurd (false≢true behind)
+not_ahead Equal Greater others behind ahead = let e : Less ≡ Greater = ahead in absurd (cc)
+not_ahead Greater types others behind ahead = let e : Less ≡ Greater = ahead in absurd (cc)
+
+-- what is lent isn't behind an item that is behind all of its kind and its type
+pub none_later : (xs : List ObservationData) (i : ℕ) (x z : ObservationData)
+    (lent : LentObservation) → IsDescending row xs → i < length xs → x ≡ get_or xs i x
+    → is_behind lent.kind lent.rtype x ≡ true → IsLent lent z → Has (drop (i + 1) xs) z → ⊥
+none_later xs i x z lent down within at behind is has =
+    let kinds = nat_cmp_total.antisymm (kind_number z.kind) (kind_number x.kind) in
+    let types = nat_cmp_total.antisymm z.rtype x.rtype in
+    let ahead : row x z ≡ Greater = later_behind row xs i x z down within at
+    (subst (λ n. Has (drop n xs) z) (add-one i) has) in
+    not_ahead (nat_cmp (kind_number x.kind) (kind_number z.kind)) (nat_cmp x.rtype z.rtype)
+    (preference x z) (rw (← is.kind, ← is.rtype) behind) (rw (← kinds, ← types) ahead)
 
 -- what is in memory need not be taken in
 pub held_needless : (items : List ObservationData) (f : ℕ) (o : ObservationData)

@@ -33,13 +33,13 @@ pub struct Stopped {
 }
 
 /// The undominated observations of a set that are live at a floor: those of a name in one front, by
-/// kind, then type, then the preferred first, and the fronts in a map by the octets of the names,
-/// eight octets to a word.
+/// kind, then type, then the preferred first, and the fronts in maps by the octets of the names,
+/// eight octets to a word: one for short names, one for the others.
 ///
 /// What is in memory may have ended by the floor, or be withdrawn by a flush that is held. No call
 /// shows it, and each purge drops some of it, going on at the cursor. `most` counts the observations
-/// that were given to the map since it was empty, kept or not, so that no more are held and they can
-/// be counted: at the greatest number, which no machine reaches, nothing more is taken.
+/// that were given to the maps since these were empty, kept or not, so that no more are held and
+/// they can be counted: at the greatest number, which no machine reaches, nothing more is taken.
 #[derive(Drop)]
 pub struct Cache<A: Allocator = Global> {
     floor: Moment,

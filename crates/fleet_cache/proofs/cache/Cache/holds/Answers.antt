@@ -1,11 +1,15 @@
 use Rattle.std.proofs.Common.{sym, subst}
 use Rattle.fleet_name.proofs.Lemmas.{Has-filter}
 use Rattle.fleet_observe.specs.Members.{Has}
+use Rattle.fleet_observe.specs.declared.observation.kind.Kind.TheVariants.{Flush}
 use Rattle.fleet_cache.specs.Live.{is_live}
 use Rattle.fleet_cache.specs.Cached.{CacheData, IsNeedless}
 use Rattle.fleet_cache.proofs.Caches.{cached_needless}
 use Rattle.fleet_cache.proofs.LentItems.{held_needless, lent_held, held_lent}
 use Rattle.fleet_cache.proofs.cache.Cache.holds.Goals as goal
+
+pub has_lent-requires : goal.has_lent-requires
+has_lent-requires g c = (c.at.ensures.of_name c.requires.name Flush c.requires.whole).in_rows
 
 pub returns-clause-needless : goal.returns-clause-needless
 returns-clause-needless g c = λ o is told.
