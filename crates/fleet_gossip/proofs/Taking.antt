@@ -1,14 +1,15 @@
--- How far the entries of a frame are taken.
-use Rattle.std.proofs.Common.{◌≡◌, ℕ, ◌+◌, ◌≤◌, List, [], ◌∷◌, ◌++◌, length, Some, refl, sym, ap, ◌∙◌, subst, arith, length-append, append_assoc}
+-- Which observations of a frame are made, and how far they are taken.
+use Rattle.std.proofs.Common.{◌≡◌, ℕ, suc, ◌+◌, ◌≤◌, List, [], ◌∷◌, ◌++◌, length, Some, inl, inr, refl, sym, ap, ◌∙◌, subst, arith, length-append, append_assoc, Result, Ok, Err, OnErr}
 use Rattle.std.proofs.lemmas.List.{append-nil, nil_from_length}
 use Rattle.fleet_observe.specs.Members.{Has}
 use Rattle.fleet_observe.specs.Observation.{ObservationData}
 use Rattle.fleet_cache.specs.Cached.{CacheData, IsCached}
-use Rattle.fleet_cache.proofs.Lemmas.{HasTaken, taken_is, taken_within, seam_at}
+use Rattle.fleet_cache.proofs.Lemmas.{HasTaken, taken_more, taken_is, taken_within, seam_at}
 use Rattle.fleet_gossip.specs.Entry.{AreIn}
 use Rattle.fleet_gossip.specs.Frame.{entries}
+use Rattle.fleet_gossip.specs.Taken.{Takes}
 use Rattle.fleet_gossip.specs.steps.Reading.{BeginsWithEntries}
-use Rattle.fleet_gossip.specs.steps.Taking.{TakesEntries, TakesFirstEntries}
+use Rattle.fleet_gossip.specs.steps.Taking.{IsFirstUnheld, AreUnheld, FindsUnheld, HasUnheld, TakesFirstOf}
 
 -- the next one of those that are left goes over to those that are done
 pub one_over : (done left others : List ObservationData) (o : ObservationData)
@@ -16,10 +17,70 @@ pub one_over : (done left others : List ObservationData) (o : ObservationData)
 one_over done left others o e = ap (λ (v : List ObservationData). done ++ v) e
     ∙ sym (append_assoc done (o ∷ []) others)
 
+-- what is so holds where a result is an error
+pub on_err : {T E P : Type 0} (r : Result T E) → P → OnErr r P
+on_err (Ok x) p = tt
+on_err (Err f) p = p
+
+has_behind : (done others : List ObservationData) (o : ObservationData) → Has (done ++ o ∷ others) o
+has_behind [] others o = inl refl
+has_behind (x ∷ done) others o = inr (has_behind done others o)
+
+-- one more of those that were looked at
+module _ (cache : CacheData) (o : ObservationData) where
+  -- it need not be taken in
+  pub held_more : (at : ℕ) (done : List ObservationData) (made : List (ℕ × ObservationData))
+      → AreUnheld cache at done made → Takes cache cache (o ∷ [])
+      → AreUnheld cache at (done ++ o ∷ []) made
+  held_more at done [] known one = λ s cached.
+      subst (λ (v : List ObservationData). IsCached v cache.floor cache.items)
+      (sym (append_assoc done (o ∷ []) s)) (known (o ∷ s) (one s cached))
+  held_more at done (first ∷ made) all one = let is = all.1 in (
+    all.0 ++ o ∷ [],
+    record {
+      held = is.held;
+      split = ap (λ (v : List ObservationData). v ++ o ∷ []) is.split
+          ∙ append_assoc is.held (first.1 ∷ all.0) (o ∷ []);
+      known = is.known;
+      placed = is.placed;
+      unheld = is.unheld;
+    },
+    held_more (suc first.0) all.0 made all.2 one,
+  )
+
+  -- it isn't held
+  pub unheld_more : (at : ℕ) (done : List ObservationData) (made : List (ℕ × ObservationData))
+      (place : ℕ) → AreUnheld cache at done made → place ≡ at + length done
+      → (Has cache.items o → ⊥) → AreUnheld cache at (done ++ o ∷ []) (made ++ (place, o) ∷ [])
+  unheld_more at done [] place known placed unheld = (
+    [],
+    record { held = done; split = refl; known = known; placed = placed; unheld = unheld },
+    λ s cached. cached,
+  )
+  unheld_more at done (first ∷ made) place all placed unheld = let is = all.1 in (
+    all.0 ++ o ∷ [],
+    record {
+      held = is.held;
+      split = ap (λ (v : List ObservationData). v ++ o ∷ []) is.split
+          ∙ append_assoc is.held (first.1 ∷ all.0) (o ∷ []);
+      known = is.known;
+      placed = is.placed;
+      unheld = is.unheld;
+    },
+    unheld_more (suc first.0) all.0 made place all.2
+        (omega (
+          arith,
+          placed,
+          is.placed,
+          ap length is.split,
+          length-append is.held (first.1 ∷ all.0),
+        )) unheld,
+  )
+
 -- entries of which some are done and others are left
 module _ (octets : List ℕ) (version count at : ℕ) (done left : List ObservationData)
     (lawful : AreIn version (done ++ left)) (whole : octets ≡ entries (done ++ left))
-    (counted : length done ≡ at) (all : at + length left ≡ count) where
+    (counted : length done ≡ at) (all : at + length left ≡ count) (cache : CacheData) where
   all_are : BeginsWithEntries octets version count (done ++ left) []
   all_are = record {
     whole = whole ∙ sym (append-nil (entries (done ++ left)));
@@ -27,38 +88,98 @@ module _ (octets : List ℕ) (version count at : ℕ) (done left : List Observat
     counted = omega (arith, length-append done left, counted, all);
   }
 
-  module _ (before after : CacheData) (held : HasTaken before after done) where
-    pub takes_all : count ≤ at → TakesEntries octets version count before after
-    takes_all past =
-        let none : left ≡ [] = nil_from_length left (omega (arith, all, past)) in
-        let same : done ++ left ≡ done = ap (λ (v : List ObservationData). done ++ v) none
-        ∙ append-nil done in
-        record {
-          list = done ++ left;
-          are = all_are;
-          cached = λ s cached. subst (λ (v : List ObservationData).
-              IsCached (v ++ s) after.floor after.items) (sym same) (held.cached s cached);
-        }
+  pub finds_all : (made : List (ℕ × ObservationData)) → AreUnheld cache 0 done made → count ≤ at
+      → FindsUnheld octets version count cache made
+  finds_all made found past =
+      let none : left ≡ [] = nil_from_length left (omega (arith, all, past)) in
+      let same : done ++ left ≡ done = ap (λ (v : List ObservationData). done ++ v) none
+      ∙ append-nil done in
+      record {
+        list = done ++ left;
+        are = all_are;
+        found = subst (λ (v : List ObservationData). AreUnheld cache 0 v made) (sym same) found;
+      }
 
-    module _ (o : ObservationData) (others : List ObservationData) (next : left ≡ o ∷ others)
-        (unheld : Has after.items o → ⊥) where
-      seam : done ++ left ≡ done ++ o ∷ others
-      seam = ap (λ (v : List ObservationData). done ++ v) next
+  pub finds_one : (o : ObservationData) (others : List ObservationData) → left ≡ o ∷ others
+      → (Has cache.items o → ⊥) → HasUnheld octets version count cache
+  finds_one o others next unheld = record {
+    list = done ++ left;
+    are = all_are;
+    unheld = (
+      o,
+      subst (λ (v : List ObservationData). Has (done ++ v) o) (sym next) (has_behind done others o),
+      unheld,
+    );
+  }
 
-      pub takes_first : (k : ℕ) → k ≡ at
-          → TakesFirstEntries octets version count before after k
-      takes_first k same =
-          let here : k ≡ length done = same ∙ sym counted in
-          record {
-            list = done ++ left;
-            are = all_are;
-            within = taken_within done others (done ++ left) o k seam here;
-            cached = λ s cached. subst (λ (v : List ObservationData).
-                IsCached (v ++ s) after.floor after.items)
-                (sym (taken_is done left (done ++ left) k refl here)) (held.cached s cached);
-            unheld = λ p is has. unheld (subst (Has after.items)
-                (some_same p o (sym is ∙ seam_at done others (done ++ left) o k seam here)) has);
-          }
-        where
-          some_same : (p q : ObservationData) → Some p ≡ Some q → p ≡ q
-          some_same p q e = cc
+-- a cache took some of a list in, and these are left of those that it did not hold
+pub record IsUnderway (before mid : CacheData) (list : List ObservationData)
+    (unheld : List (ℕ × ObservationData)) : Type 0 where
+  pub done : List ObservationData
+  pub back : List ObservationData
+  pub whole : list ≡ done ++ back
+  pub taken : HasTaken before mid done
+  pub left : AreUnheld before (length done) back unheld
+
+-- the next one of those
+module _ (before mid : CacheData) (list : List ObservationData)
+    (next : ℕ × ObservationData) (others : List (ℕ × ObservationData))
+    (way : IsUnderway before mid list (next ∷ others)) where
+  abbrev is : IsFirstUnheld before (length way.done) way.back next.0 next.1 way.left.0
+  is = way.left.1
+
+  abbrev passed : List ObservationData
+  passed = way.done ++ way.left.1.held
+
+  seam : list ≡ passed ++ next.1 ∷ way.left.0
+  seam = way.whole ∙ (ap (λ (v : List ObservationData). way.done ++ v) is.split
+      ∙ sym (append_assoc way.done is.held (next.1 ∷ way.left.0)))
+
+  taken : HasTaken before mid passed
+  taken = record {
+    cached = λ s cached. subst (λ (v : List ObservationData). IsCached v mid.floor mid.items)
+        (sym (append_assoc way.done is.held s))
+        (way.taken.cached (is.held ++ s) (is.known s cached));
+    floor = way.taken.floor;
+  }
+
+  placed : next.0 ≡ length passed
+  placed = omega (arith, is.placed, length-append way.done is.held)
+
+  pub stops_there : (after : CacheData) → after ≡ mid → (Has after.items next.1 → ⊥)
+      → TakesFirstOf list before after next.0
+  stops_there after same unheld = record {
+    within = taken_within passed way.left.0 list next.1 next.0 seam placed;
+    cached = λ s cached. subst (λ (v : List ObservationData).
+        IsCached (v ++ s) after.floor after.items)
+        (sym (taken_is passed (next.1 ∷ way.left.0) list next.0 seam placed))
+        (subst (λ (v : CacheData). IsCached (passed ++ s) v.floor v.items) (sym same)
+        (taken.cached s cached));
+    unheld = λ p at has. unheld (subst (Has after.items)
+        (some_same p next.1 (sym at ∙ seam_at passed way.left.0 list next.1 next.0 seam placed))
+        has);
+  }
+    where
+      some_same : (p q : ObservationData) → Some p ≡ Some q → p ≡ q
+      some_same p q e = cc
+
+  pub goes_on : (after : CacheData) → ((s : List ObservationData)
+      → IsCached s mid.floor mid.items → IsCached (next.1 ∷ s) after.floor after.items)
+      → after.floor ≡ mid.floor → IsUnderway before after list others
+  goes_on after one same = record {
+    done = passed ++ next.1 ∷ [];
+    back = way.left.0;
+    whole = seam ∙ sym (append_assoc passed (next.1 ∷ []) way.left.0);
+    taken = taken_more before mid after passed next.1 taken one same;
+    left = subst (λ (n : ℕ). AreUnheld before n way.left.0 others)
+        (omega (arith, placed, length-append passed (next.1 ∷ []))) way.left.2;
+  }
+
+-- where none is left, all were taken
+pub all_taken : (before mid : CacheData) (list : List ObservationData)
+    → IsUnderway before mid list [] → Takes before mid list
+all_taken before mid list way s cached =
+    subst (λ (v : List ObservationData). IsCached v mid.floor mid.items)
+    (sym (append_assoc way.done way.back s)
+    ∙ ap (λ (v : List ObservationData). v ++ s) (sym way.whole))
+    (way.taken.cached (way.back ++ s) (way.left s cached))

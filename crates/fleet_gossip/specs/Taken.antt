@@ -1,6 +1,6 @@
 -- What a cache takes of a frame.
 -- Serves `take_frame`.
-use Rattle.std.specs.Prelude.{◌≡◌, ℕ, ◌<◌, ◌++◌, length, take, slice_get, Some}
+use Rattle.std.specs.Prelude.{◌≡◌, ℕ, ◌<◌, ◌⊎◌, ◌++◌, length, take, slice_get, Some}
 use Rattle.fleet_name.specs.Types.{OctetList}
 use Rattle.fleet_observe.specs.Members.{Has}
 use Rattle.fleet_observe.specs.Observation.{ObservationData, Observations}
@@ -23,6 +23,15 @@ pub record TakesFrame (octets : OctetList) (before after : CacheData) (count : �
   pub counted : count ≡ length list
   pub cached : Takes before after list
 
+-- the octets are the frame of a list, the cache doesn't hold one of it, and it took none in: it is
+-- as it was
+pub record TakesNone (octets : OctetList) (before after : CacheData) (taken : ℕ) : Type 0 where
+  pub list : Observations
+  pub spelled : SpellsFrame octets list
+  pub none : taken ≡ 0
+  pub same : after ≡ before
+  pub unheld : (o : ObservationData) × Has list o × ¬ Has before.items o
+
 -- the octets are the frame of a list, and the cache took its first `taken` observations in; it
 -- doesn't hold the next one
 pub record TakesFirst (octets : OctetList) (before after : CacheData) (taken : ℕ) : Type 0 where
@@ -42,4 +51,5 @@ pub record RefusesFrame (octets : OctetList) (before after : CacheData) (f : Fra
 -- why a frame was not taken whole
 abbrev pub StopsAt : OctetList → CacheData → CacheData → TakeFault → Type 0
 StopsAt octets before after (Refused f) = RefusesFrame octets before after f
-StopsAt octets before after (OutOfMemory taken) = TakesFirst octets before after taken
+StopsAt octets before after (OutOfMemory taken) =
+    TakesNone octets before after taken ⊎ TakesFirst octets before after taken

@@ -1,20 +1,17 @@
 //! Taking the observations of a frame into a cache.
 
-ghost use Rattle.std.specs.Prelude.{◌≡◌, ◌∷◌, MatchResult, OnOk, OnErr};
-ghost use Rattle.fleet_observe.specs.Members.{Has};
-ghost use Rattle.fleet_observe.specs.Observation.{ObservationData, Observations};
-ghost use Rattle.fleet_cache.specs.Cached.{IsCached};
-ghost use Rattle.fleet_gossip.specs.Taken.{TakesFrame, StopsAt};
-ghost use Rattle.fleet_gossip.specs.steps.EntryOf.{IsEntryOf};
+ghost use Rattle.std.specs.Prelude.{◌≡◌, MatchResult, IfOk, OnErr};
+ghost use Rattle.fleet_observe.specs.Observation.{Observations};
+ghost use Rattle.fleet_gossip.specs.Taken.{Takes, TakesFrame, StopsAt};
 ghost use Rattle.fleet_gossip.specs.steps.Reading.{AreEntryOctets};
-ghost use Rattle.fleet_gossip.specs.steps.Taking.{TakesEntries, TakesFirstEntries};
+ghost use Rattle.fleet_gossip.specs.steps.Taking.{AreUnheld, FindsUnheld, HasUnheld, TakesFirstOf};
 
-use crate::entry::FrameEntry;
 use crate::fault::FrameFault;
 use crate::frame::{Entries, read_frame};
 use crate::known::read_known_entry;
 use crate::reader::Reader;
-use fleet_cache::{Cache, Stopped};
+use fleet_cache::Cache;
+use fleet_observe::Observation;
 use std::alloc::{AllocError, Allocator};
 use thiserror::Error;
 
@@ -24,7 +21,8 @@ pub enum TakeFault {
     /// It is refused, for the first fault as its octets are read in order. Nothing was taken.
     #[error("{0}")]
     Refused(FrameFault),
-    /// An allocation failed for an observation. Those before it were taken.
+    /// An allocation failed: for the observations, before any was taken, or for one that the cache
+    /// was to hold. Those before it were taken.
     #[error("out of memory after {taken} observations")]
     OutOfMemory {
         /// The number of observations that were taken: exactly the first ones, in their order.
@@ -32,52 +30,45 @@ pub enum TakeFault {
     },
 }
 
-/// Takes the observation of an entry in, as `Cache::take` does. Where the cache holds it, nothing is
-/// allocated. `Err` where an allocation fails, and nothing changes.
-fn take_entry<A: Allocator + Copy>(
+/// The observations of those lawful entries that a cache does not hold, each with the place of its
+/// entry, from 0 on. For those that it holds nothing is allocated. `Err` where an allocation fails.
+fn to_unheld<A: Allocator + Copy>(
     alloc: A,
-    cache: &mut Cache<A>,
-    entry: &FrameEntry<'_>,
-) -> Result<(), AllocError>
-    requires { (o : ObservationData) × IsEntryOf entry.now o }
-    ensures taken { (o : ObservationData) (s : Observations) → IsEntryOf entry.now o
-        → IsCached s cache.old.floor cache.old.items
-        → OnOk result (IsCached (o ∷ s) cache.new.floor cache.new.items) }
-    ensures unheld { (o : ObservationData) → IsEntryOf entry.now o
-        → OnErr result (¬ Has cache.old.items o) }
-    ensures floor { cache.new.floor ≡ cache.old.floor }
-    ensures err { OnErr result (cache.new ≡ cache.old) }
-{
-    if cache.holds(&entry.lent()) {
-        return Ok(());
-    }
-    let observation = entry.to_observation(alloc)?;
-    cache.take(observation)?;
-    Ok(())
-}
-
-/// Takes the observations of lawful entries in, one after the other. `Err` says how many were taken
-/// before an allocation failed.
-fn take_entries<A: Allocator + Copy>(
-    alloc: A,
-    cache: &mut Cache<A>,
+    cache: &Cache<A>,
     entries: &Entries<'_>,
-) -> Result<(), Stopped>
+) -> Result<Vec<(u16, Observation<A>), A>, AllocError>
     requires { AreEntryOctets entries.now.octets.now entries.now.version entries.now.count }
-    ensures taken { MatchResult result
-        (λ _. TakesEntries entries.now.octets.now entries.now.version entries.now.count cache.old
-        cache.new)
-        (λ e. TakesFirstEntries entries.now.octets.now entries.now.version entries.now.count
-        cache.old cache.new e.taken) }
-    ensures floor { cache.new.floor ≡ cache.old.floor }
+    ensures found { IfOk result (λ v. FindsUnheld entries.now.octets.now entries.now.version
+        entries.now.count cache.now v.items) }
+    ensures memory { OnErr result (HasUnheld entries.now.octets.now entries.now.version
+        entries.now.count cache.now) }
 {
     let mut reader = Reader::new(entries.octets);
-    for taken in 0..entries.count {
+    let mut unheld = Vec::new(alloc);
+    for place in 0..entries.count {
         let entry = read_known_entry(&mut reader, entries.version);
-        if take_entry(alloc, cache, &entry).is_err() {
-            return Err(Stopped {
-                taken: usize::from(taken),
-            });
+        if !cache.holds(&entry.lent()) {
+            unheld.reserve(usize::from(entries.count - place))?;
+            unheld.push((place, entry.to_observation(alloc)?))?;
+        }
+    }
+    Ok(unheld)
+}
+
+/// Takes observations in, in their order. `Err` is the place of the first one that an allocation
+/// failed for; those before it were taken.
+fn take_unheld<A: Allocator + Copy>(
+    cache: &mut Cache<A>,
+    unheld: Vec<(u16, Observation<A>), A>,
+) -> Result<(), u16>
+    ensures taken { (list : Observations) → AreUnheld cache.old 0 list unheld.items
+        → MatchResult result (λ _. Takes cache.old cache.new list)
+        (TakesFirstOf list cache.old cache.new) }
+    ensures floor { cache.new.floor ≡ cache.old.floor }
+{
+    for (place, observation) in unheld {
+        if cache.take(observation).is_err() {
+            return Err(place);
         }
     }
     Ok(())
@@ -87,7 +78,8 @@ fn take_entries<A: Allocator + Copy>(
 ///
 /// All octets are checked first, as `decode` does; where they are no frame, nothing is taken. An
 /// observation that the cache holds already is compared in place, and nothing is allocated for it.
-/// `OutOfMemory` comes only where an allocation failed, so never at an observation that is held.
+/// All others are made before the first is taken, so that where memory fails for one of them, the
+/// cache is as it was. `OutOfMemory` comes only of a frame with an observation that is not held.
 pub fn take_frame<A: Allocator + Copy>(
     alloc: A,
     cache: &mut Cache<A>,
@@ -101,10 +93,13 @@ pub fn take_frame<A: Allocator + Copy>(
         Ok(entries) => entries,
         Err(fault) => return Err(TakeFault::Refused(fault)),
     };
-    match take_entries(alloc, cache, &entries) {
+    let Ok(unheld) = to_unheld(alloc, cache, &entries) else {
+        return Err(TakeFault::OutOfMemory { taken: 0 });
+    };
+    match take_unheld(cache, unheld) {
         Ok(()) => Ok(usize::from(entries.count)),
-        Err(stopped) => Err(TakeFault::OutOfMemory {
-            taken: stopped.taken,
+        Err(place) => Err(TakeFault::OutOfMemory {
+            taken: usize::from(place),
         }),
     }
 }

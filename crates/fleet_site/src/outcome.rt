@@ -54,8 +54,8 @@ pub enum Refusal {
     /// Too many questions are open, or too many wait for this one.
     #[error("full")]
     Full,
-    /// It has fewer than 12 octets, or it is a reply that no upstream sent, or a question that an
-    /// upstream sent.
+    /// It has fewer than 12 octets, or it is a question that an upstream sent, or a reply that no
+    /// upstream sent. What a peer sends is read as a frame, and is never dropped.
     #[error("dropped")]
     Dropped,
 }

@@ -9,6 +9,7 @@ mod runs;
 mod scripts;
 mod served;
 mod sites;
+mod taken;
 
 use crate::LineFault;
 use crate::fleet::Fleet;

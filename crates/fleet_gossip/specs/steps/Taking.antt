@@ -1,6 +1,6 @@
--- How far the entries of a frame are taken.
+-- Which observations of a frame are made, and how far they are taken.
 -- Serves `take_frame`.
-use Rattle.std.specs.Prelude.{◌≡◌, ℕ, ◌<◌, [], length, take, slice_get, Some}
+use Rattle.std.specs.Prelude.{◌≡◌, ℕ, suc, ◌+◌, ◌<◌, List, [], ◌∷◌, ◌++◌, length, take, slice_get, Some}
 use Rattle.fleet_name.specs.Types.{OctetList}
 use Rattle.fleet_observe.specs.Members.{Has}
 use Rattle.fleet_observe.specs.Observation.{ObservationData, Observations}
@@ -8,18 +8,37 @@ use Rattle.fleet_cache.specs.Cached.{CacheData}
 use Rattle.fleet_gossip.specs.Taken.{Takes}
 use Rattle.fleet_gossip.specs.steps.Reading.{BeginsWithEntries}
 
--- the cache took all entries in
-pub record TakesEntries (octets : OctetList) (version count : ℕ) (before after : CacheData)
-    : Type 0 where
-  pub list : Observations
-  pub are : BeginsWithEntries octets version count list []
-  pub cached : Takes before after list
+-- the first one of a list that a cache doesn't hold, and its place, where the list begins at a
+-- place: those before it need not be taken in
+pub record IsFirstUnheld (cache : CacheData) (at : ℕ) (list : Observations) (place : ℕ)
+    (o : ObservationData) (rest : Observations) : Type 0 where
+  pub held : Observations
+  pub split : list ≡ held ++ o ∷ rest
+  pub known : Takes cache cache held
+  pub placed : place ≡ at + length held
+  pub unheld : ¬ Has cache.items o
 
--- the cache took the first `taken` entries in, and doesn't hold the next one
-pub record TakesFirstEntries (octets : OctetList) (version count : ℕ) (before after : CacheData)
-    (taken : ℕ) : Type 0 where
+-- those of a list that a cache doesn't hold, each with its place: the others need not be taken in
+abbrev pub AreUnheld : CacheData → ℕ → Observations → List (ℕ × ObservationData) → Type 0
+AreUnheld cache at list [] = Takes cache cache list
+AreUnheld cache at list (first ∷ others) = (rest : Observations)
+    × IsFirstUnheld cache at list first.0 first.1 rest × AreUnheld cache (suc first.0) rest others
+
+-- those of the entries that a cache doesn't hold
+pub record FindsUnheld (octets : OctetList) (version count : ℕ) (cache : CacheData)
+    (unheld : List (ℕ × ObservationData)) : Type 0 where
   pub list : Observations
   pub are : BeginsWithEntries octets version count list []
+  pub found : AreUnheld cache 0 list unheld
+
+-- there is an entry that a cache doesn't hold
+pub record HasUnheld (octets : OctetList) (version count : ℕ) (cache : CacheData) : Type 0 where
+  pub list : Observations
+  pub are : BeginsWithEntries octets version count list []
+  pub unheld : (o : ObservationData) × Has list o × ¬ Has cache.items o
+
+-- the cache took the first `taken` of a list in, and doesn't hold the next one
+pub record TakesFirstOf (list : Observations) (before after : CacheData) (taken : ℕ) : Type 0 where
   pub within : taken < length list
   pub cached : Takes before after (take taken list)
   pub unheld : (o : ObservationData) → slice_get list taken ≡ Some o → ¬ Has after.items o

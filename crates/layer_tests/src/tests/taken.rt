@@ -41,7 +41,8 @@ fn rest_of<'a>(
     all
 }
 
-/// What is held is taken again where nothing is left of the heap, and what is not held is not.
+/// What is held is taken again where nothing is left of the heap, and of a frame with something else
+/// nothing is taken.
 fn check_full<'a>(
     rt: &impl Abort,
     global: Global,
@@ -53,7 +54,7 @@ fn check_full<'a>(
     assert_eq!(rt; take(rt, global, heap, cache, DENIED), Ok(2));
     assert_eq!(rt;
         take(rt, global, heap, cache, TWO),
-        Err(TakeFault::OutOfMemory { taken: 1 })
+        Err(TakeFault::OutOfMemory { taken: 0 })
     );
     assert_eq!(rt; cache.len(), 2);
 }

@@ -1,5 +1,6 @@
-use Rattle.std.proofs.Common.{refl}
+use Rattle.std.proofs.Common.{inr, refl, sym, ◌∙◌}
 use Rattle.fleet_gossip.proofs.Frames.{list_or_fault}
+use Rattle.fleet_gossip.proofs.FrameSteps.{spells_frame}
 use Rattle.fleet_gossip.proofs.take.take_frame.Goals as goal
 
 pub returns-in-Err-clause-taken : goal.returns-in-Err-clause-taken
@@ -8,3 +9,25 @@ returns-in-Err-clause-taken g c = record {
   unspelled = λ list is. list_or_fault c.args.octets.now list c.in-Err.fault is c.in-Err.ensures;
   same = refl;
 }
+
+pub returns-in-Ok-take_unheld-clause-taken : goal.returns-in-Ok-take_unheld-clause-taken
+returns-in-Ok-take_unheld-clause-taken g c =
+    let of = c.in-Ok.ensures in let found = c.in-Ok-to_unheld.ensures.found in
+    record {
+      list = found.list;
+      spelled = spells_frame _ _ _ _ found.list of.opened of.fits found.are;
+      counted = c.from.ensures ∙ sym found.are.counted;
+      cached = c.in-Ok-take_unheld.ensures.taken found.list found.found;
+    }
+
+pub returns-in-Err-take_unheld-clause-taken : goal.returns-in-Err-take_unheld-clause-taken
+returns-in-Err-take_unheld-clause-taken g c =
+    let of = c.in-Ok.ensures in let found = c.in-Ok-to_unheld.ensures.found in
+    let first = c.in-Err-take_unheld.ensures.taken found.list found.found in
+    rw c.from-in-Err-take_unheld.ensures (inr (record {
+      list = found.list;
+      spelled = spells_frame _ _ _ _ found.list of.opened of.fits found.are;
+      within = first.within;
+      cached = first.cached;
+      unheld = first.unheld;
+    }))

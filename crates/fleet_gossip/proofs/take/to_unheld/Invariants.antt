@@ -2,18 +2,18 @@ use Rattle.std.proofs.Common.{◌≡◌, ◌+◌, ◌++◌, List, length}
 use Rattle.fleet_observe.specs.Observation.{ObservationData}
 use Rattle.fleet_gossip.specs.Entry.{AreIn}
 use Rattle.fleet_gossip.specs.Frame.{entries}
-use Rattle.fleet_cache.proofs.Lemmas.{HasTaken}
-use Rattle.fleet_gossip.proofs.take.take_entries.Given as goal
+use Rattle.fleet_gossip.specs.steps.Taking.{AreUnheld}
+use Rattle.fleet_gossip.proofs.take.to_unheld.Given as goal
 
-abbrev pub invariant-loop-taken : goal.invariant-loop-taken
-invariant-loop-taken g l = record {
+abbrev pub invariant-loop-place : goal.invariant-loop-place
+invariant-loop-place g l = record {
   done : List ObservationData;
   left : List ObservationData;
   lawful : AreIn l.entries.version (done ++ left);
   lawful_left : AreIn l.entries.version left;
   whole : l.reader ≡ entries left;
   octets : l.entries.octets.now ≡ entries (done ++ left);
-  counted : length done ≡ l.taken;
-  all : l.taken + length left ≡ l.entries.count;
-  held : HasTaken l.fn.cache l.cache done;
+  counted : length done ≡ l.place;
+  all : l.place + length left ≡ l.entries.count;
+  found : AreUnheld l.cache 0 done l.unheld.items;
 }

@@ -1,0 +1,91 @@
+use Rattle.std.proofs.Common.{◌++◌, ◌∷◌, [], List, length, refl, ap, ◌∙◌, subst, arith, length-append}
+use Rattle.std.proofs.lemmas.List.{append-nil}
+use mathlib.Core.Bool.{false≢true}
+use Rattle.fleet_observe.specs.Observation.{ObservationData}
+use Rattle.fleet_gossip.specs.Entry.{AreIn}
+use Rattle.fleet_gossip.specs.Frame.{entries}
+use Rattle.fleet_gossip.proofs.FrameSteps.{next_of, next_lawful}
+use Rattle.fleet_gossip.proofs.Passing.{next_there}
+use Rattle.fleet_gossip.proofs.Taking.{one_over, held_more, unheld_more, finds_all, finds_one, on_err}
+use Rattle.fleet_gossip.proofs.take.to_unheld.Goals as goal
+use Rattle.fleet_gossip.proofs.take.to_unheld.Goals.{then-not-holds+in_ok-reserve+in_ok-to_observation+in_ok-push, else-not-holds}
+
+pub loop-place-init : goal.loop-place-init
+loop-place-init g c = record {
+  done = [];
+  left = c.requires.list;
+  lawful = c.requires.are.lawful;
+  lawful_left = c.requires.are.lawful;
+  whole = c.new-reader.ensures ∙ (c.requires.are.whole ∙ append-nil (entries c.requires.list));
+  octets = c.requires.are.whole ∙ append-nil (entries c.requires.list);
+  counted = refl;
+  all = omega (arith, c.requires.are.counted);
+  found = rw c.new-unheld.ensures.items (λ s cached. cached);
+}
+
+pub read_known_entry-entry-requires : goal.read_known_entry-entry-requires
+read_known_entry-entry-requires g c =
+    let i = c.loop-place.invariant in
+    next_there _ i.left _ i.lawful_left i.whole (omega (arith, i.all, c.loop-place-test.true))
+
+pub returns-in_err-reserve-clause-memory : goal.returns-in_err-reserve-clause-memory
+returns-in_err-reserve-clause-memory g c =
+    let i = c.loop-place.invariant in
+    let read = c.read_known_entry-entry.ensures in
+    let next = next_of _ i.left _ read.0 _ i.lawful_left i.whole
+    (omega (arith, i.all, c.loop-place-test.true)) read.1.lawful read.3 in
+    on_err c.from_residual.result (finds_one _ _ _ c.loop-place.place i.done i.left i.lawful
+    i.octets i.counted i.all c.args.cache.now read.0 next.others next.left_is
+    (λ has. false≢true (c.if-not-holds.ensures.items read.0 (c.lent.ensures read.0 read.1) has)))
+
+pub returns-in_err-to_observation-clause-memory : goal.returns-in_err-to_observation-clause-memory
+returns-in_err-to_observation-clause-memory g c =
+    let i = c.loop-place.invariant in
+    let read = c.read_known_entry-entry.ensures in
+    let next = next_of _ i.left _ read.0 _ i.lawful_left i.whole
+    (omega (arith, i.all, c.loop-place-test.true)) read.1.lawful read.3 in
+    on_err c.from_residual-in_err-to_observation.result (finds_one _ _ _ c.loop-place.place i.done
+    i.left i.lawful i.octets i.counted i.all c.args.cache.now read.0 next.others next.left_is
+    (λ has. false≢true (c.if-not-holds.ensures.items read.0 (c.lent.ensures read.0 read.1) has)))
+
+pub loop-place-preserved : goal.loop-place-preserved
+loop-place-preserved g c =
+    let i = c.loop-place.invariant in
+    let read = c.read_known_entry-entry.ensures in
+    let next = next_of _ i.left _ read.0 _ i.lawful_left i.whole
+    (omega (arith, i.all, c.loop-place-test.true)) read.1.lawful read.3 in
+    let over = one_over i.done i.left next.others read.0 next.left_is in
+    record {
+      done = i.done ++ read.0 ∷ [];
+      left = next.others;
+      lawful = subst (λ (v : List ObservationData). AreIn c.args.entries.now.version v) over
+          i.lawful;
+      lawful_left = next_lawful _ i.left read.0 next.others next.left_is i.lawful_left;
+      whole = next.rest_is;
+      octets = i.octets ∙ ap entries over;
+      counted = omega (arith, i.counted, length-append i.done (read.0 ∷ []));
+      all = omega (arith, i.all, ap length next.left_is);
+      found = elim c.if-not-holds.branch [
+        | then-not-holds+in_ok-reserve+in_ok-to_observation+in_ok-push w ↦
+            rw (
+              w.unheld-is,
+              w.in_ok-push.ensures.items,
+              w.in_ok-reserve.ensures.items,
+              w.in_ok-to_observation.ensures read.0 read.1,
+            )
+            (unheld_more c.args.cache.now read.0 0 i.done c.loop-place.unheld.items
+            c.loop-place.place i.found (omega (arith, i.counted))
+            (λ has. false≢true (w.if-not-holds.ensures.items read.0 (c.lent.ensures read.0 read.1)
+            has)))
+        | else-not-holds w ↦ rw w.unheld-is
+            (held_more c.args.cache.now read.0 0 i.done c.loop-place.unheld.items i.found
+            (λ s cached. w.if-not-holds.ensures.taken read.0 s (c.lent.ensures read.0 read.1) refl
+            cached))
+      ];
+    }
+
+pub returns-clause-found : goal.returns-clause-found
+returns-clause-found g c =
+    let i = c.loop-place.invariant in
+    finds_all _ _ _ c.loop-place.place i.done i.left i.lawful i.octets i.counted i.all
+    c.args.cache.now c.loop-place.unheld.items i.found c.loop-place-test.false
