@@ -33,7 +33,7 @@ struct Fleet {
     digest: Digest,
 }
 
-/// The moment so many seconds after the first.
+/// The moment that is `seconds` after the first.
 fn moment_after(seconds: u64) -> anyhow::Result<Moment> {
     match Moment::new(START.saturating_add(seconds)) {
         Some(moment) => Ok(moment),
@@ -149,7 +149,7 @@ impl Fleet {
     }
 }
 
-/// Sites learn the replies of so many names, and then a tenth as many between two sweeps.
+/// Sites learn the replies of `count` names, and then a tenth as many between two sweeps.
 pub fn gossip(alloc: Global, seed: u32, count: u32) -> anyhow::Result<Digest> {
     let mut fleet = Fleet::new(alloc, seed)?;
     fleet.learn(0, count)?;

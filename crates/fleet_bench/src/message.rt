@@ -57,7 +57,7 @@ impl Message {
         self.push(&number.to_be_bytes())
     }
 
-    /// Adds what stands between the owner of a record of class 1 (IN) and its RDATA.
+    /// Adds what lies between the owner of a record of class 1 (IN) and its RDATA.
     pub fn push_fixed(&mut self, rtype: u16, ttl: u32, count: u16) -> Result<(), AllocError> {
         self.push_short(rtype)?;
         self.push_short(1)?;

@@ -249,7 +249,7 @@ pub struct Turns {
 }
 
 impl Turns {
-    /// One that counts so many turns to a second.
+    /// One that counts `per_second` turns to a second.
     pub fn new(per_second: u32) -> Turns {
         Turns {
             per_second: per_second.max(1),

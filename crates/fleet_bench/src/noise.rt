@@ -22,7 +22,7 @@ impl Noise {
         self.words.next_word()
     }
 
-    /// Whether a chance of so many in a hundred comes about.
+    /// Whether a chance of `percent` in a hundred comes about.
     pub fn chance(&mut self, percent: u32) -> bool {
         self.word() % 100 < percent
     }

@@ -50,7 +50,7 @@ pub fn config(alloc: Global) -> anyhow::Result<Config> {
     }
 }
 
-/// Serves so many turns, and gives the digest of what was sent and counted.
+/// Serves `turns` turns, and returns the digest of what was sent and counted.
 pub fn serve_turns(
     alloc: Global,
     traffic: &Traffic,

@@ -88,7 +88,7 @@ fn ttl_of(word: u64) -> u32 {
     }
 }
 
-/// Adds so many syllables, which spell the number by its digits to the base 100.
+/// Adds `count` syllables, which spell the number by its digits to the base 100.
 fn push_syllables(message: &mut Message, number: u64, count: u8) -> Result<(), AllocError> {
     let mut rest = number;
     for _ in 0..count {
@@ -183,7 +183,7 @@ impl Zone {
         Ok(message.into_octets())
     }
 
-    /// Adds so many records of a name with octets that are all its own.
+    /// Adds `count` records of a name with octets that are all its own.
     fn push_addresses(
         self,
         message: &mut Message,
