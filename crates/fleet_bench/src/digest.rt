@@ -1,5 +1,7 @@
 //! A digest of what came out of a job.
 
+use fleet_pending::Addr;
+
 /// An odd number with its bits well spread (2^64 divided by the golden ratio).
 const FACTOR: u64 = 0x9e37_79b9_7f4a_7c15;
 
@@ -38,5 +40,11 @@ impl Digest {
             self.add(u64::from(*octet));
         }
         self.add(octets.len() as u64);
+    }
+
+    /// Adds a datagram: where it goes, and its octets.
+    pub fn add_datagram(&mut self, to: Addr, octets: &[u8]) {
+        self.add(u64::from(to.host) ^ (u64::from(to.port) << 32));
+        self.add_octets(octets);
     }
 }

@@ -2,6 +2,7 @@
 
 use crate::digest::Digest;
 use crate::noise::Noise;
+use crate::refusal::refusal_number;
 use crate::serving::config;
 use crate::zone::Zone;
 use fleet_name::Octets;
@@ -62,14 +63,31 @@ impl Fleet {
         })
     }
 
-    /// One event, with its counts in the digest.
+    /// One event, with all that it did in the digest.
     fn step(&mut self, event: &Event) -> anyhow::Result<Stepped> {
         match self.world.step(event) {
             Ok(stepped) => {
-                self.digest.add(stepped.taken as u64);
+                self.note(&stepped);
                 Ok(stepped)
             }
             Err(_) => Err(anyhow::anyhow!("an event")),
+        }
+    }
+
+    /// Adds what an event did to the digest.
+    fn note(&mut self, stepped: &Stepped) {
+        self.digest.add(stepped.taken as u64);
+        self.digest.add(refusal_number(stepped.refused));
+        self.digest.add(u64::from(stepped.more));
+        self.digest.add(stepped.packets.len() as u64);
+        for packet in stepped.packets.as_slice() {
+            self.digest.add_datagram(packet.to, packet.bytes.as_slice());
+        }
+        self.digest.add(stepped.frames.len() as u64);
+        for number in stepped.frames.as_slice() {
+            if let Some(octets) = self.world.frame(*number) {
+                self.digest.add_octets(octets);
+            }
         }
     }
 
@@ -92,14 +110,20 @@ impl Fleet {
     fn sweep(&mut self, site: usize, sent: &mut Vec<(usize, usize)>) -> anyhow::Result<()> {
         let stepped = self.step(&Event::Sweep { site })?;
         for number in stepped.frames.as_slice() {
-            if let Some(octets) = self.world.frame(*number) {
-                self.digest.add_octets(octets);
-            }
             for step in 1..SITES {
                 sent.push((site.wrapping_add(step) % SITES, *number))?;
             }
         }
         Ok(())
+    }
+
+    /// All sites sweep: gives where each of their frames is sent to.
+    fn sweep_all(&mut self) -> anyhow::Result<Vec<(usize, usize)>> {
+        let mut sent = Vec::new(self.alloc);
+        for site in 0..SITES {
+            self.sweep(site, &mut sent)?;
+        }
+        Ok(sent)
     }
 
     /// Frames come to sites in any order: some never, some twice.
@@ -130,13 +154,21 @@ impl Fleet {
                 let number = self.noise.popular(names);
                 let question = self.zone.question(Vec::new(self.alloc), number, id)?;
                 match self.world.ask(site, self.now, &question) {
-                    Ok(Looked::Reply(octets)) => self.digest.add_octets(octets.as_slice()),
-                    Ok(_) => self.digest.add(1),
+                    Ok(looked) => self.note_looked(&looked),
                     Err(_) => return Err(anyhow::anyhow!("a question")),
                 }
             }
         }
         Ok(())
+    }
+
+    /// Adds what a question gave to the digest.
+    fn note_looked(&mut self, looked: &Looked) {
+        match looked {
+            Looked::Reply(octets) => self.digest.add_octets(octets.as_slice()),
+            Looked::Miss => self.digest.add(1),
+            Looked::Dropped => self.digest.add(2),
+        }
     }
 
     /// What ended is dropped.
@@ -149,7 +181,8 @@ impl Fleet {
     }
 }
 
-/// Sites learn the replies of `count` names, and then a tenth as many between two sweeps.
+/// Sites learn the replies of `count` names, and then a tenth as many between two sweeps. What
+/// they hold at last is in the frames of one more sweep of each.
 pub fn gossip(alloc: Global, seed: u32, count: u32) -> anyhow::Result<Digest> {
     let mut fleet = Fleet::new(alloc, seed)?;
     fleet.learn(0, count)?;
@@ -159,12 +192,10 @@ pub fn gossip(alloc: Global, seed: u32, count: u32) -> anyhow::Result<Digest> {
         fleet.tick()?;
         fleet.learn(names, count / 10)?;
         names = names.wrapping_add(count / 10);
-        let mut sent = Vec::new(alloc);
-        for site in 0..SITES {
-            fleet.sweep(site, &mut sent)?;
-        }
+        let sent = fleet.sweep_all()?;
         fleet.deliver(sent)?;
         fleet.ask(names)?;
     }
+    let _ = fleet.sweep_all()?;
     Ok(fleet.digest)
 }

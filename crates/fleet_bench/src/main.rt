@@ -17,6 +17,7 @@ mod gossip;
 mod message;
 mod network;
 mod noise;
+mod refusal;
 mod serving;
 mod zone;
 

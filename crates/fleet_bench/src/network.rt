@@ -227,9 +227,7 @@ impl Port for Network {
             (send_of result (record { to = to; octets = bytes.now }) ∷ []) None }
         ensures failed { 0 ≡ failures_after result 0 }
     {
-        self.digest
-            .add(u64::from(to.host) ^ (u64::from(to.port) << 32));
-        self.digest.add_octets(bytes);
+        self.digest.add_datagram(to, bytes);
         if to.host == UPSTREAM {
             self.owe(to, id_of(bytes));
         }
