@@ -5,9 +5,10 @@ use crate::noise::Noise;
 use crate::refusal::refusal_number;
 use crate::serving::config;
 use crate::zone::Zone;
-use fleet_name::Octets;
+use fleet_name::{Name, Octets};
 use fleet_observe::Moment;
 use fleet_site::Looked;
+use fleet_wire::{Question, read_query};
 use fleet_world::{Event, Stepped, World};
 use std::alloc::Global;
 
@@ -18,15 +19,29 @@ const SITES: usize = 3;
 const ROUNDS: u32 = 4;
 
 /// Seconds between two sweeps.
-const EVERY: u64 = 30;
+pub const EVERY: u64 = 30;
 
 /// The first moment.
 const START: u64 = 1_000_000;
+
+/// What a fleet goes through.
+#[derive(Clone, Copy)]
+pub struct Plan {
+    /// How many domains of a hundred have names of more than 32 octets.
+    pub long: u32,
+    /// How many of the seconds before a sweep have a tick.
+    pub ticks: u64,
+    /// How many domains are flushed before a sweep.
+    pub flushes: u32,
+    /// How many questions each site gets after a sweep.
+    pub questions: u32,
+}
 
 /// A fleet, and what came out of it.
 #[derive(Drop)]
 struct Fleet {
     alloc: Global,
+    plan: Plan,
     zone: Zone,
     world: World,
     noise: Noise,
@@ -43,7 +58,8 @@ fn moment_after(seconds: u64) -> anyhow::Result<Moment> {
 }
 
 impl Fleet {
-    fn new(alloc: Global, seed: u32) -> anyhow::Result<Fleet> {
+    /// One of this seed that goes through a plan.
+    fn new(alloc: Global, plan: &Plan, seed: u32) -> anyhow::Result<Fleet> {
         let mut configs = Vec::new(alloc);
         for _ in 0..SITES {
             configs.push(config(alloc)?)?;
@@ -52,9 +68,11 @@ impl Fleet {
             seed,
             depth: 0,
             chain: 2,
+            long: plan.long,
         };
         Ok(Fleet {
             alloc,
+            plan: *plan,
             zone,
             world: World::new(alloc, configs)?,
             noise: Noise::new(seed),
@@ -106,9 +124,14 @@ impl Fleet {
         Ok(())
     }
 
-    /// A site sweeps: the numbers of its frames are added.
-    fn sweep(&mut self, site: usize, sent: &mut Vec<(usize, usize)>) -> anyhow::Result<()> {
-        let stepped = self.step(&Event::Sweep { site })?;
+    /// An event at a site: where each of its frames is sent to is added.
+    fn send(
+        &mut self,
+        site: usize,
+        event: &Event,
+        sent: &mut Vec<(usize, usize)>,
+    ) -> anyhow::Result<()> {
+        let stepped = self.step(event)?;
         for number in stepped.frames.as_slice() {
             for step in 1..SITES {
                 sent.push((site.wrapping_add(step) % SITES, *number))?;
@@ -117,13 +140,38 @@ impl Fleet {
         Ok(())
     }
 
-    /// All sites sweep: gives where each of their frames is sent to.
-    fn sweep_all(&mut self) -> anyhow::Result<Vec<(usize, usize)>> {
-        let mut sent = Vec::new(self.alloc);
+    /// All sites sweep: where each of their frames is sent to is added.
+    fn sweep(&mut self, sent: &mut Vec<(usize, usize)>) -> anyhow::Result<()> {
         for site in 0..SITES {
-            self.sweep(site, &mut sent)?;
+            self.send(site, &Event::Sweep { site }, sent)?;
         }
-        Ok(sent)
+        Ok(())
+    }
+
+    /// The domain of a name.
+    fn domain(&self, number: u32) -> anyhow::Result<Name> {
+        let question = self
+            .zone
+            .question(Vec::new(self.alloc), Zone::apex(number), 0)?;
+        match read_query(self.alloc, &question) {
+            Ok((_, Question { name, .. })) => Ok(name),
+            Err(_) => Err(anyhow::anyhow!("a name")),
+        }
+    }
+
+    /// Domains of some names are flushed: where each of the frames is sent to is added.
+    fn flush(&mut self, names: u32, sent: &mut Vec<(usize, usize)>) -> anyhow::Result<()> {
+        for _ in 0..self.plan.flushes {
+            let number = self.noise.popular(names);
+            let site = self.noise.word() as usize % SITES;
+            let event = Event::Flush {
+                site,
+                now: self.now,
+                name: self.domain(number)?,
+            };
+            self.send(site, &event, sent)?;
+        }
+        Ok(())
     }
 
     /// Frames come to sites in any order: some never, some twice.
@@ -150,8 +198,9 @@ impl Fleet {
     /// Each site is asked for some names.
     fn ask(&mut self, names: u32) -> anyhow::Result<()> {
         for site in 0..SITES {
-            for id in 0..2_000u16 {
+            for place in 0..self.plan.questions {
                 let number = self.noise.popular(names);
+                let id = (place % 65_536) as u16;
                 let question = self.zone.question(Vec::new(self.alloc), number, id)?;
                 match self.world.ask(site, self.now, &question) {
                     Ok(looked) => self.note_looked(&looked),
@@ -171,11 +220,14 @@ impl Fleet {
         }
     }
 
-    /// What ended is dropped.
-    fn tick(&mut self) -> anyhow::Result<()> {
-        for site in 0..SITES {
-            let now = self.now;
-            let _ = self.step(&Event::Tick { site, now })?;
+    /// Time passes, from so many seconds after the first moment on: what ended is dropped.
+    fn tick(&mut self, seconds: u64) -> anyhow::Result<()> {
+        for more in 0..self.plan.ticks {
+            self.now = moment_after(seconds.saturating_add(more))?;
+            for site in 0..SITES {
+                let now = self.now;
+                let _ = self.step(&Event::Tick { site, now })?;
+            }
         }
         Ok(())
     }
@@ -183,19 +235,20 @@ impl Fleet {
 
 /// Sites learn the replies of `count` names, and then a tenth as many between two sweeps. What
 /// they hold at last is in the frames of one more sweep of each.
-pub fn gossip(alloc: Global, seed: u32, count: u32) -> anyhow::Result<Digest> {
-    let mut fleet = Fleet::new(alloc, seed)?;
+pub fn gossip(alloc: Global, plan: &Plan, seed: u32, count: u32) -> anyhow::Result<Digest> {
+    let mut fleet = Fleet::new(alloc, plan, seed)?;
     fleet.learn(0, count)?;
     let mut names = count;
     for round in 0..ROUNDS {
-        fleet.now = moment_after(EVERY * u64::from(round))?;
-        fleet.tick()?;
+        fleet.tick(EVERY * u64::from(round))?;
         fleet.learn(names, count / 10)?;
         names = names.wrapping_add(count / 10);
-        let sent = fleet.sweep_all()?;
+        let mut sent = Vec::new(alloc);
+        fleet.flush(names, &mut sent)?;
+        fleet.sweep(&mut sent)?;
         fleet.deliver(sent)?;
         fleet.ask(names)?;
     }
-    let _ = fleet.sweep_all()?;
+    fleet.sweep(&mut Vec::new(alloc))?;
     Ok(fleet.digest)
 }

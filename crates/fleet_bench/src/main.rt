@@ -8,6 +8,9 @@
 //! - `misses`: a server's turns: each question is for a name that was not asked before.
 //! - `gossip`: three sites learn the replies of COUNT names, sweep, and take in what the others
 //!   sent, some of it late, twice or never.
+//! - `mixed`: three sites as in `gossip`, where half of the names have more than 32 octets. Each
+//!   second has a tick, some domains are flushed before each sweep, and after it each site is asked
+//!   as many questions as COUNT.
 //! - `slow`: a server's turns: its first upstream takes long and loses queries, many questions are
 //!   open, names are deep, aliases come in chains, and half of the questions have capital letters.
 #![tactic(auto)]
@@ -22,7 +25,7 @@ mod serving;
 mod zone;
 
 use digest::Digest;
-use gossip::gossip;
+use gossip::{EVERY, Plan, gossip};
 use serving::{Traffic, serve_turns};
 use std::env;
 
@@ -62,6 +65,24 @@ const SLOW: Traffic = Traffic {
     chain: 8,
 };
 
+/// Sites whose names all have at most 32 octets.
+const GOSSIP: Plan = Plan {
+    long: 0,
+    ticks: 1,
+    flushes: 0,
+    questions: 2_000,
+};
+
+/// Sites half of whose names have more than 32 octets, with so many questions after each sweep.
+fn mixed_lengths(questions: u32) -> Plan {
+    Plan {
+        long: 50,
+        ticks: EVERY,
+        flushes: 10,
+        questions,
+    }
+}
+
 /// The number that a word spells.
 fn number(words: &[String], at: usize) -> anyhow::Result<u32> {
     match words.get(at) {
@@ -76,7 +97,8 @@ fn work(rt: &HostRuntime, job: &str, seed: u32, count: u32) -> anyhow::Result<Di
         "hits" => serve_turns(rt.alloc(), &HITS, seed, count),
         "misses" => serve_turns(rt.alloc(), &MISSES, seed, count),
         "slow" => serve_turns(rt.alloc(), &SLOW, seed, count),
-        "gossip" => gossip(rt.alloc(), seed, count),
+        "gossip" => gossip(rt.alloc(), &GOSSIP, seed, count),
+        "mixed" => gossip(rt.alloc(), &mixed_lengths(count), seed, count),
         _ => Err(anyhow::anyhow!("no such job")),
     }
 }

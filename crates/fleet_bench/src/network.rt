@@ -113,6 +113,7 @@ impl Network {
             seed,
             depth: traffic.depth,
             chain: traffic.chain,
+            long: 0,
         };
         let mut slots = Vec::new(alloc);
         let mut octets = Vec::new(alloc);

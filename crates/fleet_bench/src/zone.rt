@@ -47,6 +47,9 @@ pub struct Zone {
     pub depth: u32,
     /// The most aliases of a name, at most 8.
     pub chain: u32,
+    /// How many domains of a hundred have names of more than 32 octets, and so have the servers of
+    /// their aliases.
+    pub long: u32,
 }
 
 /// The lower half of a word.
@@ -108,10 +111,24 @@ fn push_domain_label(message: &mut Message, domain: u32, word: u64) -> Result<()
     push_syllables(message, word >> 8, more)
 }
 
-/// Adds the name of a server of aliases, in 23 octets.
-fn push_edge(message: &mut Message, word: u64) -> Result<(), AllocError> {
-    message.push(b"\x04edge\x08")?;
-    push_syllables(message, word, 4)?;
+/// Adds labels of 19 octets or more in all: a domain has 15 at the least, so with them it has more
+/// than 32.
+fn push_long_labels(message: &mut Message, word: u64) -> Result<(), AllocError> {
+    for place in 0..((word >> 60) % 3) as u32 {
+        let next = mixed(low_half(word), place);
+        let count = 2 + (next % 5) as u8;
+        message.push(&[2 * count])?;
+        push_syllables(message, next >> 8, count)?;
+    }
+    message.push(&[18])?;
+    push_syllables(message, word, 9)
+}
+
+/// Adds the name of a server of aliases, in 15 octets and two for each syllable.
+fn push_edge(message: &mut Message, word: u64, syllables: u8) -> Result<(), AllocError> {
+    message.push(b"\x04edge")?;
+    message.push(&[syllables.saturating_mul(2)])?;
+    push_syllables(message, word, syllables)?;
     message.push(b"\x03cdn\x03net\x00")
 }
 
@@ -159,14 +176,31 @@ impl Zone {
         }
     }
 
+    /// Whether the names of a domain have more than 32 octets.
+    fn is_long(self, domain: u32) -> bool {
+        mixed(domain, self.seed ^ 0x9999) % 100 < u64::from(self.long)
+    }
+
+    /// Adds the name of a domain.
+    fn push_domain(self, message: &mut Message, domain: u32) -> Result<(), AllocError> {
+        if self.is_long(domain) {
+            push_long_labels(message, mixed(domain, self.seed ^ 0xcccc))?;
+        }
+        let word = mixed(domain, self.seed ^ 0xaaaa);
+        push_domain_label(message, domain, word)?;
+        message.push(last_labels(word >> 16))
+    }
+
+    /// The number of the name that is the domain of a name itself, where no names are deep.
+    pub fn apex(number: u32) -> u32 {
+        (number / 3).wrapping_mul(3).wrapping_add(2)
+    }
+
     /// Adds the question for a name, and gives a pointer to its domain.
     fn push_question(self, message: &mut Message, number: u32) -> Result<u16, AllocError> {
         self.push_host(message, number)?;
         let pointer = message.pointer();
-        let domain = number / 3;
-        let word = mixed(domain, self.seed ^ 0xaaaa);
-        push_domain_label(message, domain, word)?;
-        message.push(last_labels(word >> 16))?;
+        self.push_domain(message, number / 3)?;
         message.push_short(self.rtype(number))?;
         message.push_short(1)?;
         Ok(pointer)
@@ -211,12 +245,13 @@ impl Zone {
     /// Adds aliases, one behind the other, and the address of the last.
     fn push_aliases(self, message: &mut Message, number: u32, count: u8) -> Result<(), AllocError> {
         let mut owner = QUESTION;
+        let syllables = if self.is_long(number / 3) { 9 } else { 4 };
         for place in 0..count {
             let word = mixed(number, self.seed.wrapping_add(u32::from(place)) ^ 0x7777);
             message.push_short(owner)?;
-            message.push_fixed(CNAME, ttl_of(word >> 32), 23)?;
+            message.push_fixed(CNAME, ttl_of(word >> 32), 15 + 2 * u16::from(syllables))?;
             owner = message.pointer();
-            push_edge(message, word)?;
+            push_edge(message, word, syllables)?;
         }
         self.push_addresses(message, owner, A, number, 1)
     }
