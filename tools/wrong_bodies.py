@@ -6,162 +6,190 @@
                                            definition asks for
   tools/wrong_bodies.py --all              those of all crates
   tools/wrong_bodies.py --stale            lists the bodies whose verdict is older than what it judged, or that have none;
-                                           takes a second, and tries nothing
+                                           takes seconds, and tries nothing
 
 A wrong body is an edit of the code, crates/NAME/wrong-bodies/BODY.edit, in the form of those of must-fail/ (`rt help`).
-The prover has to refuse it; one that passes is a defect of a contract. crates/NAME/wrong-bodies/verdicts has a line for
-each: its verdict, a hash of the body and of the src/ and specs/ of its crate and of those below, and its name.
+The prover has to refuse it; one that passes is a defect of a contract. The bodies are laid under must-fail/ in a copy of the
+sources of their crate and of those below it, and `rt must-fail` tries them there: some at a time, as it chooses itself. Its
+lines may come late, and what it tried once on the same sources it does not try again.
+
+crates/NAME/wrong-bodies/verdicts has a line for each: its verdict, a hash and its name. The hash is of what was judged: the
+body, how often each text that it replaces stands in its file, the src/, specs/ and proofs/ of its crate, what the crates
+below promise (promises.py says what that is), and the line of `rt version`. Comments and tests are no part of it. A line
+with any other hash is stale, those that an older form of this tool wrote among them.
 
 With --only NAME (more than once, if need be) the bodies of that name alone; with --stale-only those alone whose verdict is
-stale; --jobs N tries N at a time (one a processor, where memory allows: about 2 GB each). It ends with 1 where a body
-was not refused.
+stale; --jobs N shares the bodies of a crate out to N copies, each with a run of its own. It ends with 1 where a body was not
+refused, is no edit or was not spoken of. One that could not be tried keeps its verdict from before.
 """
+
 import argparse
 import hashlib
-import importlib.machinery
-import importlib.util
-import os
+import re
 import shutil
+import subprocess
 import sys
 import tempfile
+import threading
 from concurrent.futures import ThreadPoolExecutor
-from glob import glob
-from queue import Queue
+from pathlib import Path
 
 sys.dont_write_bytecode = True
+import promises
+
+ROOT = Path(__file__).resolve().parent.parent
 FOLDER = "wrong-bodies"
-VERDICTS = "verdicts"
+# What `rt must-fail` says of an edit, and the verdicts that are kept of it.
+TOLD = re.compile(r"rt: must-fail (\w+)/(\w+)\.edit: (refused|NOT REFUSED|BAD EDIT|NOT TRIED)\b")
+KEPT = {"refused": "refused", "NOT REFUSED": "passed"}
 
 
-def load_rt():
-    """The kit's command as a module: its way to read an edit and to judge it is the gate's."""
-    loader = importlib.machinery.SourceFileLoader("rt_module", os.path.realpath(shutil.which("rt")))
-    made = importlib.util.module_from_spec(importlib.util.spec_from_loader("rt_module", loader))
-    sys.modules["rt_module"] = made
-    loader.exec_module(made)
-    return made
+def read_crates():
+    """The line of each crate in crates.txt, and the crates of the repository that it names."""
+    lines = {}
+    for line in promises.read(ROOT / "crates.txt").splitlines():
+        name, colon, _ = line.partition("#")[0].partition(":")
+        if colon:
+            lines[name.split()[0]] = line
+    below = {name: line.partition("#")[0].partition(":")[2].split() for name, line in lines.items()}
+    return lines, {name: [it for it in libraries if it in lines] for name, libraries in below.items()}
 
 
-def read_crates(root):
-    """The libraries that each crate names, by the lines of crates.txt."""
-    crates = {}
-    with open(f"{root}/crates.txt", encoding="utf-8") as lines:
-        for line in lines:
-            name, colon, libraries = line.partition("#")[0].partition(":")
-            if colon:
-                crates[name.split()[0]] = libraries.split()
-    return {name: [it for it in below if it in crates] for name, below in crates.items()}
+def all_below(below, name):
+    """All crates that a crate stands on, and itself."""
+    return {name}.union(*(all_below(below, it) for it in below[name]))
 
 
-def all_below(crates, name):
-    """A crate and all that it stands on."""
-    found = {name}
-    for below in crates[name]:
-        found |= all_below(crates, below)
-    return found
+def bodies_of(name):
+    return sorted((ROOT / "crates" / name / FOLDER).glob("*.edit"))
 
 
-def bodies_of(root, name):
-    return sorted(glob(f"{root}/crates/{name}/{FOLDER}/*.edit"))
-
-
-def state_of(root, crates, name):
-    """A hash of what a verdict on a body of this crate rests on: code and definitions, its own and those below, but no
-    tests, which a check of a body leaves out."""
-    state = hashlib.sha256()
-    for crate in sorted(all_below(crates, name)):
-        for part, ending in (("src", ".rt"), ("specs", ".antt")):
-            top = f"{root}/crates/{crate}/{part}"
-            for at, folders, files in sorted(os.walk(top)):
-                for file in sorted(it for it in files if it.endswith(ending)):
-                    path = f"{at}/{file}"
-                    if path == f"{top}/tests.rt" or path.startswith(f"{top}/tests/"):
-                        continue
-                    with open(path, "rb") as it:
-                        octets = it.read()
-                    state.update(f"{os.path.relpath(path, root)} {len(octets)}\n".encode())
-                    state.update(octets)
-    return state.digest()
-
-
-def stamp_of(state, body):
-    """The hash of a body over a state of its crate."""
-    with open(body, "rb") as it:
-        return hashlib.sha256(state + it.read()).hexdigest()[:16]
-
-
-def read_verdicts(root, name):
-    """What became of each body when it was last tried: its verdict, and the hash of what was judged."""
+def version():
+    """The line of `rt version`; empty where there is no kit, so that --stale says something there too."""
     try:
-        with open(f"{root}/crates/{name}/{FOLDER}/{VERDICTS}", encoding="utf-8") as lines:
-            words = [line.split() for line in lines]
+        return subprocess.run(["rt", "version"], capture_output=True, text=True, check=False).stdout.strip()
     except OSError:
-        return {}
-    return {body: (verdict, stamp) for verdict, stamp, body in words}
+        return ""
 
 
-def write_verdicts(root, name, verdicts):
-    there = {os.path.basename(it)[: -len(".edit")] for it in bodies_of(root, name)}
-    with open(f"{root}/crates/{name}/{FOLDER}/{VERDICTS}", "w", encoding="utf-8") as out:
-        for body in sorted(there & verdicts.keys()):
-            verdict, stamp = verdicts[body]
-            out.write(f"{verdict} {stamp} {body}\n")
+class States:
+    """What the verdicts of each crate rest on, but the body itself. Each source file is read once."""
+
+    def __init__(self, below):
+        self.below, self.version, self.promises, self.states = below, version(), {}, {}
+
+    def promise(self, name):
+        if name not in self.promises:
+            self.promises[name] = promises.promise(ROOT / "crates" / name)
+        return self.promises[name]
+
+    def of(self, name):
+        if name not in self.states:
+            parts = {name: promises.whole(ROOT / "crates" / name)}
+            parts.update((it, self.promise(it)) for it in all_below(self.below, name) - {name})
+            state = hashlib.sha256(self.version.encode())
+            for crate, told in sorted(parts.items()):
+                for place, text in sorted(told.items()):
+                    octets = text.encode()
+                    state.update(f"\n{crate} {place} {len(octets)}\n".encode() + octets)
+            self.states[name] = state.digest()
+        return self.states[name]
+
+    def stamp(self, body):
+        """The hash of a verdict on a body. An edit whose text was moved is no edit, so the places of its texts count."""
+        crate, text, file, counts = body.parent.parent, promises.read(body), None, []
+        for line in text.splitlines():
+            word, _, rest = line.partition(": ")
+            if word == "file":
+                file = promises.read(crate / rest) if (crate / rest).is_file() else ""
+            elif word == "old" and file is not None:
+                counts.append(file.count(rest))
+        return hashlib.sha256(self.of(crate.name) + f"{counts}\n{text}".encode()).hexdigest()[:16]
 
 
-def stale_bodies(root, crates, name):
+def read_verdicts(name):
+    """What became of each body when it was last tried: its verdict, and the hash of what was judged."""
+    file = ROOT / "crates" / name / FOLDER / "verdicts"
+    words = [line.split() for line in promises.read(file).splitlines()] if file.is_file() else []
+    return {it[2]: (it[0], it[1]) for it in words if len(it) == 3}
+
+
+def write_verdicts(name, verdicts):
+    """Writes the verdicts on the bodies that are there."""
+    there = sorted({it.stem for it in bodies_of(name)} & verdicts.keys())
+    text = "".join(f"{verdicts[body][0]} {verdicts[body][1]} {body}\n" for body in there)
+    (ROOT / "crates" / name / FOLDER / "verdicts").write_text(text, encoding="utf-8")
+
+
+def stale_bodies(states, name):
     """The bodies of a crate whose verdict is older than what it judged, or that have none, or were not refused."""
-    state, verdicts = state_of(root, crates, name), read_verdicts(root, name)
-    bodies = bodies_of(root, name)
-    return [it for it in bodies if verdicts.get(os.path.basename(it)[: -len(".edit")]) != ("refused", stamp_of(state, it))]
+    verdicts = read_verdicts(name)
+    return [it for it in bodies_of(name) if verdicts.get(it.stem) != ("refused", states.stamp(it))]
 
 
-def list_stale(root, crates):
-    count = sum(len(bodies_of(root, name)) for name in crates)
-    stale = [(name, it) for name in crates for it in stale_bodies(root, crates, name)]
-    for name, body in stale:
-        print(f"stale: {name}/{os.path.basename(body)}")
+def list_stale(states):
+    count = sum(len(bodies_of(name)) for name in states.below)
+    stale = [it for name in states.below for it in stale_bodies(states, name)]
+    for body in stale:
+        print(f"stale: {body.parent.parent.name}/{body.name}")
     print(f"wrong bodies: {count - len(stale)} of {count} refused on this code; {len(stale)} stale")
     return 0
 
 
-def try_crate(rt, root, crates, name, bodies, jobs):
-    """Tries bodies of a crate, several at a time, each over a copy of what a check of the crate itself proved."""
-    made = next(it for it in rt.rtlib.crates_below(root) if it.name == name)
-    for below in made.below():
-        if below.build_rlib(["--jobs", "1"], anew=False):
-            print(f"{name}: its library {below.name} is not proved")
-            return False
-    state, verdicts, well = state_of(root, crates, name), read_verdicts(root, name), True
-    with tempfile.TemporaryDirectory(prefix="wrong-bodies-") as room:
-        first = f"{room}/kept"
-        kept = f"{made.folder}/out/incremental"
-        if os.path.isdir(kept):
-            shutil.copytree(kept, first)
-        else:
-            os.mkdir(first)
-        ran = rt.checked(made, {}, ["--jobs", str(jobs)], first)
-        if ran.returncode:
-            print(f"{name}: the crate itself is not proved: {ran.stdout.rstrip()[-300:]}")
-            return False
-        lanes = Queue()
-        for number in range(max(1, min(jobs, len(bodies)))):
-            lanes.put(shutil.copytree(first, f"{room}/{number}") if number else first)
+def lay_out(room, lines, below, name, bodies):
+    """Copies the sources of a crate and of those below it, with the bodies as its edits."""
+    needed = all_below(below, name)
+    (room / "crates.txt").write_text("".join(f"{line}\n" for it, line in lines.items() if it in needed), encoding="utf-8")
+    shutil.copy(ROOT / "HANDLES", room)
+    for crate in needed:
+        for part in ("src", "specs", "proofs"):
+            if (ROOT / "crates" / crate / part).is_dir():
+                shutil.copytree(ROOT / "crates" / crate / part, room / "crates" / crate / part)
+    edits = room / "crates" / name / "must-fail"
+    edits.mkdir()
+    for body in bodies:
+        shutil.copy(body, edits)
 
-        def attempt(body):
-            lane = lanes.get()
-            try:
-                return rt.must_fail(made, body, ["--jobs", "1"], lane)
-            finally:
-                lanes.put(lane)
 
-        with ThreadPoolExecutor(max(1, jobs)) as pool:
-            for body, (refused, text) in zip(bodies, pool.map(attempt, bodies)):
-                print(text.replace("must-fail", "wrong body", 1), flush=True)
-                short = os.path.basename(body)[: -len(".edit")]
-                verdicts[short] = ("refused" if refused else "passed", stamp_of(state, body))
-                write_verdicts(root, name, verdicts)
-                well = well and refused
-    return well
+def try_share(lines, below, name, bodies, note):
+    """Tries bodies of a crate in a copy of its own: passes each line of `rt must-fail` on, with the body that it speaks of
+    and what it tells of it; and names those of which it told nothing."""
+    left = {it.stem for it in bodies}
+    with tempfile.TemporaryDirectory(prefix="wrong-bodies-") as place:
+        lay_out(Path(place), lines, below, name, bodies)
+        words = ["rt", "must-fail", name]
+        with subprocess.Popen(words, cwd=place, stdout=subprocess.PIPE, stderr=subprocess.STDOUT, text=True) as ran:
+            for line in ran.stdout:
+                told = TOLD.match(line)
+                if told and told[1] == name and told[2] in left:
+                    left.remove(told[2])
+                    note(line.rstrip(), told[2], told[3])
+                else:
+                    note(line.rstrip(), None, None)
+    for body in sorted(left):
+        note(f"{name}/{body}.edit: nothing was said of it", body, None)
+
+
+def try_crate(lines, states, name, bodies, jobs):
+    """Tries bodies of a crate; says whether each was refused."""
+    verdicts, refused, lock = read_verdicts(name), set(), threading.Lock()
+    stamps = {it.stem: states.stamp(it) for it in bodies}
+
+    def note(line, body, told):
+        """Passes a line on, and keeps at once the verdict that it tells, if any."""
+        with lock:
+            print(line.replace("must-fail", "wrong body", 1), flush=True)
+            if told in KEPT:
+                verdicts[body] = (KEPT[told], stamps[body])
+                write_verdicts(name, verdicts)
+            if told == "refused":
+                refused.add(body)
+
+    shares = [it for it in (bodies[at::jobs] for at in range(jobs)) if it]
+    with ThreadPoolExecutor(len(shares)) as pool:
+        for done in [pool.submit(try_share, lines, states.below, name, it, note) for it in shares]:
+            done.result()
+    return refused == stamps.keys()
 
 
 def main():
@@ -174,23 +202,21 @@ def main():
     words.add_argument("--only", action="append", default=[])
     words.add_argument("--jobs", type=int, default=1)
     given = words.parse_args()
-    root = os.path.dirname(os.path.dirname(os.path.abspath(__file__)))
-    crates = read_crates(root)
+    lines, below = read_crates()
+    states = States(below)
     if given.stale:
-        return list_stale(root, crates)
-    unknown = [it for it in given.crates if it not in crates]
+        return list_stale(states)
+    unknown = [it for it in given.crates if it not in below]
     if unknown or not (given.crates or given.all):
         words.error(f"no crate {unknown[0]}" if unknown else "name crates, or --all")
-    chosen = [it for it in crates if given.all or it in given.crates or given.above and all_below(crates, it) & {*given.crates}]
-    os.chdir(root)
-    rt = load_rt()
-    rt.rtlib.guarded()
+    wanted = {*given.crates}
     well = True
-    for name in chosen:
-        bodies = stale_bodies(root, crates, name) if given.stale_only else bodies_of(root, name)
-        bodies = [it for it in bodies if not given.only or os.path.basename(it)[: -len(".edit")] in given.only]
-        if bodies:
-            well = try_crate(rt, root, crates, name, bodies, given.jobs) and well
+    for name in below:
+        if given.all or name in wanted or given.above and all_below(below, name) & wanted:
+            bodies = stale_bodies(states, name) if given.stale_only else bodies_of(name)
+            bodies = [it for it in bodies if not given.only or it.stem in given.only]
+            if bodies:
+                well = try_crate(lines, states, name, bodies, max(1, given.jobs)) and well
     return 0 if well else 1
 
 
