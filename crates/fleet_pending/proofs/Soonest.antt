@@ -1,13 +1,14 @@
 -- The moment before which no entry's time is over.
-use Rattle.std.proofs.Common.{◌≡◌, ℕ, ◌+◌, ◌<◌, ◌≤◌, ◌⊎◌, inl, inr, List, length, slice_set, Result, subst, ap, arith, ◌≢◌}
+use Rattle.std.proofs.Common.{◌≡◌, ℕ, ◌+◌, ◌<◌, ◌≤◌, ◌⊎◌, inl, inr, List, length, min, slice_set, Result, subst, ap, arith, ◌≢◌}
+use Rattle.std.proofs.lemmas.List.{nil_from_length}
 use Rattle.std.proofs.lemmas.Option.{slice_get_within}
-use Rattle.std.proofs.lemmas.Bool.{cases_eq}
+use Rattle.std.proofs.lemmas.Bool.{cases_eq, cases_lt}
 use Rattle.fleet_name.specs.Places.{At}
 use Rattle.std.specs.List.{remove}
 use Rattle.fleet_name.proofs.Lemmas.{at_same, at_set}
 use Rattle.fleet_pending.specs.Waiter.{WaiterData}
 use Rattle.fleet_pending.specs.PendingData.{EntryData}
-use Rattle.fleet_pending.specs.Due.{NoneDue, NoneSooner}
+use Rattle.fleet_pending.specs.Due.{NoneDue, NoneSooner, IsDeadline, IsSoonest}
 use Rattle.fleet_pending.specs.Asking.{Joins, waits_already, waits_too, no_place, no_memory_for_place, Opens, is_sent, no_room, no_memory_for_room, new_entry}
 use Rattle.fleet_pending.specs.declared.bounds.TheConstants.{TRY_SECONDS}
 use Rattle.fleet_pending.specs.declared.answer.Asked.{Asked}
@@ -32,6 +33,35 @@ pub soonest_all : (es : List EntryData) (n s : ℕ) → length es ≤ n → Soon
     → NoneSooner s es
 soonest_all es n s l h i e a =
     h i e (let m : i < length es = slice_get_within es i e a in omega arith) a
+
+-- the least of the first n, or `none` where there is none yet
+pub record IsLeastTo (none : ℕ) (es : List EntryData) (n s : ℕ) : Type 0 where
+  pub least : SoonestTo es n s
+  pub of_one : ((n ≡ 0) × (s ≡ none)) ⊎ IsDeadline es s
+
+pub least_more : (none : ℕ) (es : List EntryData) (n s t : ℕ) (x : EntryData) → At es n x
+    → x.deadline ≤ none → IsLeastTo none es n s → t ≡ min s x.deadline
+    → IsLeastTo none es (n + 1) t
+least_more none es n s t x there fits h is = record {
+  least = soonest_more es n s t x there h.least (omega (arith, is)) (omega (arith, is));
+  of_one = inr (go h.of_one (cases_lt s x.deadline));
+}
+  where
+    go : ((n ≡ 0) × (s ≡ none)) ⊎ IsDeadline es s → (s < x.deadline) ⊎ (x.deadline ≤ s)
+        → IsDeadline es t
+    go f (inr l) = (n, x, there, omega (arith, is, l))
+    go (inl p) (inl l) = let none_is = p.1 in absurd (omega (arith, l, fits, none_is))
+    go (inr o) (inl l) = let d = o.3 in (o.0, o.1, o.2, omega (arith, is, l, d))
+
+pub least_all : (none : ℕ) (es : List EntryData) (n s : ℕ) → length es ≤ n
+    → IsLeastTo none es n s → IsSoonest none es s
+least_all none es n s l h = record {
+  least = soonest_all es n s l h.least;
+  of_one = elim h.of_one [
+    | inl p ↦ let first = p.0 in inl (nil_from_length es (omega (arith, l, first)), p.1)
+    | inr o ↦ inr o
+  ];
+}
 
 -- before it none is due
 pub none_due : (es : List EntryData) (s moment : ℕ) → NoneSooner s es → moment < s

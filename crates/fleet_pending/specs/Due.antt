@@ -1,6 +1,6 @@
 -- What is to be done first at a moment.
 -- Serves `Pending::due`.
-use Rattle.std.specs.Prelude.{◌≡◌, ℕ, ◌+◌, ◌<◌, ◌≤◌, ◌⊎◌, List, Option, Some, None, count_by, nat_le}
+use Rattle.std.specs.Prelude.{◌≡◌, ℕ, ◌+◌, ◌<◌, ◌≤◌, ◌⊎◌, List, [], Option, Some, None, count_by, nat_le}
 use Rattle.fleet_wire.specs.Types.{Seconds}
 use Rattle.fleet_pending.specs.PendingData.{EntryData, PendingData}
 use Rattle.fleet_name.specs.Places.{At, NoneIs}
@@ -47,3 +47,12 @@ IsBefore a b = (a.deadline < b.deadline) ⊎ ((a.deadline ≡ b.deadline) × (a.
 -- no entry's time is over before this moment
 abbrev pub NoneSooner : Seconds → List EntryData → Type 0
 NoneSooner soonest es = (i : ℕ) (e : EntryData) → At es i e → soonest ≤ e.deadline
+
+-- it is the deadline of an entry
+abbrev pub IsDeadline : List EntryData → Seconds → Type 0
+IsDeadline es deadline = (i : ℕ) × (e : EntryData) × At es i e × (e.deadline ≡ deadline)
+
+-- the least deadline, or `none` where there is no entry
+pub record IsSoonest (none : Seconds) (es : List EntryData) (soonest : Seconds) : Type 0 where
+  pub least : NoneSooner soonest es
+  pub of_one : ((es ≡ []) × (soonest ≡ none)) ⊎ IsDeadline es soonest

@@ -2,7 +2,7 @@
 
 ghost use Rattle.std.specs.Prelude.{◌<◌, ◌≤◌, ◌↔◌, IsTrue, MatchOption, length};
 ghost use Rattle.fleet_pending.specs.FreeId.{AreTakenIds, IsFirstFree};
-ghost use Rattle.fleet_pending.specs.Due.{IsFirstDue, NoneDue, IsBefore, NoneSooner};
+ghost use Rattle.fleet_pending.specs.Due.{IsFirstDue, NoneDue, IsBefore, IsSoonest};
 ghost use Rattle.fleet_pending.specs.PendingData.{UsesId, AsksFor};
 ghost use Rattle.fleet_pending.specs.declared.bounds.TheConstants.{MOST_ENTRIES};
 ghost use Rattle.fleet_name.specs.Places.{IsPlace};
@@ -116,7 +116,7 @@ fn is_before<A: Allocator>(entry: &Entry<A>, other: &Entry<A>) -> bool
 
 /// The least deadline, or the greatest number where there is no entry.
 pub(crate) fn soonest_of<A: Allocator>(entries: &[Entry<A>]) -> u64
-    ensures { NoneSooner result entries.now }
+    ensures { IsSoonest u64.MAX entries.now result }
 {
     let mut soonest = u64::MAX;
     for entry in entries {
