@@ -1,9 +1,9 @@
 -- Which observations of a frame are made, and how far they are taken.
-use Rattle.std.proofs.Common.{◌≡◌, ℕ, suc, ◌+◌, ◌≤◌, List, [], ◌∷◌, ◌++◌, length, Some, inl, inr, refl, sym, ap, ◌∙◌, subst, arith, length-append, append_assoc, Result, Ok, Err, OnErr}
+use Rattle.std.proofs.Common.{◌≡◌, ℕ, suc, ◌+◌, ◌≤◌, List, [], ◌∷◌, ◌++◌, length, inl, inr, refl, sym, ap, ◌∙◌, subst, arith, length-append, append_assoc, Result, Ok, Err, OnErr}
 use Rattle.std.proofs.lemmas.List.{append-nil, nil_from_length}
 use Rattle.fleet_observe.specs.Members.{Has}
 use Rattle.fleet_observe.specs.Observation.{ObservationData}
-use Rattle.fleet_cache.specs.Cached.{CacheData, IsCached}
+use Rattle.fleet_cache.specs.Cached.{CacheData, IsCached, IsNeedless}
 use Rattle.fleet_cache.proofs.Lemmas.{HasTaken, taken_more, taken_is, taken_within, seam_at}
 use Rattle.fleet_gossip.specs.Entry.{AreIn}
 use Rattle.fleet_gossip.specs.Frame.{entries}
@@ -146,22 +146,21 @@ module _ (before mid : CacheData) (list : List ObservationData)
   placed : next.0 ≡ length passed
   placed = omega (arith, is.placed, length-append way.done is.held)
 
-  pub stops_there : (after : CacheData) → after ≡ mid → (Has after.items next.1 → ⊥)
-      → TakesFirstOf list before after next.0
-  stops_there after same unheld = record {
+  pub stops_there : (after : CacheData) → after ≡ mid
+      → (IsNeedless mid.floor mid.items next.1 → ⊥) → TakesFirstOf list before after next.0
+  stops_there after same needed = record {
     within = taken_within passed way.left.0 list next.1 next.0 seam placed;
     cached = λ s cached. subst (λ (v : List ObservationData).
         IsCached (v ++ s) after.floor after.items)
         (sym (taken_is passed (next.1 ∷ way.left.0) list next.0 seam placed))
         (subst (λ (v : CacheData). IsCached (passed ++ s) v.floor v.items) (sym same)
         (taken.cached s cached));
-    unheld = λ p at has. unheld (subst (Has after.items)
-        (some_same p next.1 (sym at ∙ seam_at passed way.left.0 list next.1 next.0 seam placed))
-        has);
+    needed = (
+      next.1,
+      seam_at passed way.left.0 list next.1 next.0 seam placed,
+      subst (λ (v : CacheData). IsNeedless v.floor v.items next.1 → ⊥) (sym same) needed,
+    );
   }
-    where
-      some_same : (p q : ObservationData) → Some p ≡ Some q → p ≡ q
-      some_same p q e = cc
 
   pub goes_on : (after : CacheData) → ((s : List ObservationData)
       → IsCached s mid.floor mid.items → IsCached (next.1 ∷ s) after.floor after.items)

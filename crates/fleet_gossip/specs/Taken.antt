@@ -1,10 +1,10 @@
 -- What a cache takes of a frame.
 -- Serves `take_frame`.
-use Rattle.std.specs.Prelude.{◌≡◌, ℕ, ◌<◌, ◌⊎◌, ◌++◌, length, take, slice_get, Some}
+use Rattle.std.specs.Prelude.{◌≡◌, ℕ, ◌<◌, ◌⊎◌, ◌++◌, length, take}
 use Rattle.fleet_name.specs.Types.{OctetList}
 use Rattle.fleet_observe.specs.Members.{Has}
 use Rattle.fleet_observe.specs.Observation.{ObservationData, Observations}
-use Rattle.fleet_cache.specs.Cached.{CacheData, IsCached}
+use Rattle.fleet_cache.specs.Cached.{CacheData, IsCached, IsNeededAt}
 use Rattle.fleet_gossip.specs.Frame.{SpellsFrame}
 use Rattle.fleet_gossip.specs.Faults.{FrameFails}
 use Rattle.fleet_gossip.specs.declared.fault.FrameFault.{FrameFault}
@@ -32,14 +32,14 @@ pub record TakesNone (octets : OctetList) (before after : CacheData) (taken : �
   pub same : after ≡ before
   pub unheld : (o : ObservationData) × Has list o × ¬ Has before.items o
 
--- the octets are the frame of a list, and the cache took its first `taken` observations in; it
--- doesn't hold the next one
+-- the octets are the frame of a list, and the cache took its first `taken` observations in; the next
+-- one it still needs: as it is left, that one is not past for it, not there and not dominated
 pub record TakesFirst (octets : OctetList) (before after : CacheData) (taken : ℕ) : Type 0 where
   pub list : Observations
   pub spelled : SpellsFrame octets list
   pub within : taken < length list
   pub cached : Takes before after (take taken list)
-  pub unheld : (o : ObservationData) → slice_get list taken ≡ Some o → ¬ Has after.items o
+  pub needed : IsNeededAt after.floor after.items list taken
 
 -- the octets are no frame, for this fault, and the cache is as it was
 pub record RefusesFrame (octets : OctetList) (before after : CacheData) (f : FrameFault) : Type 0

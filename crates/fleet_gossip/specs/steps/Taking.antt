@@ -1,10 +1,10 @@
 -- Which observations of a frame are made, and how far they are taken.
 -- Serves `take_frame`.
-use Rattle.std.specs.Prelude.{◌≡◌, ℕ, suc, ◌+◌, ◌<◌, List, [], ◌∷◌, ◌++◌, length, take, slice_get, Some}
+use Rattle.std.specs.Prelude.{◌≡◌, ℕ, suc, ◌+◌, ◌<◌, List, [], ◌∷◌, ◌++◌, length, take}
 use Rattle.fleet_name.specs.Types.{OctetList}
 use Rattle.fleet_observe.specs.Members.{Has}
 use Rattle.fleet_observe.specs.Observation.{ObservationData, Observations}
-use Rattle.fleet_cache.specs.Cached.{CacheData}
+use Rattle.fleet_cache.specs.Cached.{CacheData, IsNeededAt}
 use Rattle.fleet_gossip.specs.Taken.{Takes}
 use Rattle.fleet_gossip.specs.steps.Reading.{BeginsWithEntries}
 
@@ -37,8 +37,8 @@ pub record HasUnheld (octets : OctetList) (version count : ℕ) (cache : CacheDa
   pub are : BeginsWithEntries octets version count list []
   pub unheld : (o : ObservationData) × Has list o × ¬ Has cache.items o
 
--- the cache took the first `taken` of a list in, and doesn't hold the next one
+-- the cache took the first `taken` of a list in, and still needs the next one
 pub record TakesFirstOf (list : Observations) (before after : CacheData) (taken : ℕ) : Type 0 where
   pub within : taken < length list
   pub cached : Takes before after (take taken list)
-  pub unheld : (o : ObservationData) → slice_get list taken ≡ Some o → ¬ Has after.items o
+  pub needed : IsNeededAt after.floor after.items list taken

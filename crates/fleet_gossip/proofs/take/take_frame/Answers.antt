@@ -29,5 +29,5 @@ returns-in-Err-take_unheld-clause-taken g c =
       spelled = spells_frame _ _ _ _ found.list of.opened of.fits found.are;
       within = first.within;
       cached = first.cached;
-      unheld = first.unheld;
+      needed = first.needed;
     }))

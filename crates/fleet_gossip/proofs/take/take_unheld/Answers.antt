@@ -1,8 +1,6 @@
-use Rattle.std.proofs.Common.{◌≡◌, [], length, inl, inr, refl, sym, ap, ◌∙◌, subst, arith}
+use Rattle.std.proofs.Common.{◌≡◌, [], length, refl, sym, ap, ◌∙◌, subst, arith}
 use Rattle.std.specs.Vec.Iter.{into_iter_items}
 use Rattle.std.proofs.lemmas.List.{nil_from_length}
-use Rattle.fleet_observe.specs.Members.{Has}
-use Rattle.fleet_cache.specs.Cached.{CacheData}
 use Rattle.fleet_cache.proofs.Lemmas.{taken_none, at_ok, at_err}
 use Rattle.fleet_gossip.specs.steps.Taking.{AreUnheld}
 use Rattle.fleet_gossip.proofs.Taking.{IsUnderway, stops_there, goes_on, all_taken}
@@ -31,12 +29,7 @@ returns-then-is_err-clause-taken g c = λ list are.
     let needed = at_err c.take.result c.if-is_err.ensures.value c.take.ensures.memory in
     stops_there c.args.cache.now c.loop-place.cache list (c.in-Some.place, c.in-Some.observation)
     (into_iter_items c.next.new.self) (subst (IsUnderway c.args.cache.now c.loop-place.cache list)
-    c.in-Some.ensures.steps.0 (i.0 list are)) c.take.new.self same
-    (λ has. needed (inr (
-      c.in-Some.observation,
-      subst (λ (v : CacheData). Has v.items c.in-Some.observation) same has,
-      inl refl,
-    )))
+    c.in-Some.ensures.steps.0 (i.0 list are)) c.take.new.self same needed
 
 pub loop-place-preserved : goal.loop-place-preserved
 loop-place-preserved g c =
