@@ -16,7 +16,7 @@ use crate::answer::{Answer, follow};
 use crate::held::Held;
 use crate::items::Items;
 use crate::lent::has_lent;
-use crate::lookup::is_past;
+use crate::lookup::{is_past, is_past_lent};
 use crate::reclaim::{Cursor, reclaim};
 use fleet_observe::{LentObservation, Moment, Observation};
 use fleet_wire::{LentQuestion, Question};
@@ -129,6 +129,19 @@ impl<A: Allocator> Cache<A> {
             taken += 1;
         }
         Ok(())
+    }
+
+    /// Whether what is lent, if it is a lawful observation, had ended at the floor or is withdrawn by a
+    /// flush, so that it need not be taken in. Nothing is allocated.
+    pub fn is_past_lent(&self, lent: &LentObservation<'_>) -> bool
+        requires { IsWire lent.now.name.now }
+        ensures past { (o : ObservationData) → IsLent lent.now o → IsObservation o
+            → IsTrue result ↔ IsPast self.now.floor self.now.items o }
+        ensures taken { (o : ObservationData) (s : Observations) → IsLent lent.now o
+            → IsObservation o → IsTrue result → IsCached s self.now.floor self.now.items
+            → IsCached (o ∷ s) self.now.floor self.now.items }
+    {
+        is_past_lent(&self.held, lent, self.floor)
     }
 
     /// Whether what is lent is held, so that it need not be taken in: it is one of the items, or one

@@ -1,9 +1,11 @@
 //! What hides observations of a name.
 
 ghost use Rattle.std.specs.Prelude.{◌≡◌, None, Some};
+ghost use Rattle.fleet_observe.specs.Lent.{IsLent};
+ghost use Rattle.fleet_observe.specs.Observation.{ObservationData};
 ghost use Rattle.fleet_cache.specs.Cut.{is_flushed, is_hidden as is_hidden_by};
 
-use fleet_observe::{Kind, Moment, Observation};
+use fleet_observe::{Kind, LentObservation, Moment, Observation};
 use std::alloc::Allocator;
 use std::marker::Model;
 
@@ -42,6 +44,14 @@ impl Cut {
     {
         is_withdrawn(self.flushed, observation) || observation.expires() <= self.moment.value()
     }
+
+    /// Whether it hides what is lent.
+    pub(crate) fn hides_lent(&self, lent: &LentObservation<'_>) -> bool
+        ensures { (o : ObservationData) → IsLent lent.now o → result ≡ is_hidden_by self.now o }
+    {
+        let expires = u64::from(lent.life) + lent.stamp.value();
+        is_stamped_by(self.flushed, lent.kind, lent.stamp) || expires <= self.moment.value()
+    }
 }
 
 /// Whether an observation is no flush and its stamp is at most `flushed`; `false` where there is
@@ -49,11 +59,19 @@ impl Cut {
 fn is_withdrawn<A: Allocator>(flushed: Option<Moment>, observation: &Observation<A>) -> bool
     ensures { result ≡ is_flushed flushed observation.now }
 {
-    let Some(stamp) = flushed else {
+    is_stamped_by(flushed, observation.kind(), observation.stamp())
+}
+
+/// Whether a kind is no flush and the stamp is at most `flushed`; `false` where there is none.
+fn is_stamped_by(flushed: Option<Moment>, kind: Kind, stamp: Moment) -> bool
+    ensures { (o : ObservationData) → kind ≡ o.kind → stamp ≡ o.stamp
+        → result ≡ is_flushed flushed o }
+{
+    let Some(last) = flushed else {
         return false;
     };
-    match observation.kind() {
+    match kind {
         Kind::Flush => false,
-        _ => observation.stamp().value() <= stamp.value(),
+        _ => stamp.value() <= last.value(),
     }
 }

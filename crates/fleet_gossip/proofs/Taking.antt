@@ -7,7 +7,7 @@ use Rattle.fleet_cache.specs.Cached.{CacheData, IsCached, IsNeedless}
 use Rattle.fleet_cache.proofs.Lemmas.{HasTaken, taken_more, taken_is, taken_within, seam_at}
 use Rattle.fleet_gossip.specs.Entry.{AreIn}
 use Rattle.fleet_gossip.specs.Frame.{entries}
-use Rattle.fleet_gossip.specs.Taken.{Takes}
+use Rattle.fleet_gossip.specs.Taken.{Takes, IsPassedOver}
 use Rattle.fleet_gossip.specs.steps.Reading.{BeginsWithEntries}
 use Rattle.fleet_gossip.specs.steps.Taking.{IsFirstUnheld, AreUnheld, FindsUnheld, HasUnheld, TakesFirstOf}
 
@@ -48,10 +48,10 @@ module _ (cache : CacheData) (o : ObservationData) where
     held_more (suc first.0) all.0 made all.2 one,
   )
 
-  -- it isn't held
+  -- it isn't passed over
   pub unheld_more : (at : ℕ) (done : List ObservationData) (made : List (ℕ × ObservationData))
       (place : ℕ) → AreUnheld cache at done made → place ≡ at + length done
-      → (Has cache.items o → ⊥) → AreUnheld cache at (done ++ o ∷ []) (made ++ (place, o) ∷ [])
+      → (IsPassedOver cache o → ⊥) → AreUnheld cache at (done ++ o ∷ []) (made ++ (place, o) ∷ [])
   unheld_more at done [] place known placed unheld = (
     [],
     record { held = done; split = refl; known = known; placed = placed; unheld = unheld },
@@ -101,7 +101,7 @@ module _ (octets : List ℕ) (version count at : ℕ) (done left : List Observat
       }
 
   pub finds_one : (o : ObservationData) (others : List ObservationData) → left ≡ o ∷ others
-      → (Has cache.items o → ⊥) → HasUnheld octets version count cache
+      → (IsPassedOver cache o → ⊥) → HasUnheld octets version count cache
   finds_one o others next unheld = record {
     list = done ++ left;
     are = all_are;

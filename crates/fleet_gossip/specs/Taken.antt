@@ -4,7 +4,7 @@ use Rattle.std.specs.Prelude.{◌≡◌, ℕ, ◌<◌, ◌⊎◌, ◌++◌, leng
 use Rattle.fleet_name.specs.Types.{OctetList}
 use Rattle.fleet_observe.specs.Members.{Has}
 use Rattle.fleet_observe.specs.Observation.{ObservationData, Observations}
-use Rattle.fleet_cache.specs.Cached.{CacheData, IsCached, IsNeededAt}
+use Rattle.fleet_cache.specs.Cached.{CacheData, IsCached, IsPast, IsNeededAt}
 use Rattle.fleet_gossip.specs.Frame.{SpellsFrame}
 use Rattle.fleet_gossip.specs.Faults.{FrameFails}
 use Rattle.fleet_gossip.specs.declared.fault.FrameFault.{FrameFault}
@@ -23,14 +23,18 @@ pub record TakesFrame (octets : OctetList) (before after : CacheData) (count : �
   pub counted : count ≡ length list
   pub cached : Takes before after list
 
--- the octets are the frame of a list, the cache doesn't hold one of it, and it took none in: it is
--- as it was
+-- o is passed over, without a copy: it is past for the cache, or is one of its items
+abbrev pub IsPassedOver : CacheData → ObservationData → Type 0
+IsPassedOver cache o = IsPast cache.floor cache.items o ⊎ Has cache.items o
+
+-- the octets are the frame of a list, one of which the cache doesn't pass over, and it took none in:
+-- it is as it was
 pub record TakesNone (octets : OctetList) (before after : CacheData) (taken : ℕ) : Type 0 where
   pub list : Observations
   pub spelled : SpellsFrame octets list
   pub none : taken ≡ 0
   pub same : after ≡ before
-  pub unheld : (o : ObservationData) × Has list o × ¬ Has before.items o
+  pub unheld : (o : ObservationData) × Has list o × ¬ IsPassedOver before o
 
 -- the octets are the frame of a list, and the cache took its first `taken` observations in; the next
 -- one it still needs: as it is left, that one is not past for it, not there and not dominated

@@ -1,8 +1,11 @@
 //! Taking the observations of a frame into a cache.
 
-ghost use Rattle.std.specs.Prelude.{◌≡◌, MatchResult, IfOk, OnErr};
-ghost use Rattle.fleet_observe.specs.Observation.{Observations};
-ghost use Rattle.fleet_gossip.specs.Taken.{Takes, TakesFrame, StopsAt};
+ghost use Rattle.std.specs.Prelude.{◌≡◌, ◌∷◌, MatchResult, IfOk, OnErr, IsTrue};
+ghost use Rattle.fleet_name.specs.Name.{IsWire};
+ghost use Rattle.fleet_observe.specs.Lent.{IsLent};
+ghost use Rattle.fleet_observe.specs.Observation.{IsObservation, ObservationData, Observations};
+ghost use Rattle.fleet_cache.specs.Cached.{IsCached};
+ghost use Rattle.fleet_gossip.specs.Taken.{Takes, TakesFrame, IsPassedOver, StopsAt};
 ghost use Rattle.fleet_gossip.specs.steps.Reading.{AreEntryOctets};
 ghost use Rattle.fleet_gossip.specs.steps.Taking.{AreUnheld, FindsUnheld, HasUnheld, TakesFirstOf};
 
@@ -11,7 +14,7 @@ use crate::frame::{Entries, read_frame};
 use crate::known::read_known_entry;
 use crate::reader::Reader;
 use fleet_cache::Cache;
-use fleet_observe::Observation;
+use fleet_observe::{LentObservation, Observation};
 use std::alloc::{AllocError, Allocator};
 use thiserror::Error;
 
@@ -30,8 +33,21 @@ pub enum TakeFault {
     },
 }
 
-/// The observations of those lawful entries that a cache does not hold, each with the place of its
-/// entry, from 0 on. For those that it holds nothing is allocated. `Err` where an allocation fails.
+/// Whether what is lent need not be taken in: it had ended at the floor or is withdrawn by a flush,
+/// so that it is not looked for, or is held.
+fn is_passed_over<A: Allocator>(cache: &Cache<A>, lent: &LentObservation<'_>) -> bool
+    requires { IsWire lent.now.name.now }
+    ensures taken { (o : ObservationData) (s : Observations) → IsLent lent.now o → IsObservation o
+        → IsTrue result → IsCached s cache.now.floor cache.now.items
+        → IsCached (o ∷ s) cache.now.floor cache.now.items }
+    ensures passed { (o : ObservationData) → IsLent lent.now o → IsObservation o
+        → IsPassedOver cache.now o → IsTrue result }
+{
+    cache.is_past_lent(lent) || cache.holds(lent)
+}
+
+/// The observations of those lawful entries that a cache does not pass over, each with the place of
+/// its entry, from 0 on. For the others nothing is allocated. `Err` where an allocation fails.
 fn to_unheld<A: Allocator + Copy>(
     alloc: A,
     cache: &Cache<A>,
@@ -47,7 +63,7 @@ fn to_unheld<A: Allocator + Copy>(
     let mut unheld = Vec::new(alloc);
     for place in 0..entries.count {
         let entry = read_known_entry(&mut reader, entries.version);
-        if !cache.holds(&entry.lent()) {
+        if !is_passed_over(cache, &entry.lent()) {
             unheld.reserve(usize::from(entries.count - place))?;
             unheld.push((place, entry.to_observation(alloc)?))?;
         }
@@ -77,9 +93,10 @@ fn take_unheld<A: Allocator + Copy>(
 /// Takes the observations of a frame into a cache, in their order, and says how many the frame has.
 ///
 /// All octets are checked first, as `decode` does; where they are no frame, nothing is taken. An
-/// observation that the cache holds already is compared in place, and nothing is allocated for it.
-/// All others are made before the first is taken, so that where memory fails for one of them, the
-/// cache is as it was. `OutOfMemory` comes only of a frame with an observation that is not held.
+/// observation that had ended at the floor or is withdrawn by a flush is passed over, and so is one
+/// that the cache holds, which is compared in place: nothing is allocated for them. All others are
+/// made before the first is taken, so that where memory fails for one of them, the cache is as it
+/// was. `OutOfMemory` comes only of a frame with an observation that is not passed over.
 pub fn take_frame<A: Allocator + Copy>(
     alloc: A,
     cache: &mut Cache<A>,

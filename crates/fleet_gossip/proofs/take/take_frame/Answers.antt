@@ -1,4 +1,4 @@
-use Rattle.std.proofs.Common.{inr, refl, sym, ◌∙◌}
+use Rattle.std.proofs.Common.{inl, inr, refl, sym, ◌∙◌}
 use Rattle.fleet_gossip.proofs.Frames.{list_or_fault}
 use Rattle.fleet_gossip.proofs.FrameSteps.{spells_frame}
 use Rattle.fleet_gossip.proofs.take.take_frame.Goals as goal
@@ -31,3 +31,14 @@ returns-in-Err-take_unheld-clause-taken g c =
       cached = first.cached;
       needed = first.needed;
     }))
+
+pub returns-in_default-clause-taken : goal.returns-in_default-clause-taken
+returns-in_default-clause-taken g c =
+    let of = c.in-Ok.ensures in let told = c.in_default.ensures.memory in
+    inl (record {
+      list = told.list;
+      spelled = spells_frame _ _ _ _ told.list of.opened of.fits told.are;
+      none = refl;
+      same = refl;
+      unheld = told.unheld;
+    })

@@ -8,7 +8,7 @@ use Rattle.fleet_gossip.proofs.FrameSteps.{next_of, next_lawful}
 use Rattle.fleet_gossip.proofs.Passing.{next_there}
 use Rattle.fleet_gossip.proofs.Taking.{one_over, held_more, unheld_more, finds_all, finds_one, on_err}
 use Rattle.fleet_gossip.proofs.take.to_unheld.Goals as goal
-use Rattle.fleet_gossip.proofs.take.to_unheld.Goals.{then-not-holds+in_ok-reserve+in_ok-to_observation+in_ok-push, else-not-holds}
+use Rattle.fleet_gossip.proofs.take.to_unheld.Goals.{then-not-is_passed_over+in_ok-reserve+in_ok-to_observation+in_ok-push, else-not-is_passed_over}
 
 pub loop-place-init : goal.loop-place-init
 loop-place-init g c = record {
@@ -36,7 +36,8 @@ returns-in_err-reserve-clause-memory g c =
     (omega (arith, i.all, c.loop-place-test.true)) read.1.lawful read.3 in
     on_err c.from_residual.result (finds_one _ _ _ c.loop-place.place i.done i.left i.lawful
     i.octets i.counted i.all c.args.cache.now read.0 next.others next.left_is
-    (λ has. false≢true (c.if-not-holds.ensures.items read.0 (c.lent.ensures read.0 read.1) has)))
+    (λ over. false≢true (c.if-not-is_passed_over.ensures.passed read.0 (c.lent.ensures read.0 read.1)
+    read.1.lawful over)))
 
 pub returns-in_err-to_observation-clause-memory : goal.returns-in_err-to_observation-clause-memory
 returns-in_err-to_observation-clause-memory g c =
@@ -46,7 +47,8 @@ returns-in_err-to_observation-clause-memory g c =
     (omega (arith, i.all, c.loop-place-test.true)) read.1.lawful read.3 in
     on_err c.from_residual-in_err-to_observation.result (finds_one _ _ _ c.loop-place.place i.done
     i.left i.lawful i.octets i.counted i.all c.args.cache.now read.0 next.others next.left_is
-    (λ has. false≢true (c.if-not-holds.ensures.items read.0 (c.lent.ensures read.0 read.1) has)))
+    (λ over. false≢true (c.if-not-is_passed_over.ensures.passed read.0 (c.lent.ensures read.0 read.1)
+    read.1.lawful over)))
 
 pub loop-place-preserved : goal.loop-place-preserved
 loop-place-preserved g c =
@@ -65,8 +67,8 @@ loop-place-preserved g c =
       octets = i.octets ∙ ap entries over;
       counted = omega (arith, i.counted, length-append i.done (read.0 ∷ []));
       all = omega (arith, i.all, ap length next.left_is);
-      found = elim c.if-not-holds.branch [
-        | then-not-holds+in_ok-reserve+in_ok-to_observation+in_ok-push w ↦
+      found = elim c.if-not-is_passed_over.branch [
+        | then-not-is_passed_over+in_ok-reserve+in_ok-to_observation+in_ok-push w ↦
             rw (
               w.unheld-is,
               w.in_ok-push.ensures.items,
@@ -75,12 +77,12 @@ loop-place-preserved g c =
             )
             (unheld_more c.args.cache.now read.0 0 i.done c.loop-place.unheld.items
             c.loop-place.place i.found (omega (arith, i.counted))
-            (λ has. false≢true (w.if-not-holds.ensures.items read.0 (c.lent.ensures read.0 read.1)
-            has)))
-        | else-not-holds w ↦ rw w.unheld-is
+            (λ over. false≢true (w.if-not-is_passed_over.ensures.passed read.0
+            (c.lent.ensures read.0 read.1) read.1.lawful over)))
+        | else-not-is_passed_over w ↦ rw w.unheld-is
             (held_more c.args.cache.now read.0 0 i.done c.loop-place.unheld.items i.found
-            (λ s cached. w.if-not-holds.ensures.taken read.0 s (c.lent.ensures read.0 read.1) refl
-            cached))
+            (λ s cached. w.if-not-is_passed_over.ensures.taken read.0 s
+            (c.lent.ensures read.0 read.1) read.1.lawful refl cached))
       ];
     }
 

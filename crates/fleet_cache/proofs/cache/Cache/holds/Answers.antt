@@ -5,11 +5,16 @@ use Rattle.fleet_observe.specs.declared.observation.kind.Kind.TheVariants.{Flush
 use Rattle.fleet_cache.specs.Live.{is_live}
 use Rattle.fleet_cache.specs.Cached.{CacheData, IsNeedless}
 use Rattle.fleet_cache.proofs.Caches.{cached_needless}
-use Rattle.fleet_cache.proofs.LentItems.{held_needless, lent_held, held_lent}
+use Rattle.fleet_cache.proofs.LentItems.{are_apart, held_needless, lent_held, held_lent}
 use Rattle.fleet_cache.proofs.cache.Cache.holds.Goals as goal
 
-pub has_lent-requires : goal.has_lent-requires
-has_lent-requires g c = (c.at.ensures.of_name c.requires.name Flush c.requires.whole).in_rows
+pub has_lent-requires-clause-in_rows : goal.has_lent-requires-clause-in_rows
+has_lent-requires-clause-in_rows g c =
+    (c.at.ensures.of_name c.requires.name Flush c.requires.whole).in_rows
+
+pub has_lent-requires-clause-apart : goal.has_lent-requires-clause-apart
+has_lent-requires-clause-apart g c = are_apart c.self.inside.held c.at.result.now c.requires.name Flush
+    c.at.ensures.own (c.at.ensures.of_name c.requires.name Flush c.requires.whole)
 
 pub returns-clause-needless : goal.returns-clause-needless
 returns-clause-needless g c = λ o is told.
