@@ -1,7 +1,7 @@
 //! Questions that wait for an upstream.
 //!
-//! At most 256 questions are open, and each has at most 32 waiters. Only `ask` allocates, and only
-//! for a new entry or a new waiter.
+//! At most 256 questions are open, and each has at most 32 waiters. Only `ask` and `open` allocate,
+//! and only for a new entry or a new waiter.
 #![tactic(auto)]
 
 mod addr;
