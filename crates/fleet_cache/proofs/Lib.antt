@@ -23,6 +23,8 @@ mod Both
 mod Storing
 mod Trimming
 mod ShortKeys
+mod ListedFronts
+mod PassedFronts
 mod Climbing
 mod Answers
 mod Underway

@@ -19,7 +19,7 @@ then_equal Less = refl
 then_equal Equal = refl
 then_equal Greater = refl
 
-same_cmp : (x y : ShortKey) → field_cmp x y ≡ octets_cmp (short_words x) (short_words y)
+pub same_cmp : (x y : ShortKey) → field_cmp x y ≡ octets_cmp (short_words x) (short_words y)
 same_cmp x y = ap (λ v. ordering_then (nat_cmp x.a y.a) (ordering_then (nat_cmp x.b y.b)
     (ordering_then (nat_cmp x.c y.c) v))) (then_equal (nat_cmp x.d y.d))
 

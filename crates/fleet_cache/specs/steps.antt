@@ -6,6 +6,7 @@ pub mod Orders
 pub mod Slots
 pub mod Noted
 pub mod Keyed
+pub mod Listed
 pub mod Reclaimed
 pub mod CutAt
 pub mod Merged

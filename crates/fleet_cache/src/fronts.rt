@@ -1,11 +1,12 @@
 //! Two maps from names to fronts: one for short names, one for the others.
 
 ghost use Rattle.std.specs.Prelude.{◌≡◌, [], ◌<◌, ◌↔◌, IsTrue, IfOk, OnErr, MatchOption};
-ghost use Rattle.std.specs.List.{All, AllByRecursion};
+ghost use Rattle.std.specs.List.{AllByRecursion};
 ghost use Rattle.fleet_name.specs.Name.{IsWire};
 ghost use Rattle.fleet_cache.specs.Cached.{IsCovered};
 ghost use Rattle.fleet_cache.specs.steps.Held.{IsHeld, IsTaken};
 ghost use Rattle.fleet_cache.specs.steps.Keyed.{HasNoKey, IsOfKey};
+ghost use Rattle.fleet_cache.specs.steps.Listed.{ListsFronts, IsShortAfter, IsLongAfter};
 ghost use Rattle.fleet_cache.specs.steps.Merged.{merged};
 ghost use Rattle.fleet_cache.specs.steps.Packed.{octet_words, short_words};
 ghost use Rattle.fleet_cache.specs.steps.Reclaimed.{IsTrimmed, IsCleared};
@@ -156,7 +157,7 @@ impl<A: Allocator> Fronts<A> {
     /// The fronts of short names behind the key with these words, each with its own key, one after
     /// another; all of them where no short name has so many words.
     pub(crate) fn short_behind(&self, words: &[u64]) -> Range<'_, ShortKey, Slot<A>>
-        ensures { All (λ e. IsOfKey self.now (short_words e.0) e.1) result }
+        ensures { ListsFronts short_words self.now (IsShortAfter words.now) result }
     {
         let Some(key) = ShortKey::of_words(words) else {
             return self.short.range(..);
@@ -166,7 +167,7 @@ impl<A: Allocator> Fronts<A> {
 
     /// The fronts of other names behind this key, each with its own key, one after another.
     pub(crate) fn long_behind(&self, key: &Key<A>) -> Range<'_, Key<A>, Slot<A>>
-        ensures { All (λ e. IsOfKey self.now e.0.items e.1) result }
+        ensures { ListsFronts (λ k. k.items) self.now (IsLongAfter key.now.items) result }
     {
         self.long.range((Bound::Excluded(key), Bound::Unbounded))
     }

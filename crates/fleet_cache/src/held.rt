@@ -1,7 +1,6 @@
 //! What a cache holds in memory.
 
 ghost use Rattle.std.specs.Prelude.{◌≡◌, List, [], ◌↔◌, false, length, IsTrue, IfOk, OnErr, MatchOption};
-ghost use Rattle.std.specs.List.{All};
 ghost use Rattle.fleet_name.specs.Types.{Labels};
 ghost use Rattle.fleet_name.specs.Name.{wire, IsWire};
 ghost use Rattle.fleet_observe.specs.declared.observation.kind.Kind.{Kind};
@@ -10,6 +9,7 @@ ghost use Rattle.fleet_cache.specs.declared.noted.TheConstants.{LENGTHS};
 ghost use Rattle.fleet_cache.specs.Cached.{IsCovered};
 ghost use Rattle.fleet_cache.specs.steps.Held.{IsHeld, IsTaken};
 ghost use Rattle.fleet_cache.specs.steps.Keyed.{HasNoKey, IsOfKey, IsOfName};
+ghost use Rattle.fleet_cache.specs.steps.Listed.{ListsFronts, IsShortAfter, IsLongAfter};
 ghost use Rattle.fleet_cache.specs.steps.Noted.{HasNone, HasNoneShorter};
 ghost use Rattle.fleet_cache.specs.steps.Packed.{short_words};
 ghost use Rattle.fleet_cache.specs.steps.Reclaimed.{IsTrimmed, IsCleared};
@@ -161,14 +161,14 @@ impl<A: Allocator> Held<A> {
     /// The fronts of short names behind the key with these words, each with its own key, one after
     /// another; all of them where no short name has so many words.
     pub(crate) fn short_behind(&self, words: &[u64]) -> Range<'_, ShortKey, Slot<A>>
-        ensures { All (λ e. IsOfKey self.now (short_words e.0) e.1) result }
+        ensures { ListsFronts short_words self.now (IsShortAfter words.now) result }
     {
         self.fronts.short_behind(words)
     }
 
     /// The fronts of other names behind this key, each with its own key, one after another.
     pub(crate) fn long_behind(&self, key: &Key<A>) -> Range<'_, Key<A>, Slot<A>>
-        ensures { All (λ e. IsOfKey self.now e.0.items e.1) result }
+        ensures { ListsFronts (λ k. k.items) self.now (IsLongAfter key.now.items) result }
     {
         self.fronts.long_behind(key)
     }

@@ -1,12 +1,13 @@
 //! Dropping what is not live any more, a part of the map at a time.
 
-ghost use Rattle.std.specs.Prelude.{◌≡◌, ℕ, List, false, OnErr};
+ghost use Rattle.std.specs.Prelude.{◌≡◌, ◌<◌, ◌≤◌, ℕ, List, [], true, false, length, vec_capacity, OnErr};
 ghost use Rattle.std.specs.List.{list_any};
 ghost use Rattle.fleet_cache.specs.Cached.{IsCovered};
 ghost use Rattle.fleet_cache.specs.Cut.{is_hidden};
+ghost use Rattle.fleet_cache.specs.declared.words.TheConstants.{MOST_WORDS};
 ghost use Rattle.fleet_cache.specs.steps.Held.{IsHeld};
 ghost use Rattle.fleet_cache.specs.steps.Keyed.{IsOfKey};
-ghost use Rattle.fleet_cache.specs.steps.Reclaimed.{IsReclaimed, AllLive, IsLiveFront};
+ghost use Rattle.fleet_cache.specs.steps.Reclaimed.{IsReclaimed, AllLive, IsLiveFront, IsPassed, StopsAfter};
 
 use crate::cut::Cut;
 use crate::held::Held;
@@ -64,8 +65,13 @@ impl<A: Allocator> Cursor<A> {
     /// Goes on over at most `left` fronts, those of short names first, up to the first that holds
     /// anything which is not live at the moment, or back to the start where there are no more.
     /// Returns how many of `left` there are to look at behind it. It allocates nothing: without room
-    /// for the key it goes back to the start too.
-    fn pass(&mut self, held: &Held<A>, moment: Moment, left: usize) -> usize {
+    /// for the key it goes back to the start too. With room for any key, all that it passed over is
+    /// live.
+    fn pass(&mut self, held: &Held<A>, moment: Moment, left: usize) -> usize
+        ensures passed { MOST_WORDS ≤ vec_capacity self.old.key
+            → IsPassed moment held.now self.old.key.items self.new.key.items }
+        ensures stops { StopsAfter held.now self.old.key.items self.new.key.items }
+    {
         let mut rest = left;
         if self.key.len() <= SHORT_WORDS {
             for (key, front) in held.short_behind(&self.key) {
@@ -87,7 +93,11 @@ impl<A: Allocator> Cursor<A> {
     }
 
     /// Stops at the key with these words. Returns whether there is room for it.
-    fn stop_at(&mut self, words: &[u64]) -> bool {
+    fn stop_at(&mut self, words: &[u64]) -> bool
+        ensures at { result ≡ true → self.new.key.items ≡ words.now }
+        ensures start { result ≡ false → self.new.key.items ≡ [] }
+        ensures room { result ≡ false → vec_capacity self.old.key < length words.now }
+    {
         self.key.clear();
         words.len() <= self.key.capacity() && self.key.extend_from_slice(words).is_ok()
     }

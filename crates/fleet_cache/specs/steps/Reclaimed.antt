@@ -1,10 +1,13 @@
 -- What reclaiming does to what is held.
 -- Serves `Cache::purge`, where it frees memory.
-use Rattle.std.specs.Prelude.{◌≡◌, ℕ, Bool, true, false, not, List, ◌≤◌, length}
+use Rattle.std.specs.Prelude.{◌≡◌, ◌⊎◌, ℕ, Bool, true, false, not, if◌then◌else◌, nat_eq, nat_lt, List, [], ◌∷◌, ◌≤◌, length}
+use Rattle.std.specs.declared.cmp.Ordering.TheVariants.{Less}
 use Rattle.std.specs.List.{filter}
 use Rattle.fleet_wire.specs.Types.{Seconds}
 use Rattle.fleet_observe.specs.Members.{Has}
 use Rattle.fleet_observe.specs.Observation.{ObservationData, Observations}
+use Rattle.fleet_observe.specs.Preference.{octets_cmp}
+use Rattle.fleet_cache.specs.declared.words.TheConstants.{SHORT_WORDS}
 use Rattle.fleet_cache.specs.Live.{is_live, live_of}
 use Rattle.fleet_cache.specs.Cut.{CutData, is_hidden}
 use Rattle.fleet_cache.specs.steps.Packed.{words_of}
@@ -42,3 +45,24 @@ AllLive words m items rest =
 -- each item of a front lives at the moment m, as the items say
 abbrev pub IsLiveFront : Seconds → Observations → Observations → Type 0
 IsLiveFront m items front = (o : ObservationData) → Has front o → is_live items m o ≡ true
+
+-- Where a purge comes to a name, by the words of its key: short names come first. Fewer words than a
+-- key has are the start.
+abbrev pub turn : List ℕ → List ℕ
+turn words = if nat_lt (length words) SHORT_WORDS then []
+    else if nat_eq (length words) SHORT_WORDS then 0 ∷ words else 1 ∷ words
+
+-- a purge comes to the name with the words v before it comes to the one with the words w
+abbrev pub ComesBefore : List ℕ → List ℕ → Type 0
+ComesBefore v w = octets_cmp (turn v) (turn w) ≡ Less
+
+-- Each item of the names after `from` and before `to` lives at the moment m, as the items say. Where
+-- `to` has no words, so does each item of all names after `from`.
+abbrev pub IsPassed : Seconds → Observations → List ℕ → List ℕ → Type 0
+IsPassed m items from to = (o : ObservationData) → Has items o → ComesBefore from (words_of o)
+    → (to ≡ []) ⊎ ComesBefore (words_of o) to → is_live items m o ≡ true
+
+-- it is back at the start, or at a name after `from`
+abbrev pub StopsAfter : Observations → List ℕ → List ℕ → Type 0
+StopsAfter items from to = (to ≡ [])
+    ⊎ ((o : ObservationData) × Has items o × (words_of o ≡ to) × ComesBefore from to)

@@ -27,9 +27,9 @@ returns-in-Some g c =
         subst (IsLent lent) c.observation.ensures (c.equals.ensures.equal.0 told),
       ),
       λ some. c.equals.ensures.equal.1 (subst (IsLent lent) (sym (c.observation.ensures
-      ∙ only_first items before item some.0 lent c.requires.in_rows c.requires.apart within
-      c.in-Some.ensures.lookup.1 level some.2 (after_before items before lent some.0
-      (λ i d first there. point.0 i d (omega arith) first) some.2 some.1))) some.2),
+          ∙ only_first items before item some.0 lent c.requires.in_rows c.requires.apart within
+          c.in-Some.ensures.lookup.1 level some.2 (after_before items before lent some.0
+          (λ i d first there. point.0 i d (omega arith) first) some.2 some.1))) some.2),
     )
 
 pub returns-in-None : goal.returns-in-None
