@@ -88,6 +88,16 @@ def apart(things, count):
     return [it for at, it in enumerate(things) if at in chosen], [it for at, it in enumerate(things) if at not in chosen]
 
 
+def held_types(n):
+    """The setup that the cases of n types share: a purge after them sets the floor to 1001."""
+    return held(of_types(TYPES[:n])) + ["tick 0 1001"]
+
+
+def held_items(n):
+    """The setup that the cases of n items share: a purge after them sets the floor to 9500, and all last longer."""
+    return held(chain(n)) + ["tick 0 9500"]
+
+
 def some_of(entries):
     """1000 of these entries, in no order."""
     return [entries[at * 7919 % len(entries)] for at in range(1000)]
@@ -99,7 +109,7 @@ def ended(name, rtype):
 
 
 add("one name of n types: 1000 known", ONE_NAME, ONE_NAME,
-    lambda n: takes(held(of_types(TYPES[:n])), some_of(of_types(TYPES[:n]))))
+    lambda n: takes(held_types(n), some_of(of_types(TYPES[:n])), 1001))
 
 
 @case("one name of n types: 1000 new", ONE_NAME, ONE_NAME)
@@ -110,8 +120,8 @@ def types_new(n):
 
 @case("one name of n types: 1000 ended", (*ONE_NAME, 8000), (*ONE_NAME, 8000))
 def types_ended(n):
-    """They had ended when the purge at 1001 set the floor, and are of the last type."""
-    return takes(held(of_types(TYPES[:n])) + ["tick 0 1001"], ended(short(1), TYPES[n - 1]), 1001)
+    """They had ended at the floor, and are of the last type."""
+    return takes(held_types(n), ended(short(1), TYPES[n - 1]), 1001)
 
 
 @case("one name of n types: 1000 withdrawn by a flush above", ONE_NAME, ONE_NAME)
@@ -123,17 +133,15 @@ def types_withdrawn(n):
 
 @case("one name of n types: 1000 dominated by the first item", ONE_NAME, ONE_NAME)
 def types_first(n):
-    entries = [positive(short(1), TYPES[0], 900 - at % 50) for at in range(1000)]
-    return takes(held(of_types(TYPES[:n])), entries)
+    return takes(held_types(n), [positive(short(1), TYPES[0], 900 - at % 50) for at in range(1000)], 1001)
 
 
 @case("one name of n types: 1000 dominated by the last item", (*ONE_NAME, 8000), (*ONE_NAME, 8000))
 def types_last(n):
-    entries = [positive(short(1), TYPES[n - 1], 900 - at % 50) for at in range(1000)]
-    return takes(held(of_types(TYPES[:n])), entries)
+    return takes(held_types(n), [positive(short(1), TYPES[n - 1], 900 - at % 50) for at in range(1000)], 1001)
 
 
-add("one key of n items: 1000 known", ONE_NAME, ONE_NAME, lambda n: takes(held(chain(n)), some_of(chain(n))))
+add("one key of n items: 1000 known", ONE_NAME, ONE_NAME, lambda n: takes(held_items(n), some_of(chain(n)), 9500))
 
 
 @case("one key of n items: 1000 new", ONE_NAME, ONE_NAME)
@@ -145,8 +153,8 @@ def items_new(n):
 
 @case("one key of n items: 1000 ended", (*ONE_NAME, 8000), (*ONE_NAME, 8000))
 def items_ended(n):
-    """They had ended when the purge at 9500 set the floor; all items last longer."""
-    return takes(held(chain(n)) + ["tick 0 9500"], ended(short(1), 1), 9500)
+    """They had ended at the floor."""
+    return takes(held_items(n), ended(short(1), 1), 9500)
 
 
 @case("one key of n items: 1000 withdrawn by a flush above", ONE_NAME, ONE_NAME)
@@ -160,14 +168,14 @@ def items_withdrawn(n):
 def items_first(n):
     stamp, end = 1000 + n - 1, 41000 - (n - 1)
     entries = [positive(short(1), 1, stamp - 1 - at % 50, end - at % 7 - (stamp - 1 - at % 50)) for at in range(1000)]
-    return takes(held(chain(n)), entries)
+    return takes(held_items(n), entries, 9500)
 
 
 @case("one key of n items: 1000 dominated by the last item", (*ONE_NAME, 8000), (*ONE_NAME, 8000))
 def items_last(n):
     """They end when the last item does, and later than any other."""
     entries = [positive(short(1), 1, 990 - at % 50, 41000 - (990 - at % 50)) for at in range(1000)]
-    return takes(held(chain(n)), entries)
+    return takes(held_items(n), entries, 9500)
 
 
 add("one key of n items: all of them new", (500, 1000, 2000, 4000), (500, 2000), lambda n: takes([], chain(n)))
