@@ -227,6 +227,24 @@ add("frames of flushes of the root, whose stamps fall, n frames", (1, 2, 4), (),
     lambda n: frames(held([flush((), 5000)]), pack([flush((), 1963 - it) for it in range(963)]) * n))
 
 
+def below_flushes(n):
+    """Flushes at n lengths of a name of 100 labels, and 300 entries below it that are stamped later."""
+    flushes = [flush((b"a",) * it, 900) for it in range(1, n + 1)]
+    return flushes, [positive((b"%03d" % it,) + (b"a",) * 100) for it in range(300)]
+
+
+@case("frames, 300 names of 101 labels that are new, flushes at n lengths", (5, 25, 100), (5, 100))
+def new_below_flushes(n):
+    flushes, entries = below_flushes(n)
+    return takes(held(flushes), entries)
+
+
+@case("frames, 300 names of 101 labels that are known, flushes at n lengths", (5, 25, 100), (5, 100))
+def known_below_flushes(n):
+    flushes, entries = below_flushes(n)
+    return takes(held(flushes + entries), entries)
+
+
 def many_rdatas(stamp):
     """An entry with 1000 RDATAs."""
     whole = positive(short(1), 1, stamp, rdata=b"")
