@@ -7,7 +7,7 @@ refused at once. What is measured is what the measured lines cost after the setu
 import collections
 
 from lines import CLIENT, SHAPES, TYPES, UPSTREAM, as_question, as_reply, ask_lines, chain, datagram_lines, denial
-from lines import denying_reply, flush, frame_lines, held, learn_lines, longest, pack, positive, question, refused_asks
+from lines import denying_reply, flush, frame_lines, held, learn_lines, long, longest, pack, positive, question, refused_asks
 from lines import refused_frames, refused_learns, reply, same_start, short, tick_lines, two, wire
 
 Script = collections.namedtuple("Script", "setup measured refused")
@@ -141,6 +141,10 @@ def types_last(n):
     return takes(held_types(n), [positive(short(1), TYPES[n - 1], 900 - at % 50) for at in range(1000)], 1001)
 
 
+for of in (long, longest):
+    add(f"one {of.__name__} name of n types: 1000 dominated by the first item", ONE_NAME, (8, 2000),
+        lambda n, of=of: takes(held(of_types(TYPES[:n], of(1))),
+                               [positive(of(1), TYPES[0], 900 - at % 50) for at in range(1000)]))
 add("one key of n items: 1000 known", ONE_NAME, ONE_NAME, lambda n: takes(held_items(n), some_of(chain(n)), 9500))
 
 
