@@ -251,7 +251,3 @@ module _ (items : List ObservationData) (m : ℕ) (from : List ℕ) where
       goes w more come (inl s) = subst (λ v. octets_cmp v w ≡ Less) (sym s.1) (nothing_first w more)
       goes w more come (inr l) = subst (λ v. octets_cmp v w ≡ Less) (sym l.1)
           (after_long from w more l.0 come)
-
--- without room, it is back at the start
-pub no_room : (r c k : ℕ) → r ≤ c → c < k → k ≤ r → ⊥
-no_room r c k room less most = omega (arith, room, less, most)

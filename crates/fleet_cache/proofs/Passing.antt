@@ -1,8 +1,8 @@
 -- What is live of a front, where a purge passes over it.
-use Rattle.std.proofs.Common.{◌≡◌, ℕ, suc, ◌<◌, Bool, false, inl, inr, List, [], ◌∷◌, subst, arith}
+use Rattle.std.proofs.Common.{◌≡◌, ℕ, ◌<◌, Bool, false, inl, inr, List, [], ◌∷◌, subst, arith}
 use Rattle.std.proofs.lemmas.Bool.{cases_Bool, or_parts}
 use Rattle.std.proofs.lemmas.Bool.Decides.{nat_tests}
-use Rattle.std.specs.List.{All, list_any}
+use Rattle.std.specs.List.{list_any}
 use Rattle.fleet_observe.specs.Members.{Has}
 use Rattle.fleet_observe.specs.declared.observation.kind.Kind.TheVariants.{Flush}
 use Rattle.fleet_observe.specs.Observation.{ObservationData, AreObservations}
@@ -41,15 +41,3 @@ none_of p (x ∷ xs) e o h = elim h [
   | inl here ↦ subst (λ y. p y ≡ false) here (or_parts (p x) (list_any p xs) e).0
   | inr far ↦ none_of p xs (or_parts (p x) (list_any p xs) e).1 o far
 ]
-
--- what holds of each of a list, of its first one and of the others
-module _ {X : Type 0} (P : X → Type 0) (xs rest : List X) (x : X) (is : xs ≡ x ∷ rest)
-    (all : All P xs) where
-  both : All P (x ∷ rest)
-  both = subst (All P) is all
-
-  pub all_first : P x
-  all_first = both 0 x (omega arith)
-
-  pub all_rest : All P rest
-  all_rest k d within = both (suc k) d (omega (arith, within))

@@ -1,6 +1,7 @@
 -- Which observations of a frame are made, and how far they are taken.
-use Rattle.std.proofs.Common.{◌≡◌, ℕ, suc, ◌+◌, ◌≤◌, List, [], ◌∷◌, ◌++◌, length, inl, inr, refl, sym, ap, ◌∙◌, subst, arith, length-append, append_assoc, Result, Ok, Err, OnErr}
+use Rattle.std.proofs.Common.{◌≡◌, ◌⊎◌, ℕ, suc, ◌+◌, ◌≤◌, List, [], ◌∷◌, ◌++◌, length, inl, inr, refl, sym, ap, ◌∙◌, subst, arith, length-append, append_assoc, Result, Ok, Err, OnErr}
 use Rattle.std.proofs.lemmas.List.{append-nil, nil_from_length}
+use Rattle.fleet_name.proofs.Lemmas.{has_left}
 use Rattle.fleet_observe.specs.Members.{Has}
 use Rattle.fleet_observe.specs.Observation.{ObservationData}
 use Rattle.fleet_cache.specs.Cached.{CacheData, IsCached, IsNeedless}
@@ -9,7 +10,7 @@ use Rattle.fleet_gossip.specs.Entry.{AreIn}
 use Rattle.fleet_gossip.specs.Frame.{entries}
 use Rattle.fleet_gossip.specs.Taken.{Takes, IsPassedOver}
 use Rattle.fleet_gossip.specs.steps.Reading.{BeginsWithEntries}
-use Rattle.fleet_gossip.specs.steps.Taking.{IsFirstUnheld, AreUnheld, FindsUnheld, HasUnheld, TakesFirstOf}
+use Rattle.fleet_gossip.specs.steps.Taking.{IsFirstMade, AreMade, FindsMade, AnyUnheld, HasUnheld, TakesFirstOf}
 
 -- the next one of those that are left goes over to those that are done
 pub one_over : (done left others : List ObservationData) (o : ObservationData)
@@ -30,8 +31,8 @@ has_behind (x ∷ done) others o = inr (has_behind done others o)
 module _ (cache : CacheData) (o : ObservationData) where
   -- it need not be taken in
   pub held_more : (at : ℕ) (done : List ObservationData) (made : List (ℕ × ObservationData))
-      → AreUnheld cache at done made → Takes cache cache (o ∷ [])
-      → AreUnheld cache at (done ++ o ∷ []) made
+      → AreMade cache at done made → Takes cache cache (o ∷ [])
+      → AreMade cache at (done ++ o ∷ []) made
   held_more at done [] known one = λ s cached.
       subst (λ (v : List ObservationData). IsCached v cache.floor cache.items)
       (sym (append_assoc done (o ∷ []) s)) (known (o ∷ s) (one s cached))
@@ -43,21 +44,20 @@ module _ (cache : CacheData) (o : ObservationData) where
           ∙ append_assoc is.held (first.1 ∷ all.0) (o ∷ []);
       known = is.known;
       placed = is.placed;
-      unheld = is.unheld;
     },
     held_more (suc first.0) all.0 made all.2 one,
   )
 
-  -- it isn't passed over
-  pub unheld_more : (at : ℕ) (done : List ObservationData) (made : List (ℕ × ObservationData))
-      (place : ℕ) → AreUnheld cache at done made → place ≡ at + length done
-      → (IsPassedOver cache o → ⊥) → AreUnheld cache at (done ++ o ∷ []) (made ++ (place, o) ∷ [])
-  unheld_more at done [] place known placed unheld = (
+  -- it is made
+  pub made_more : (at : ℕ) (done : List ObservationData) (made : List (ℕ × ObservationData))
+      (place : ℕ) → AreMade cache at done made → place ≡ at + length done
+      → AreMade cache at (done ++ o ∷ []) (made ++ (place, o) ∷ [])
+  made_more at done [] place known placed = (
     [],
-    record { held = done; split = refl; known = known; placed = placed; unheld = unheld },
+    record { held = done; split = refl; known = known; placed = placed },
     λ s cached. cached,
   )
-  unheld_more at done (first ∷ made) place all placed unheld = let is = all.1 in (
+  made_more at done (first ∷ made) place all placed = let is = all.1 in (
     all.0 ++ o ∷ [],
     record {
       held = is.held;
@@ -65,16 +65,25 @@ module _ (cache : CacheData) (o : ObservationData) where
           ∙ append_assoc is.held (first.1 ∷ all.0) (o ∷ []);
       known = is.known;
       placed = is.placed;
-      unheld = is.unheld;
     },
-    unheld_more (suc first.0) all.0 made place all.2
+    made_more (suc first.0) all.0 made place all.2
         (omega (
           arith,
           placed,
           is.placed,
           ap length is.split,
           length-append is.held (first.1 ∷ all.0),
-        )) unheld,
+        )),
+  )
+
+  -- it isn't passed over where it is looked for, and where it is not, one before it wasn't
+  pub unheld_more : (done : List ObservationData) (left : ℕ) → (left ≡ 0) ⊎ AnyUnheld cache done
+      → (left ≡ 0 → IsPassedOver cache o → ⊥) → AnyUnheld cache (done ++ o ∷ [])
+  unheld_more done left (inl none) unheld = (o, has_behind done [] o, unheld none)
+  unheld_more done left (inr some) unheld = (
+    some.0,
+    has_left done (o ∷ []) some.0 some.1,
+    some.2,
   )
 
 -- entries of which some are done and others are left
@@ -88,8 +97,8 @@ module _ (octets : List ℕ) (version count at : ℕ) (done left : List Observat
     counted = omega (arith, length-append done left, counted, all);
   }
 
-  pub finds_all : (made : List (ℕ × ObservationData)) → AreUnheld cache 0 done made → count ≤ at
-      → FindsUnheld octets version count cache made
+  pub finds_all : (made : List (ℕ × ObservationData)) → AreMade cache 0 done made → count ≤ at
+      → FindsMade octets version count cache made
   finds_all made found past =
       let none : left ≡ [] = nil_from_length left (omega (arith, all, past)) in
       let same : done ++ left ≡ done = ap (λ (v : List ObservationData). done ++ v) none
@@ -97,18 +106,19 @@ module _ (octets : List ℕ) (version count at : ℕ) (done left : List Observat
       record {
         list = done ++ left;
         are = all_are;
-        found = subst (λ (v : List ObservationData). AreUnheld cache 0 v made) (sym same) found;
+        found = subst (λ (v : List ObservationData). AreMade cache 0 v made) (sym same) found;
       }
 
   pub finds_one : (o : ObservationData) (others : List ObservationData) → left ≡ o ∷ others
-      → (IsPassedOver cache o → ⊥) → HasUnheld octets version count cache
+      → AnyUnheld cache (done ++ o ∷ []) → HasUnheld octets version count cache
   finds_one o others next unheld = record {
     list = done ++ left;
     are = all_are;
     unheld = (
-      o,
-      subst (λ (v : List ObservationData). Has (done ++ v) o) (sym next) (has_behind done others o),
-      unheld,
+      unheld.0,
+      subst (λ (v : List ObservationData). Has v unheld.0) (sym (one_over done left others o next))
+          (has_left (done ++ o ∷ []) others unheld.0 unheld.1),
+      unheld.2,
     );
   }
 
@@ -119,13 +129,13 @@ pub record IsUnderway (before mid : CacheData) (list : List ObservationData)
   pub back : List ObservationData
   pub whole : list ≡ done ++ back
   pub taken : HasTaken before mid done
-  pub left : AreUnheld before (length done) back unheld
+  pub left : AreMade before (length done) back unheld
 
 -- the next one of those
 module _ (before mid : CacheData) (list : List ObservationData)
     (next : ℕ × ObservationData) (others : List (ℕ × ObservationData))
     (way : IsUnderway before mid list (next ∷ others)) where
-  abbrev is : IsFirstUnheld before (length way.done) way.back next.0 next.1 way.left.0
+  abbrev is : IsFirstMade before (length way.done) way.back next.0 next.1 way.left.0
   is = way.left.1
 
   abbrev passed : List ObservationData
@@ -170,7 +180,7 @@ module _ (before mid : CacheData) (list : List ObservationData)
     back = way.left.0;
     whole = seam ∙ sym (append_assoc passed (next.1 ∷ []) way.left.0);
     taken = taken_more before mid after passed next.1 taken one same;
-    left = subst (λ (n : ℕ). AreUnheld before n way.left.0 others)
+    left = subst (λ (n : ℕ). AreMade before n way.left.0 others)
         (omega (arith, placed, length-append passed (next.1 ∷ []))) way.left.2;
   }
 

@@ -7,7 +7,7 @@ ghost use Rattle.fleet_observe.specs.Observation.{IsObservation, ObservationData
 ghost use Rattle.fleet_cache.specs.Cached.{IsCached};
 ghost use Rattle.fleet_gossip.specs.Taken.{Takes, TakesFrame, IsPassedOver, StopsAt};
 ghost use Rattle.fleet_gossip.specs.steps.Reading.{AreEntryOctets};
-ghost use Rattle.fleet_gossip.specs.steps.Taking.{AreUnheld, FindsUnheld, HasUnheld, TakesFirstOf};
+ghost use Rattle.fleet_gossip.specs.steps.Taking.{AreMade, FindsMade, HasUnheld, TakesFirstOf};
 
 use crate::fault::FrameFault;
 use crate::frame::{Entries, read_frame};
@@ -46,43 +46,88 @@ fn is_passed_over<A: Allocator>(cache: &Cache<A>, lent: &LentObservation<'_>) ->
     cache.is_past_lent(lent) || cache.holds(lent)
 }
 
-/// The observations of those lawful entries that a cache does not pass over, each with the place of
-/// its entry, from 0 on. For the others nothing is allocated. `Err` where an allocation fails.
-fn to_unheld<A: Allocator + Copy>(
+/// The most entries that are made unseen before the next one is looked for.
+const MOST_UNSEEN: u16 = 63;
+
+/// Which entries of a frame are looked for. Those that a cache passes over come together, as in a
+/// sweep, and so do the others. So after one that it does not pass over, the next ones are made
+/// unseen: one, three, and so on up to `MOST_UNSEEN`, until one that is looked for is passed over.
+#[derive(Drop)]
+struct Unseen {
+    /// How many are made unseen each time.
+    run: u16,
+    /// How many of them are left.
+    left: u16,
+}
+
+impl Unseen {
+    /// The first entry is looked for.
+    fn new() -> Unseen
+        ensures { result.left ≡ 0 }
+    {
+        Unseen { run: 0, left: 0 }
+    }
+
+    /// Whether the next entry is looked for and a cache passes over it.
+    fn passes_over<A: Allocator>(&mut self, cache: &Cache<A>, lent: &LentObservation<'_>) -> bool
+        requires { IsWire lent.now.name.now }
+        ensures taken { (o : ObservationData) (s : Observations) → IsLent lent.now o
+            → IsObservation o → IsTrue result → IsCached s cache.now.floor cache.now.items
+            → IsCached (o ∷ s) cache.now.floor cache.now.items }
+        ensures passed { (o : ObservationData) → IsLent lent.now o → IsObservation o
+            → self.old.left ≡ 0 → IsPassedOver cache.now o → IsTrue result }
+        ensures seen { IsTrue result → (self.old.left ≡ 0) × (self.new.left ≡ 0) }
+    {
+        if self.left > 0 {
+            self.left -= 1;
+            return false;
+        }
+        let over = is_passed_over(cache, lent);
+        self.run = if over { 0 } else { self.run.min(MOST_UNSEEN / 2) * 2 + 1 };
+        self.left = self.run;
+        over
+    }
+}
+
+/// The observations of those lawful entries that a cache does not pass over, or that are not looked
+/// for, each with the place of its entry, from 0 on. For the others nothing is allocated. `Err` where
+/// an allocation fails.
+fn to_made<A: Allocator + Copy>(
     alloc: A,
     cache: &Cache<A>,
     entries: &Entries<'_>,
 ) -> Result<Vec<(u16, Observation<A>), A>, AllocError>
     requires { AreEntryOctets entries.now.octets.now entries.now.version entries.now.count }
-    ensures found { IfOk result (λ v. FindsUnheld entries.now.octets.now entries.now.version
+    ensures found { IfOk result (λ v. FindsMade entries.now.octets.now entries.now.version
         entries.now.count cache.now v.items) }
     ensures memory { OnErr result (HasUnheld entries.now.octets.now entries.now.version
         entries.now.count cache.now) }
 {
     let mut reader = Reader::new(entries.octets);
-    let mut unheld = Vec::new(alloc);
+    let mut made = Vec::new(alloc);
+    let mut unseen = Unseen::new();
     for place in 0..entries.count {
         let entry = read_known_entry(&mut reader, entries.version);
-        if !is_passed_over(cache, &entry.lent()) {
-            unheld.reserve(usize::from(entries.count - place))?;
-            unheld.push((place, entry.to_observation(alloc)?))?;
+        if !unseen.passes_over(cache, &entry.lent()) {
+            made.reserve(usize::from(entries.count - place))?;
+            made.push((place, entry.to_observation(alloc)?))?;
         }
     }
-    Ok(unheld)
+    Ok(made)
 }
 
 /// Takes observations in, in their order. `Err` is the place of the first one that an allocation
 /// failed for; those before it were taken.
-fn take_unheld<A: Allocator + Copy>(
+fn take_made<A: Allocator + Copy>(
     cache: &mut Cache<A>,
-    unheld: Vec<(u16, Observation<A>), A>,
+    made: Vec<(u16, Observation<A>), A>,
 ) -> Result<(), u16>
-    ensures taken { (list : Observations) → AreUnheld cache.old 0 list unheld.items
+    ensures taken { (list : Observations) → AreMade cache.old 0 list made.items
         → MatchResult result (λ _. Takes cache.old cache.new list)
         (TakesFirstOf list cache.old cache.new) }
     ensures floor { cache.new.floor ≡ cache.old.floor }
 {
-    for (place, observation) in unheld {
+    for (place, observation) in made {
         if cache.take(observation).is_err() {
             return Err(place);
         }
@@ -94,9 +139,10 @@ fn take_unheld<A: Allocator + Copy>(
 ///
 /// All octets are checked first, as `decode` does; where they are no frame, nothing is taken. An
 /// observation that had ended at the floor or is withdrawn by a flush is passed over, and so is one
-/// that the cache holds, which is compared in place: nothing is allocated for them. All others are
-/// made before the first is taken, so that where memory fails for one of them, the cache is as it
-/// was. `OutOfMemory` comes only of a frame with an observation that is not passed over.
+/// that the cache holds, which is compared in place: nothing is allocated for them. After one that
+/// is not passed over some are made unseen, up to 63. All that are made are made before the first is
+/// taken, so that where memory fails for one of them, the cache is as it was. `OutOfMemory` comes
+/// only of a frame with an observation that is not passed over.
 pub fn take_frame<A: Allocator + Copy>(
     alloc: A,
     cache: &mut Cache<A>,
@@ -110,10 +156,10 @@ pub fn take_frame<A: Allocator + Copy>(
         Ok(entries) => entries,
         Err(fault) => return Err(TakeFault::Refused(fault)),
     };
-    let Ok(unheld) = to_unheld(alloc, cache, &entries) else {
+    let Ok(made) = to_made(alloc, cache, &entries) else {
         return Err(TakeFault::OutOfMemory { taken: 0 });
     };
-    match take_unheld(cache, unheld) {
+    match take_made(cache, made) {
         Ok(()) => Ok(usize::from(entries.count)),
         Err(place) => Err(TakeFault::OutOfMemory {
             taken: usize::from(place),

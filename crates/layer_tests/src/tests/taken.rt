@@ -11,6 +11,19 @@ use linked_list_allocator::LocalHeap;
 use std::alloc::{AllocError, Global};
 use std::process::Abort;
 
+/// The frame of three observations of 4,000 octets each.
+const LARGE: &str =
+    "@00030303{00*7}640000012c01'a'00001000010fa0{00*4000}\
+    0303{00*7}640000012c01'b'00001000010fa0{00*4000}\
+    0303{00*7}640000012c01'c'00001000010fa0{00*4000}";
+
+/// The same behind a small one of another name.
+const BEHIND: &str =
+    "@00040303{00*7}640000012c01'n'0000010001000400000000\
+    0303{00*7}640000012c01'a'00001000010fa0{00*4000}\
+    0303{00*7}640000012c01'b'00001000010fa0{00*4000}\
+    0303{00*7}640000012c01'c'00001000010fa0{00*4000}";
+
 /// Takes the frame of a word.
 fn take<'a>(
     rt: &impl Abort,
@@ -79,6 +92,16 @@ fn check_heap(rt: &impl Abort, global: Global, heap: &LocalHeap) {
 fn what_is_held_is_taken_without_memory(rt: HostRuntime) {
     let heap = LocalHeap::new(rt.alloc(), 1 << 14).expect(&rt, "memory");
     check_heap(&rt, rt.alloc(), &heap)
+}
+
+#[test]
+fn what_is_held_is_looked_for_behind_what_is_not(rt: HostRuntime) {
+    // With three of them held there is room for one more copy, and not for two.
+    let heap = LocalHeap::new(rt.alloc(), 19_000).expect(&rt, "memory");
+    let mut cache = Cache::new(&heap);
+    assert_eq!(&rt; take(&rt, rt.alloc(), &heap, &mut cache, LARGE), Ok(3));
+    assert_eq!(&rt; take(&rt, rt.alloc(), &heap, &mut cache, BEHIND), Ok(4));
+    assert_eq!(&rt; cache.len(), 4);
 }
 
 /// Whether an observation is what it lends, and a cache of it alone holds this; and that neither is so

@@ -1,4 +1,4 @@
-use Rattle.std.proofs.Common.{◌++◌, ◌∷◌, [], List, length, refl, ap, ◌∙◌, subst, arith, length-append}
+use Rattle.std.proofs.Common.{◌++◌, ◌∷◌, [], List, length, inl, inr, refl, ap, ◌∙◌, subst, arith, length-append}
 use Rattle.std.proofs.lemmas.List.{append-nil}
 use mathlib.Core.Bool.{false≢true}
 use Rattle.fleet_observe.specs.Observation.{ObservationData}
@@ -6,9 +6,9 @@ use Rattle.fleet_gossip.specs.Entry.{AreIn}
 use Rattle.fleet_gossip.specs.Frame.{entries}
 use Rattle.fleet_gossip.proofs.FrameSteps.{next_of, next_lawful}
 use Rattle.fleet_gossip.proofs.Passing.{next_there}
-use Rattle.fleet_gossip.proofs.Taking.{one_over, held_more, unheld_more, finds_all, finds_one, on_err}
-use Rattle.fleet_gossip.proofs.take.to_unheld.Goals as goal
-use Rattle.fleet_gossip.proofs.take.to_unheld.Goals.{then-not-is_passed_over+in_ok-reserve+in_ok-to_observation+in_ok-push, else-not-is_passed_over}
+use Rattle.fleet_gossip.proofs.Taking.{one_over, held_more, made_more, unheld_more, finds_all, finds_one, on_err}
+use Rattle.fleet_gossip.proofs.take.to_made.Goals as goal
+use Rattle.fleet_gossip.proofs.take.to_made.Goals.{then-not-passes_over+in_ok-reserve+in_ok-to_observation+in_ok-push, else-not-passes_over}
 
 pub loop-place-init : goal.loop-place-init
 loop-place-init g c = record {
@@ -20,7 +20,8 @@ loop-place-init g c = record {
   octets = c.requires.are.whole ∙ append-nil (entries c.requires.list);
   counted = refl;
   all = omega (arith, c.requires.are.counted);
-  found = rw c.new-unheld.ensures.items (λ s cached. cached);
+  found = rw c.new-made.ensures.items (λ s cached. cached);
+  unheld = inl c.new-unseen.ensures;
 }
 
 pub read_known_entry-entry-requires : goal.read_known_entry-entry-requires
@@ -36,8 +37,9 @@ returns-in_err-reserve-clause-memory g c =
     (omega (arith, i.all, c.loop-place-test.true)) read.1.lawful read.3 in
     on_err c.from_residual.result (finds_one _ _ _ c.loop-place.place i.done i.left i.lawful
     i.octets i.counted i.all c.args.cache.now read.0 next.others next.left_is
-    (λ over. false≢true (c.if-not-is_passed_over.ensures.passed read.0 (c.lent.ensures read.0 read.1)
-    read.1.lawful over)))
+    (unheld_more c.args.cache.now read.0 i.done c.loop-place.unseen.left i.unheld
+    (λ none over. false≢true (c.if-not-passes_over.ensures.passed read.0
+    (c.lent.ensures read.0 read.1) read.1.lawful none over))))
 
 pub returns-in_err-to_observation-clause-memory : goal.returns-in_err-to_observation-clause-memory
 returns-in_err-to_observation-clause-memory g c =
@@ -47,8 +49,9 @@ returns-in_err-to_observation-clause-memory g c =
     (omega (arith, i.all, c.loop-place-test.true)) read.1.lawful read.3 in
     on_err c.from_residual-in_err-to_observation.result (finds_one _ _ _ c.loop-place.place i.done
     i.left i.lawful i.octets i.counted i.all c.args.cache.now read.0 next.others next.left_is
-    (λ over. false≢true (c.if-not-is_passed_over.ensures.passed read.0 (c.lent.ensures read.0 read.1)
-    read.1.lawful over)))
+    (unheld_more c.args.cache.now read.0 i.done c.loop-place.unseen.left i.unheld
+    (λ none over. false≢true (c.if-not-passes_over.ensures.passed read.0
+    (c.lent.ensures read.0 read.1) read.1.lawful none over))))
 
 pub loop-place-preserved : goal.loop-place-preserved
 loop-place-preserved g c =
@@ -67,22 +70,27 @@ loop-place-preserved g c =
       octets = i.octets ∙ ap entries over;
       counted = omega (arith, i.counted, length-append i.done (read.0 ∷ []));
       all = omega (arith, i.all, ap length next.left_is);
-      found = elim c.if-not-is_passed_over.branch [
-        | then-not-is_passed_over+in_ok-reserve+in_ok-to_observation+in_ok-push w ↦
+      found = elim c.if-not-passes_over.branch [
+        | then-not-passes_over+in_ok-reserve+in_ok-to_observation+in_ok-push w ↦
             rw (
-              w.unheld-is,
+              w.made-is,
               w.in_ok-push.ensures.items,
               w.in_ok-reserve.ensures.items,
               w.in_ok-to_observation.ensures read.0 read.1,
             )
-            (unheld_more c.args.cache.now read.0 0 i.done c.loop-place.unheld.items
-            c.loop-place.place i.found (omega (arith, i.counted))
-            (λ over. false≢true (w.if-not-is_passed_over.ensures.passed read.0
-            (c.lent.ensures read.0 read.1) read.1.lawful over)))
-        | else-not-is_passed_over w ↦ rw w.unheld-is
-            (held_more c.args.cache.now read.0 0 i.done c.loop-place.unheld.items i.found
-            (λ s cached. w.if-not-is_passed_over.ensures.taken read.0 s
+            (made_more c.args.cache.now read.0 0 i.done c.loop-place.made.items
+            c.loop-place.place i.found (omega (arith, i.counted)))
+        | else-not-passes_over w ↦ rw w.made-is
+            (held_more c.args.cache.now read.0 0 i.done c.loop-place.made.items i.found
+            (λ s cached. w.if-not-passes_over.ensures.taken read.0 s
             (c.lent.ensures read.0 read.1) read.1.lawful refl cached))
+      ];
+      unheld = elim c.if-not-passes_over.branch [
+        | then-not-passes_over+in_ok-reserve+in_ok-to_observation+in_ok-push w ↦
+            inr (unheld_more c.args.cache.now read.0 i.done c.loop-place.unseen.left i.unheld
+            (λ none over. false≢true (w.if-not-passes_over.ensures.passed read.0
+            (c.lent.ensures read.0 read.1) read.1.lawful none over)))
+        | else-not-passes_over w ↦ inl (w.if-not-passes_over.ensures.seen refl).1
       ];
     }
 
@@ -90,4 +98,4 @@ pub returns-clause-found : goal.returns-clause-found
 returns-clause-found g c =
     let i = c.loop-place.invariant in
     finds_all _ _ _ c.loop-place.place i.done i.left i.lawful i.octets i.counted i.all
-    c.args.cache.now c.loop-place.unheld.items i.found c.loop-place-test.false
+    c.args.cache.now c.loop-place.made.items i.found c.loop-place-test.false

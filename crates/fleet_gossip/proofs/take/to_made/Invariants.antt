@@ -1,9 +1,9 @@
-use Rattle.std.proofs.Common.{◌≡◌, ◌+◌, ◌++◌, List, length}
+use Rattle.std.proofs.Common.{◌≡◌, ◌⊎◌, ◌+◌, ◌++◌, List, length}
 use Rattle.fleet_observe.specs.Observation.{ObservationData}
 use Rattle.fleet_gossip.specs.Entry.{AreIn}
 use Rattle.fleet_gossip.specs.Frame.{entries}
-use Rattle.fleet_gossip.specs.steps.Taking.{AreUnheld}
-use Rattle.fleet_gossip.proofs.take.to_unheld.Given as goal
+use Rattle.fleet_gossip.specs.steps.Taking.{AreMade, AnyUnheld}
+use Rattle.fleet_gossip.proofs.take.to_made.Given as goal
 
 abbrev pub invariant-loop-place : goal.invariant-loop-place
 invariant-loop-place g l = record {
@@ -15,5 +15,6 @@ invariant-loop-place g l = record {
   octets : l.entries.octets.now ≡ entries (done ++ left);
   counted : length done ≡ l.place;
   all : l.place + length left ≡ l.entries.count;
-  found : AreUnheld l.cache 0 done l.unheld.items;
+  found : AreMade l.cache 0 done l.made.items;
+  unheld : (l.unseen.left ≡ 0) ⊎ AnyUnheld l.cache done;
 }

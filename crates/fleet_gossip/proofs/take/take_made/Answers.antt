@@ -2,9 +2,9 @@ use Rattle.std.proofs.Common.{◌≡◌, [], length, refl, sym, ap, ◌∙◌, s
 use Rattle.std.specs.Vec.Iter.{into_iter_items}
 use Rattle.std.proofs.lemmas.List.{nil_from_length}
 use Rattle.fleet_cache.proofs.Lemmas.{taken_none, at_ok, at_err}
-use Rattle.fleet_gossip.specs.steps.Taking.{AreUnheld}
+use Rattle.fleet_gossip.specs.steps.Taking.{AreMade}
 use Rattle.fleet_gossip.proofs.Taking.{IsUnderway, stops_there, goes_on, all_taken}
-use Rattle.fleet_gossip.proofs.take.take_unheld.Goals as goal
+use Rattle.fleet_gossip.proofs.take.take_made.Goals as goal
 
 pub loop-place-init : goal.loop-place-init
 loop-place-init g c =
@@ -14,10 +14,10 @@ loop-place-init g c =
         back = list;
         whole = refl;
         taken = taken_none c.args.cache.now;
-        left = subst (AreUnheld c.args.cache.now 0 list) (sym gives.0) are;
+        left = subst (AreMade c.args.cache.now 0 list) (sym gives.0) are;
       },
       (let whole = ap length gives.0 in let count = gives.1
-          in omega (arith, whole, count, c.args.unheld.ok)),
+          in omega (arith, whole, count, c.args.made.ok)),
       refl,
     )
 
