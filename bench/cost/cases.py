@@ -185,8 +185,6 @@ def items_last(n):
 add("one key of n items: all of them new", (500, 1000, 2000, 4000), (500, 2000), lambda n: takes([], chain(n)))
 add("one name of n types: all of them new", (500, 1000, 2000, 4000), (500, 2000),
     lambda n: takes([], of_types(TYPES[:n])))
-add("one name of n types: all refreshed by newer ones", (500, 1000, 2000, 4000), (),
-    lambda n: takes(held(of_types(TYPES[:n])), of_types(TYPES[:n], stamp=1100)))
 
 
 def of_few(n, **parts):
@@ -194,10 +192,6 @@ def of_few(n, **parts):
     return [positive(short(at), it, **parts) for at in range(1000 // n) for it in TYPES[:n]]
 
 
-add("one long name of n types: 1000 ended, of a type that is not held", MANY, (),
-    lambda n: takes(held(of_types(TYPES[:n], longest(1))) + ["tick 0 1001"], ended(longest(1), 65535), 1001))
-add("few types of a name: 1000 ended, of a type that is not held", FEW, (),
-    lambda n: takes(held(of_types(TYPES[:n])) + ["tick 0 1001"], ended(short(1), 65535), 1001))
 add("few types of a name: all new, for 1000/n names", FEW, (), lambda n: takes([], of_few(n)))
 add("few types of a name: all known, for 1000/n names", FEW, (), lambda n: takes(held(of_few(n)), of_few(n)))
 add("few types of a name: all refreshed by newer ones, for 1000/n names", FEW, (),
@@ -215,6 +209,16 @@ each_shape("frames, known", ("short", "mixed"), renewed())
 each_shape("frames, dominated", ("short",), renewed(stamp=900))
 each_shape("frames, dominating", ("short",), renewed(stamp=1100))
 each_shape("frames, ended", (), lambda n, name: takes(["tick 0 1000"], named(n, name, stamp=100, life=10)))
+
+
+def partly(places):
+    """Frames of 200 entries, of which those at some places are new, and the others known."""
+    return lambda n, name: frames(held([positive(name(it)) for it in range(n) if it % 200 not in places]),
+                                  pack(named(n, name), each=200))
+
+
+each_shape("frames, one in ten new", (), partly(range(0, 200, 10)))
+each_shape("frames, those that are looked for new", ("short",), partly((0, 1, 3, 7, 15, 31, 63, 127, 191)))
 add("frames, denials new", SOME, (), lambda n: takes([], [denial(short(it)) for it in range(n)]))
 add("frames, denials known", SOME, (),
     lambda n: takes(held([denial(short(it)) for it in range(n)]), [denial(short(it)) for it in range(n)]))
@@ -224,7 +228,6 @@ add("frames, n names that are stamped after a flush above", SOME, (),
     lambda n: takes(held([flush((b"com",))]), named(n, short, stamp=1100)))
 add("frames of one entry each, known", SOME, (),
     lambda n: frames(held(named(n, short)), pack(named(n, short), each=1)))
-add("frames of no entry", SOME, (), lambda n: frames([], [b"DG\2\0\0"] * n))
 add("frames refused at the last of 400 entries, n frames", (4, 8, 16), (4, 16),
     lambda n: frames([], pack(named(400, short) + [b"\3\3" + (1 << 41).to_bytes(8, "big") + bytes(20)]) * n))
 add("frames of flushes of the root, whose stamps fall, n frames", (1, 2, 4), (),
@@ -279,8 +282,6 @@ each_shape("learn again later", (), lambda n, name: learns(learn_lines(replies(n
 
 
 add("learn one name of n types", MANY, (250, 1000), lambda n: learns([], [reply(short(1), it) for it in TYPES[:n]]))
-add("learn one name of n types, the last one first", MANY, (),
-    lambda n: learns([], [reply(short(1), it) for it in reversed(TYPES[:n])]))
 
 
 @case("learn one key, n times with falling TTLs", MANY)

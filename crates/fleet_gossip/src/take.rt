@@ -50,13 +50,13 @@ fn is_passed_over<A: Allocator>(cache: &Cache<A>, lent: &LentObservation<'_>) ->
 const MOST_UNSEEN: u16 = 63;
 
 /// Which entries of a frame are looked for. Those that a cache passes over come together, as in a
-/// sweep, and so do the others. So after one that it does not pass over, the next ones are made
-/// unseen: one, three, and so on up to `MOST_UNSEEN`, until one that is looked for is passed over.
+/// sweep, and so do the others. So after each that it does not pass over some are made unseen: none,
+/// one, three, and so on up to `MOST_UNSEEN`, until one that is looked for is passed over.
 #[derive(Drop)]
 struct Unseen {
-    /// How many are made unseen each time.
+    /// How many are made unseen after the next one that is looked for, if it is not passed over.
     run: u16,
-    /// How many of them are left.
+    /// How many are made unseen before the next one is looked for.
     left: u16,
 }
 
@@ -83,8 +83,8 @@ impl Unseen {
             return false;
         }
         let over = is_passed_over(cache, lent);
+        self.left = if over { 0 } else { self.run };
         self.run = if over { 0 } else { self.run.min(MOST_UNSEEN / 2) * 2 + 1 };
-        self.left = self.run;
         over
     }
 }
@@ -139,8 +139,8 @@ fn take_made<A: Allocator + Copy>(
 ///
 /// All octets are checked first, as `decode` does; where they are no frame, nothing is taken. An
 /// observation that had ended at the floor or is withdrawn by a flush is passed over, and so is one
-/// that the cache holds, which is compared in place: nothing is allocated for them. After one that
-/// is not passed over some are made unseen, up to 63. All that are made are made before the first is
+/// that the cache holds, which is compared in place: nothing is allocated for them. After two that
+/// are not passed over some are made unseen, up to 63. All that are made are made before the first is
 /// taken, so that where memory fails for one of them, the cache is as it was. `OutOfMemory` comes
 /// only of a frame with an observation that is not passed over.
 pub fn take_frame<A: Allocator + Copy>(

@@ -17,9 +17,10 @@ const LARGE: &str =
     0303{00*7}640000012c01'b'00001000010fa0{00*4000}\
     0303{00*7}640000012c01'c'00001000010fa0{00*4000}";
 
-/// The same behind a small one of another name.
+/// The same behind small ones of two other names.
 const BEHIND: &str =
-    "@00040303{00*7}640000012c01'n'0000010001000400000000\
+    "@00050303{00*7}640000012c01'm'0000010001000400000000\
+    0303{00*7}640000012c01'n'0000010001000400000000\
     0303{00*7}640000012c01'a'00001000010fa0{00*4000}\
     0303{00*7}640000012c01'b'00001000010fa0{00*4000}\
     0303{00*7}640000012c01'c'00001000010fa0{00*4000}";
@@ -100,8 +101,8 @@ fn what_is_held_is_looked_for_behind_what_is_not(rt: HostRuntime) {
     let heap = LocalHeap::new(rt.alloc(), 19_000).expect(&rt, "memory");
     let mut cache = Cache::new(&heap);
     assert_eq!(&rt; take(&rt, rt.alloc(), &heap, &mut cache, LARGE), Ok(3));
-    assert_eq!(&rt; take(&rt, rt.alloc(), &heap, &mut cache, BEHIND), Ok(4));
-    assert_eq!(&rt; cache.len(), 4);
+    assert_eq!(&rt; take(&rt, rt.alloc(), &heap, &mut cache, BEHIND), Ok(5));
+    assert_eq!(&rt; cache.len(), 5);
 }
 
 /// Whether an observation is what it lends, and a cache of it alone holds this; and that neither is so
