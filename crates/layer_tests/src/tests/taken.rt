@@ -97,8 +97,8 @@ fn what_is_held_is_taken_without_memory(rt: HostRuntime) {
 
 #[test]
 fn what_is_held_is_looked_for_behind_what_is_not(rt: HostRuntime) {
-    // With three of them held there is room for one more copy, and not for two.
-    let heap = LocalHeap::new(rt.alloc(), 19_000).expect(&rt, "memory");
+    // With three of them held there is room for a copy of one, and not for copies of all.
+    let heap = LocalHeap::new(rt.alloc(), 22_000).expect(&rt, "memory");
     let mut cache = Cache::new(&heap);
     assert_eq!(&rt; take(&rt, rt.alloc(), &heap, &mut cache, LARGE), Ok(3));
     assert_eq!(&rt; take(&rt, rt.alloc(), &heap, &mut cache, BEHIND), Ok(5));
