@@ -187,11 +187,17 @@ add("one name of n types: all of them new", (500, 1000, 2000, 4000), (500, 2000)
     lambda n: takes([], of_types(TYPES[:n])))
 
 
+add("one long name of n types: 1000 ended, of a type that is not held", MANY, (),
+    lambda n: takes(held(of_types(TYPES[:n], longest(1))) + ["tick 0 1001"], ended(longest(1), 65535), 1001))
+
+
 def of_few(n, **parts):
     """Observations of the first n types, for 1000/n names."""
     return [positive(short(at), it, **parts) for at in range(1000 // n) for it in TYPES[:n]]
 
 
+add("few types of a name: 1000 ended, of a type that is not held", FEW, (),
+    lambda n: takes(held(of_types(TYPES[:n])) + ["tick 0 1001"], ended(short(1), 65535), 1001))
 add("few types of a name: all new, for 1000/n names", FEW, (), lambda n: takes([], of_few(n)))
 add("few types of a name: all known, for 1000/n names", FEW, (), lambda n: takes(held(of_few(n)), of_few(n)))
 add("few types of a name: all refreshed by newer ones, for 1000/n names", FEW, (),
@@ -212,13 +218,14 @@ each_shape("frames, ended", (), lambda n, name: takes(["tick 0 1000"], named(n, 
 
 
 def partly(places):
-    """Frames of 200 entries, of which those at some places are new, and the others known."""
-    return lambda n, name: frames(held([positive(name(it)) for it in range(n) if it % 200 not in places]),
-                                  pack(named(n, name), each=200))
+    """Frames of 50 entries, of which those at some places are new, and the others known."""
+    return lambda n, name: frames(held([positive(name(it)) for it in range(n) if it % 50 not in places]),
+                                  pack(named(n, name), each=50))
 
 
-each_shape("frames, one in ten new", (), partly(range(0, 200, 10)))
-each_shape("frames, those that are looked for new", ("short",), partly((0, 1, 3, 7, 15, 31, 63, 127, 191)))
+each_shape("frames, those that are looked at new", ("short",), partly((0, 1, 3, 7, 15, 31)))
+each_shape("frames, new and known by turns", (), partly(range(0, 50, 2)))
+each_shape("frames of one entry each, new", (), lambda n, name: frames([], pack(named(n, name), each=1)))
 add("frames, denials new", SOME, (), lambda n: takes([], [denial(short(it)) for it in range(n)]))
 add("frames, denials known", SOME, (),
     lambda n: takes(held([denial(short(it)) for it in range(n)]), [denial(short(it)) for it in range(n)]))
@@ -263,10 +270,9 @@ def late_difference(last):
     return positive(short(1), 16, rdata=b"x" * 7990 + last)
 
 
-add("frames of 1000 RDATAs in an entry, known, n frames", (4, 8, 16), (),
-    lambda n: frames(held([many_rdatas(1000)]), pack([many_rdatas(1000)]) * n))
-add("frames of 1000 RDATAs in an entry, dominated, n frames", (4, 8, 16), (),
-    lambda n: frames(held([many_rdatas(1000)]), pack([many_rdatas(900)]) * n))
+for what, stamp in (("known", 1000), ("dominated", 900)):
+    add(f"frames of 1000 RDATAs in an entry, {what}, n frames", (4, 8, 16), (),
+        lambda n, stamp=stamp: frames(held([many_rdatas(1000)]), pack([many_rdatas(stamp)]) * n))
 add("frames of equal stamps and lives that differ at the end, n frames", (4, 8, 16), (),
     lambda n: frames(held([late_difference(b"b")]), pack([late_difference(b"a")]) * n))
 
@@ -406,8 +412,6 @@ def first_settled(count):
 
 add("a tick after the first deadline, whose question was settled, n - 1 open", OPEN, (16, 256),
     lambda n: Script(first_settled(n), ["tick 0 1002"], []))
-add("100 ticks after the first deadline, whose question was settled, n - 1 open", OPEN, (),
-    lambda n: Script(first_settled(n), ["tick 0 1002"] * 100, []))
 
 
 # Purges.

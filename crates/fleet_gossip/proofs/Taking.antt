@@ -8,9 +8,9 @@ use Rattle.fleet_cache.specs.Cached.{CacheData, IsCached, IsNeedless}
 use Rattle.fleet_cache.proofs.Lemmas.{HasTaken, taken_more, taken_is, taken_within, seam_at}
 use Rattle.fleet_gossip.specs.Entry.{AreIn}
 use Rattle.fleet_gossip.specs.Frame.{entries}
-use Rattle.fleet_gossip.specs.Taken.{Takes, IsPassedOver}
+use Rattle.fleet_gossip.specs.Taken.{Takes, IsPassedOver, AnyUnheld}
 use Rattle.fleet_gossip.specs.steps.Reading.{BeginsWithEntries}
-use Rattle.fleet_gossip.specs.steps.Taking.{IsFirstMade, AreMade, FindsMade, AnyUnheld, HasUnheld, TakesFirstOf}
+use Rattle.fleet_gossip.specs.steps.Taking.{IsFirstMade, AreMade, MakesEntries, HasUnheld, TakesFirstOf}
 
 -- the next one of those that are left goes over to those that are done
 pub one_over : (done left others : List ObservationData) (o : ObservationData)
@@ -27,7 +27,7 @@ has_behind : (done others : List ObservationData) (o : ObservationData) → Has 
 has_behind [] others o = inl refl
 has_behind (x ∷ done) others o = inr (has_behind done others o)
 
--- one more of those that were looked at
+-- one more of those that are done
 module _ (cache : CacheData) (o : ObservationData) where
   -- it need not be taken in
   pub held_more : (at : ℕ) (done : List ObservationData) (made : List (ℕ × ObservationData))
@@ -76,7 +76,7 @@ module _ (cache : CacheData) (o : ObservationData) where
         )),
   )
 
-  -- it isn't passed over where it is looked for, and where it is not, one before it wasn't
+  -- one of them isn't passed over: this one where it is looked at, else one before it
   pub unheld_more : (done : List ObservationData) (left : ℕ) → (left ≡ 0) ⊎ AnyUnheld cache done
       → (left ≡ 0 → IsPassedOver cache o → ⊥) → AnyUnheld cache (done ++ o ∷ [])
   unheld_more done left (inl none) unheld = (o, has_behind done [] o, unheld none)
@@ -98,7 +98,7 @@ module _ (octets : List ℕ) (version count at : ℕ) (done left : List Observat
   }
 
   pub finds_all : (made : List (ℕ × ObservationData)) → AreMade cache 0 done made → count ≤ at
-      → FindsMade octets version count cache made
+      → MakesEntries octets version count cache made
   finds_all made found past =
       let none : left ≡ [] = nil_from_length left (omega (arith, all, past)) in
       let same : done ++ left ≡ done = ap (λ (v : List ObservationData). done ++ v) none
@@ -106,7 +106,7 @@ module _ (octets : List ℕ) (version count at : ℕ) (done left : List Observat
       record {
         list = done ++ left;
         are = all_are;
-        found = subst (λ (v : List ObservationData). AreMade cache 0 v made) (sym same) found;
+        are_made = subst (λ (v : List ObservationData). AreMade cache 0 v made) (sym same) found;
       }
 
   pub finds_one : (o : ObservationData) (others : List ObservationData) → left ≡ o ∷ others
@@ -122,14 +122,14 @@ module _ (octets : List ℕ) (version count at : ℕ) (done left : List Observat
     );
   }
 
--- a cache took some of a list in, and these are left of those that it did not hold
+-- a cache took some of a list in, and these are left of those that were made
 pub record IsUnderway (before mid : CacheData) (list : List ObservationData)
-    (unheld : List (ℕ × ObservationData)) : Type 0 where
+    (made : List (ℕ × ObservationData)) : Type 0 where
   pub done : List ObservationData
   pub back : List ObservationData
   pub whole : list ≡ done ++ back
   pub taken : HasTaken before mid done
-  pub left : AreMade before (length done) back unheld
+  pub left : AreMade before (length done) back made
 
 -- the next one of those
 module _ (before mid : CacheData) (list : List ObservationData)

@@ -23,18 +23,22 @@ pub record TakesFrame (octets : OctetList) (before after : CacheData) (count : �
   pub counted : count ≡ length list
   pub cached : Takes before after list
 
--- o is passed over, without a copy: it is past for the cache, or is one of its items
+-- o needs no copy: it is past for the cache, or is one of its items
 abbrev pub IsPassedOver : CacheData → ObservationData → Type 0
 IsPassedOver cache o = IsPast cache.floor cache.items o ⊎ Has cache.items o
 
--- the octets are the frame of a list, one of which the cache doesn't pass over, and it took none in:
--- it is as it was
+-- one of a list is neither past for a cache nor one of its items
+abbrev pub AnyUnheld : CacheData → Observations → Type 0
+AnyUnheld cache list = (o : ObservationData) × Has list o × ¬ IsPassedOver cache o
+
+-- the octets are the frame of a list, one of which is neither past nor an item, and the cache took
+-- none in: it is as it was
 pub record TakesNone (octets : OctetList) (before after : CacheData) (taken : ℕ) : Type 0 where
   pub list : Observations
   pub spelled : SpellsFrame octets list
   pub none : taken ≡ 0
   pub same : after ≡ before
-  pub unheld : (o : ObservationData) × Has list o × ¬ IsPassedOver before o
+  pub unheld : AnyUnheld before list
 
 -- the octets are the frame of a list, and the cache took its first `taken` observations in; the next
 -- one it still needs: as it is left, that one is not past for it, not there and not dominated

@@ -7,7 +7,7 @@ ghost use Rattle.fleet_observe.specs.Observation.{IsObservation, ObservationData
 ghost use Rattle.fleet_cache.specs.Cached.{IsCached};
 ghost use Rattle.fleet_gossip.specs.Taken.{Takes, TakesFrame, IsPassedOver, StopsAt};
 ghost use Rattle.fleet_gossip.specs.steps.Reading.{AreEntryOctets};
-ghost use Rattle.fleet_gossip.specs.steps.Taking.{AreMade, FindsMade, HasUnheld, TakesFirstOf};
+ghost use Rattle.fleet_gossip.specs.steps.Taking.{AreMade, MakesEntries, HasUnheld, TakesFirstOf};
 
 use crate::fault::FrameFault;
 use crate::frame::{Entries, read_frame};
@@ -46,29 +46,30 @@ fn is_passed_over<A: Allocator>(cache: &Cache<A>, lent: &LentObservation<'_>) ->
     cache.is_past_lent(lent) || cache.holds(lent)
 }
 
-/// The most entries that are made unseen before the next one is looked for.
+/// The most entries that are made unseen before the next one is looked at.
 const MOST_UNSEEN: u16 = 63;
 
-/// Which entries of a frame are looked for. Those that a cache passes over come together, as in a
-/// sweep, and so do the others. So after each that it does not pass over some are made unseen: none,
-/// one, three, and so on up to `MOST_UNSEEN`, until one that is looked for is passed over.
+/// Which entries of a frame are looked at. Most frames are nearly all held, or nearly all new, as for
+/// a site that comes late. So after each entry that is looked at and not passed over some are made
+/// unseen: none, one, three, and so on up to `MOST_UNSEEN`, until one that is looked at is passed
+/// over.
 #[derive(Drop)]
 struct Unseen {
-    /// How many are made unseen after the next one that is looked for, if it is not passed over.
+    /// How many are made unseen after the next one that is looked at, if it is not passed over.
     run: u16,
-    /// How many are made unseen before the next one is looked for.
+    /// How many are made unseen before the next one is looked at.
     left: u16,
 }
 
 impl Unseen {
-    /// The first entry is looked for.
+    /// The first entry is looked at.
     fn new() -> Unseen
         ensures { result.left ≡ 0 }
     {
         Unseen { run: 0, left: 0 }
     }
 
-    /// Whether the next entry is looked for and a cache passes over it.
+    /// Whether the next entry is looked at and passed over.
     fn passes_over<A: Allocator>(&mut self, cache: &Cache<A>, lent: &LentObservation<'_>) -> bool
         requires { IsWire lent.now.name.now }
         ensures taken { (o : ObservationData) (s : Observations) → IsLent lent.now o
@@ -76,7 +77,7 @@ impl Unseen {
             → IsCached (o ∷ s) cache.now.floor cache.now.items }
         ensures passed { (o : ObservationData) → IsLent lent.now o → IsObservation o
             → self.old.left ≡ 0 → IsPassedOver cache.now o → IsTrue result }
-        ensures seen { IsTrue result → (self.old.left ≡ 0) × (self.new.left ≡ 0) }
+        ensures seen { IsTrue result → self.new.left ≡ 0 }
     {
         if self.left > 0 {
             self.left -= 1;
@@ -89,16 +90,16 @@ impl Unseen {
     }
 }
 
-/// The observations of those lawful entries that a cache does not pass over, or that are not looked
-/// for, each with the place of its entry, from 0 on. For the others nothing is allocated. `Err` where
-/// an allocation fails.
+/// The observations of those lawful entries that a cache does not pass over, or that are made unseen,
+/// each with the place of its entry, from 0 on. For the others nothing is allocated. `Err` where an
+/// allocation fails.
 fn to_made<A: Allocator + Copy>(
     alloc: A,
     cache: &Cache<A>,
     entries: &Entries<'_>,
 ) -> Result<Vec<(u16, Observation<A>), A>, AllocError>
     requires { AreEntryOctets entries.now.octets.now entries.now.version entries.now.count }
-    ensures found { IfOk result (λ v. FindsMade entries.now.octets.now entries.now.version
+    ensures made { IfOk result (λ v. MakesEntries entries.now.octets.now entries.now.version
         entries.now.count cache.now v.items) }
     ensures memory { OnErr result (HasUnheld entries.now.octets.now entries.now.version
         entries.now.count cache.now) }
@@ -139,10 +140,11 @@ fn take_made<A: Allocator + Copy>(
 ///
 /// All octets are checked first, as `decode` does; where they are no frame, nothing is taken. An
 /// observation that had ended at the floor or is withdrawn by a flush is passed over, and so is one
-/// that the cache holds, which is compared in place: nothing is allocated for them. After two that
-/// are not passed over some are made unseen, up to 63. All that are made are made before the first is
-/// taken, so that where memory fails for one of them, the cache is as it was. `OutOfMemory` comes
-/// only of a frame with an observation that is not passed over.
+/// that the cache holds, which is compared in place: nothing is allocated for those. After two in a
+/// row that are not passed over, the next ones are made unseen, whatever they are, up to 63 before
+/// one is looked at again. All that are made are made before the first is taken, so that where memory
+/// fails for one of them, the cache is as it was. `OutOfMemory` comes only of a frame with an
+/// observation that is neither past nor one of the cache's items.
 pub fn take_frame<A: Allocator + Copy>(
     alloc: A,
     cache: &mut Cache<A>,

@@ -14,7 +14,8 @@ use fleet_gossip::TakeFault;
 use fleet_observe::Observation;
 use std::alloc::Allocator;
 
-/// A frame's observations are taken. For those that are held already nothing is allocated.
+/// A frame's observations are taken. For a frame of nothing but what is past or held nothing is
+/// allocated.
 pub(crate) fn take_frame<A: Allocator + Copy>(
     alloc: A,
     cache: &mut Cache<A>,

@@ -2,10 +2,9 @@
 -- Serves `take_frame`.
 use Rattle.std.specs.Prelude.{◌≡◌, ℕ, suc, ◌+◌, ◌<◌, List, [], ◌∷◌, ◌++◌, length, take}
 use Rattle.fleet_name.specs.Types.{OctetList}
-use Rattle.fleet_observe.specs.Members.{Has}
 use Rattle.fleet_observe.specs.Observation.{ObservationData, Observations}
 use Rattle.fleet_cache.specs.Cached.{CacheData, IsNeededAt}
-use Rattle.fleet_gossip.specs.Taken.{Takes, IsPassedOver}
+use Rattle.fleet_gossip.specs.Taken.{Takes, AnyUnheld}
 use Rattle.fleet_gossip.specs.steps.Reading.{BeginsWithEntries}
 
 -- the first one of a list that is made, and its place, where the list begins at a place: those before
@@ -17,24 +16,20 @@ pub record IsFirstMade (cache : CacheData) (at : ℕ) (list : Observations) (pla
   pub known : Takes cache cache held
   pub placed : place ≡ at + length held
 
--- those of a list that are made, each with its place: the others need not be taken in
+-- some of a list, each with its place: the others need not be taken in
 abbrev pub AreMade : CacheData → ℕ → Observations → List (ℕ × ObservationData) → Type 0
 AreMade cache at list [] = Takes cache cache list
 AreMade cache at list (first ∷ others) = (rest : Observations)
     × IsFirstMade cache at list first.0 first.1 rest × AreMade cache (suc first.0) rest others
 
--- those of the entries that are made
-pub record FindsMade (octets : OctetList) (version count : ℕ) (cache : CacheData)
+-- some of the entries, each with its place: the others need not be taken in
+pub record MakesEntries (octets : OctetList) (version count : ℕ) (cache : CacheData)
     (made : List (ℕ × ObservationData)) : Type 0 where
   pub list : Observations
   pub are : BeginsWithEntries octets version count list []
-  pub found : AreMade cache 0 list made
+  pub are_made : AreMade cache 0 list made
 
--- one of a list isn't passed over
-abbrev pub AnyUnheld : CacheData → Observations → Type 0
-AnyUnheld cache list = (o : ObservationData) × Has list o × ¬ IsPassedOver cache o
-
--- there is an entry that a cache doesn't pass over
+-- one of the entries is neither past for a cache nor one of its items
 pub record HasUnheld (octets : OctetList) (version count : ℕ) (cache : CacheData) : Type 0 where
   pub list : Observations
   pub are : BeginsWithEntries octets version count list []

@@ -12,18 +12,18 @@ returns-in-Err-clause-taken g c = record {
 
 pub returns-in-Ok-take_made-clause-taken : goal.returns-in-Ok-take_made-clause-taken
 returns-in-Ok-take_made-clause-taken g c =
-    let of = c.in-Ok.ensures in let found = c.in-Ok-to_made.ensures.found in
+    let of = c.in-Ok.ensures in let found = c.in-Ok-to_made.ensures.made in
     record {
       list = found.list;
       spelled = spells_frame _ _ _ _ found.list of.opened of.fits found.are;
       counted = c.from.ensures ∙ sym found.are.counted;
-      cached = c.in-Ok-take_made.ensures.taken found.list found.found;
+      cached = c.in-Ok-take_made.ensures.taken found.list found.are_made;
     }
 
 pub returns-in-Err-take_made-clause-taken : goal.returns-in-Err-take_made-clause-taken
 returns-in-Err-take_made-clause-taken g c =
-    let of = c.in-Ok.ensures in let found = c.in-Ok-to_made.ensures.found in
-    let first = c.in-Err-take_made.ensures.taken found.list found.found in
+    let of = c.in-Ok.ensures in let found = c.in-Ok-to_made.ensures.made in
+    let first = c.in-Err-take_made.ensures.taken found.list found.are_made in
     rw c.from-in-Err-take_made.ensures (inr (record {
       list = found.list;
       spelled = spells_frame _ _ _ _ found.list of.opened of.fits found.are;

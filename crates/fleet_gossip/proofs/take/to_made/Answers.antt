@@ -90,12 +90,12 @@ loop-place-preserved g c =
             inr (unheld_more c.args.cache.now read.0 i.done c.loop-place.unseen.left i.unheld
             (λ none over. false≢true (w.if-not-passes_over.ensures.passed read.0
             (c.lent.ensures read.0 read.1) read.1.lawful none over)))
-        | else-not-passes_over w ↦ inl (w.if-not-passes_over.ensures.seen refl).1
+        | else-not-passes_over w ↦ inl (w.if-not-passes_over.ensures.seen refl)
       ];
     }
 
-pub returns-clause-found : goal.returns-clause-found
-returns-clause-found g c =
+pub returns-clause-made : goal.returns-clause-made
+returns-clause-made g c =
     let i = c.loop-place.invariant in
     finds_all _ _ _ c.loop-place.place i.done i.left i.lawful i.octets i.counted i.all
     c.args.cache.now c.loop-place.made.items i.found c.loop-place-test.false

@@ -2,7 +2,8 @@ use Rattle.std.proofs.Common.{◌≡◌, ◌⊎◌, ◌+◌, ◌++◌, List, len
 use Rattle.fleet_observe.specs.Observation.{ObservationData}
 use Rattle.fleet_gossip.specs.Entry.{AreIn}
 use Rattle.fleet_gossip.specs.Frame.{entries}
-use Rattle.fleet_gossip.specs.steps.Taking.{AreMade, AnyUnheld}
+use Rattle.fleet_gossip.specs.Taken.{AnyUnheld}
+use Rattle.fleet_gossip.specs.steps.Taking.{AreMade}
 use Rattle.fleet_gossip.proofs.take.to_made.Given as goal
 
 abbrev pub invariant-loop-place : goal.invariant-loop-place
