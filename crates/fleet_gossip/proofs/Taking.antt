@@ -1,13 +1,14 @@
 -- Which observations of a frame are made, and how far they are taken.
-use Rattle.std.proofs.Common.{◌≡◌, ℕ, suc, ◌+◌, ◌≤◌, List, [], ◌∷◌, ◌++◌, length, inl, inr, refl, sym, ap, ◌∙◌, subst, arith, length-append, append_assoc, Result, Ok, Err, OnErr}
+use Rattle.std.proofs.Common.{◌≡◌, ◌⊎◌, ℕ, suc, ◌+◌, ◌≤◌, List, [], ◌∷◌, ◌++◌, length, inl, inr, refl, sym, ap, ◌∙◌, subst, arith, length-append, append_assoc, Result, Ok, Err, OnErr}
 use Rattle.std.proofs.lemmas.List.{append-nil, nil_from_length}
+use Rattle.fleet_name.proofs.Lemmas.{has_left}
 use Rattle.fleet_observe.specs.Members.{Has}
 use Rattle.fleet_observe.specs.Observation.{ObservationData}
 use Rattle.fleet_cache.specs.Cached.{CacheData, IsCached, IsNeedless}
 use Rattle.fleet_cache.proofs.Lemmas.{HasTaken, taken_more, taken_is, taken_within, seam_at}
 use Rattle.fleet_gossip.specs.Entry.{AreIn}
 use Rattle.fleet_gossip.specs.Frame.{entries}
-use Rattle.fleet_gossip.specs.Taken.{Takes, IsPassedOver}
+use Rattle.fleet_gossip.specs.Taken.{Takes, IsPassedOver, AnyUnheld}
 use Rattle.fleet_gossip.specs.steps.Reading.{BeginsWithEntries}
 use Rattle.fleet_gossip.specs.steps.Taking.{IsFirstMade, AreMade, MakesEntries, HasUnheld, TakesFirstOf}
 
@@ -75,6 +76,16 @@ module _ (cache : CacheData) (o : ObservationData) where
         )),
   )
 
+  -- one of them isn't passed over: this one where it is looked at, else one before it
+  pub unheld_more : (done : List ObservationData) (left : ℕ) → (left ≡ 0) ⊎ AnyUnheld cache done
+      → (left ≡ 0 → IsPassedOver cache o → ⊥) → AnyUnheld cache (done ++ o ∷ [])
+  unheld_more done left (inl none) unheld = (o, has_behind done [] o, unheld none)
+  unheld_more done left (inr some) unheld = (
+    some.0,
+    has_left done (o ∷ []) some.0 some.1,
+    some.2,
+  )
+
 -- entries of which some are done and others are left
 module _ (octets : List ℕ) (version count at : ℕ) (done left : List ObservationData)
     (lawful : AreIn version (done ++ left)) (whole : octets ≡ entries (done ++ left))
@@ -99,14 +110,15 @@ module _ (octets : List ℕ) (version count at : ℕ) (done left : List Observat
       }
 
   pub finds_one : (o : ObservationData) (others : List ObservationData) → left ≡ o ∷ others
-      → (IsPassedOver cache o → ⊥) → HasUnheld octets version count cache
+      → AnyUnheld cache (done ++ o ∷ []) → HasUnheld octets version count cache
   finds_one o others next unheld = record {
     list = done ++ left;
     are = all_are;
     unheld = (
-      o,
-      subst (λ (v : List ObservationData). Has (done ++ v) o) (sym next) (has_behind done others o),
-      unheld,
+      unheld.0,
+      subst (λ (v : List ObservationData). Has v unheld.0) (sym (one_over done left others o next))
+          (has_left (done ++ o ∷ []) others unheld.0 unheld.1),
+      unheld.2,
     );
   }
 

@@ -1,6 +1,6 @@
 //! Taking the observations of a frame into a cache.
 
-ghost use Rattle.std.specs.Prelude.{◌≡◌, [], ◌∷◌, true, false, MatchResult, IfOk, OnErr, IsTrue};
+ghost use Rattle.std.specs.Prelude.{◌≡◌, ◌∷◌, MatchResult, IfOk, OnErr, IsTrue};
 ghost use Rattle.fleet_name.specs.Name.{IsWire};
 ghost use Rattle.fleet_observe.specs.Lent.{IsLent};
 ghost use Rattle.fleet_observe.specs.Observation.{IsObservation, ObservationData, Observations};
@@ -46,17 +46,13 @@ fn is_passed_over<A: Allocator>(cache: &Cache<A>, lent: &LentObservation<'_>) ->
     cache.is_past_lent(lent) || cache.holds(lent)
 }
 
-/// The most entries of a frame of news: as many observations as a reply has at most, of eight aliases
-/// and of the name where they end.
-const MOST_OF_NEWS: u16 = 9;
-
-/// The most entries of another frame that are made unseen before the next one is looked at.
+/// The most entries that are made unseen before the next one is looked at.
 const MOST_UNSEEN: u16 = 63;
 
-/// Which entries of a frame are looked at. One with few entries is news: all are made unseen. Most
-/// others are nearly all held, or nearly all new, as for a site that comes late. So after each entry
-/// that is looked at and not passed over some are made unseen: none, one, three, and so on up to
-/// `MOST_UNSEEN`, until one that is looked at is passed over.
+/// Which entries of a frame are looked at. Most frames are nearly all held, or nearly all new, as for
+/// a site that comes late. So after each entry that is looked at and not passed over some are made
+/// unseen: none, one, three, and so on up to `MOST_UNSEEN`, until one that is looked at is passed
+/// over.
 #[derive(Drop)]
 struct Unseen {
     /// How many are made unseen after the next one that is looked at, if it is not passed over.
@@ -66,20 +62,22 @@ struct Unseen {
 }
 
 impl Unseen {
-    /// Of a frame with so many entries.
-    fn of(count: u16) -> Unseen {
-        Unseen {
-            run: 0,
-            left: if count > MOST_OF_NEWS { 0 } else { count },
-        }
+    /// The first entry is looked at.
+    fn new() -> Unseen
+        ensures { result.left ≡ 0 }
+    {
+        Unseen { run: 0, left: 0 }
     }
 
     /// Whether the next entry is looked at and passed over.
     fn passes_over<A: Allocator>(&mut self, cache: &Cache<A>, lent: &LentObservation<'_>) -> bool
         requires { IsWire lent.now.name.now }
-        ensures { (o : ObservationData) (s : Observations) → IsLent lent.now o → IsObservation o
-            → IsTrue result → IsCached s cache.now.floor cache.now.items
+        ensures taken { (o : ObservationData) (s : Observations) → IsLent lent.now o
+            → IsObservation o → IsTrue result → IsCached s cache.now.floor cache.now.items
             → IsCached (o ∷ s) cache.now.floor cache.now.items }
+        ensures passed { (o : ObservationData) → IsLent lent.now o → IsObservation o
+            → self.old.left ≡ 0 → IsPassedOver cache.now o → IsTrue result }
+        ensures seen { IsTrue result → self.new.left ≡ 0 }
     {
         if self.left > 0 {
             self.left -= 1;
@@ -92,51 +90,9 @@ impl Unseen {
     }
 }
 
-/// The observations of those lawful entries that are made unseen or that a cache does not pass over,
+/// The observations of those lawful entries that a cache does not pass over, or that are made unseen,
 /// each with the place of its entry, from 0 on. For the others nothing is allocated. `Err` where an
 /// allocation fails.
-fn make<A: Allocator + Copy>(
-    alloc: A,
-    cache: &Cache<A>,
-    entries: &Entries<'_>,
-) -> Result<Vec<(u16, Observation<A>), A>, AllocError>
-    requires { AreEntryOctets entries.now.octets.now entries.now.version entries.now.count }
-    ensures { IfOk result (λ v. MakesEntries entries.now.octets.now entries.now.version
-        entries.now.count cache.now v.items) }
-{
-    let mut reader = Reader::new(entries.octets);
-    let mut made = Vec::new(alloc);
-    let mut unseen = Unseen::of(entries.count);
-    for place in 0..entries.count {
-        let entry = read_known_entry(&mut reader, entries.version);
-        if !unseen.passes_over(cache, &entry.lent()) {
-            made.reserve(usize::from(entries.count - place))?;
-            made.push((place, entry.to_observation(alloc)?))?;
-        }
-    }
-    Ok(made)
-}
-
-/// Whether a cache does not pass over one of those lawful entries. Nothing is allocated.
-fn has_unheld<A: Allocator>(cache: &Cache<A>, entries: &Entries<'_>) -> bool
-    requires { AreEntryOctets entries.now.octets.now entries.now.version entries.now.count }
-    ensures unheld { result ≡ true → HasUnheld entries.now.octets.now entries.now.version
-        entries.now.count cache.now }
-    ensures over { result ≡ false → MakesEntries entries.now.octets.now entries.now.version
-        entries.now.count cache.now [] }
-{
-    let mut reader = Reader::new(entries.octets);
-    for _ in 0..entries.count {
-        let entry = read_known_entry(&mut reader, entries.version);
-        if !is_passed_over(cache, &entry.lent()) {
-            return true;
-        }
-    }
-    false
-}
-
-/// What `make` makes of those lawful entries. Where an allocation fails, it is none if a cache passes
-/// over each of them, and else an `Err`.
 fn to_made<A: Allocator + Copy>(
     alloc: A,
     cache: &Cache<A>,
@@ -148,11 +104,17 @@ fn to_made<A: Allocator + Copy>(
     ensures memory { OnErr result (HasUnheld entries.now.octets.now entries.now.version
         entries.now.count cache.now) }
 {
-    let made = make(alloc, cache, entries);
-    if made.is_err() && !has_unheld(cache, entries) {
-        return Ok(Vec::new(alloc));
+    let mut reader = Reader::new(entries.octets);
+    let mut made = Vec::new(alloc);
+    let mut unseen = Unseen::new();
+    for place in 0..entries.count {
+        let entry = read_known_entry(&mut reader, entries.version);
+        if !unseen.passes_over(cache, &entry.lent()) {
+            made.reserve(usize::from(entries.count - place))?;
+            made.push((place, entry.to_observation(alloc)?))?;
+        }
     }
-    made
+    Ok(made)
 }
 
 /// Takes observations in, in their order. `Err` is the place of the first one that an allocation
@@ -178,11 +140,11 @@ fn take_made<A: Allocator + Copy>(
 ///
 /// All octets are checked first, as `decode` does; where they are no frame, nothing is taken. An
 /// observation that had ended at the floor or is withdrawn by a flush is passed over, and so is one
-/// that the cache holds, which is compared in place: nothing is allocated for those. But all are
-/// made, whatever they are, of a frame of at most nine; and of another one some, up to 63 in a row,
-/// after two in a row that are not passed over. All that are made are made before the first is taken.
-/// Where memory fails for one of them, the cache is as it was; and where it needs none of the frame,
-/// since each is past or one of its items, that is no fault.
+/// that the cache holds, which is compared in place: nothing is allocated for those. After two in a
+/// row that are not passed over, the next ones are made unseen, whatever they are, up to 63 before
+/// one is looked at again. All that are made are made before the first is taken, so that where memory
+/// fails for one of them, the cache is as it was. `OutOfMemory` comes only of a frame with an
+/// observation that is neither past nor one of the cache's items.
 pub fn take_frame<A: Allocator + Copy>(
     alloc: A,
     cache: &mut Cache<A>,

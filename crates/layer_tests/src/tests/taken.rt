@@ -17,15 +17,10 @@ const LARGE: &str =
     0303{00*7}640000012c01'b'00001000010fa0{00*4000}\
     0303{00*7}640000012c01'c'00001000010fa0{00*4000}";
 
-/// The same behind seven small ones of other names.
+/// The same behind small ones of two other names.
 const BEHIND: &str =
-    "@000a0303{00*7}640000012c01'm'0000010001000400000000\
+    "@00050303{00*7}640000012c01'm'0000010001000400000000\
     0303{00*7}640000012c01'n'0000010001000400000000\
-    0303{00*7}640000012c01'o'0000010001000400000000\
-    0303{00*7}640000012c01'p'0000010001000400000000\
-    0303{00*7}640000012c01'q'0000010001000400000000\
-    0303{00*7}640000012c01'r'0000010001000400000000\
-    0303{00*7}640000012c01's'0000010001000400000000\
     0303{00*7}640000012c01'a'00001000010fa0{00*4000}\
     0303{00*7}640000012c01'b'00001000010fa0{00*4000}\
     0303{00*7}640000012c01'c'00001000010fa0{00*4000}";
@@ -102,12 +97,12 @@ fn what_is_held_is_taken_without_memory(rt: HostRuntime) {
 
 #[test]
 fn what_is_held_is_looked_for_behind_what_is_not(rt: HostRuntime) {
-    // With all of them held there is no room for three copies.
+    // With three of them held there is room for a copy of one, and not for copies of all.
     let heap = LocalHeap::new(rt.alloc(), 22_000).expect(&rt, "memory");
     let mut cache = Cache::new(&heap);
     assert_eq!(&rt; take(&rt, rt.alloc(), &heap, &mut cache, LARGE), Ok(3));
-    assert_eq!(&rt; take(&rt, rt.alloc(), &heap, &mut cache, BEHIND), Ok(10));
-    assert_eq!(&rt; cache.len(), 10);
+    assert_eq!(&rt; take(&rt, rt.alloc(), &heap, &mut cache, BEHIND), Ok(5));
+    assert_eq!(&rt; cache.len(), 5);
 }
 
 /// Whether an observation is what it lends, and a cache of it alone holds this; and that neither is so
