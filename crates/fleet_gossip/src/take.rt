@@ -85,7 +85,11 @@ impl Unseen {
         }
         let over = is_passed_over(cache, lent);
         self.left = if over { 0 } else { self.run };
-        self.run = if over { 0 } else { self.run.min(MOST_UNSEEN / 2) * 2 + 1 };
+        self.run = if over {
+            0
+        } else {
+            self.run.min(MOST_UNSEEN / 2) * 2 + 1
+        };
         over
     }
 }
