@@ -12,6 +12,7 @@ from support.checks import Case, add_cases, parts_of
 from support.messages import spelled
 from support.program import Ended, run_octet_by_octet, run_script
 from support.streams import run_interrupted
+from support.transcripts import text_of
 
 FILES = ("examples_questions.txt", "examples_datagrams.txt", "examples_frames.txt")
 EXAMPLES = 58
@@ -30,11 +31,6 @@ def read_examples():
     """What each example shows, the lines of its script, and the lines that they print."""
     parts = [part for name in FILES for part in parts_of(name)]
     return [(shows, *parts_of_transcript(transcript)) for shows, transcript in parts]
-
-
-def text_of(lines):
-    """Lines as octets."""
-    return "".join(f"{line}\n" for line in lines).encode()
 
 
 class Examples(Case):

@@ -8,13 +8,20 @@ from support.checks import lines_of
 ADDRESS = bytes([192, 0, 2, 1])
 
 # Types (RFC 1035 3.2.2) and the class IN.
-A, NS, TXT, IN = 1, 2, 16, 1
+A, NS, CNAME, SOA, TXT, AAAA, IN = 1, 2, 5, 6, 16, 28, 1
 
 # Bits of the flags (RFC 1035 4.1.1), and codes (RCODE).
 RESPONSE, TRUNCATED, RECURSION_DESIRED, RECURSION_AVAILABLE = 0x8000, 0x0200, 0x0100, 0x0080
-NO_ERROR, SERVER_FAILURE, REFUSED = 0, 2, 5
+AUTHORITATIVE = 0x0400
+NO_ERROR, FORMAT_ERROR, SERVER_FAILURE, NAME_ERROR, NOT_IMPLEMENTED, REFUSED = 0, 1, 2, 3, 4, 5
+
+# The flags of a reply without a fault.
+ANSWERED = RESPONSE | RECURSION_DESIRED | RECURSION_AVAILABLE
 
 HEADER_LENGTH = 12
+
+# A name that is a pointer to the question's.
+POINTER = b"\xc0\x0c"
 
 
 def _repeated(text):
@@ -79,20 +86,23 @@ def event_octets(words):
     return bytes.fromhex(digits)
 
 
-def name_of(text):
-    """A domain name in full (RFC 1035 3.1), of labels with dots between them."""
-    labels = [label.encode() for label in text.split(".") if label]
+def name_of(name):
+    """A domain name in full (RFC 1035 3.1), of labels with dots between them. Octets stay as they
+    are."""
+    if isinstance(name, bytes):
+        return name
+    labels = [label.encode() for label in name.split(".") if label]
     return b"".join(bytes([len(label)]) + label for label in labels) + b"\0"
 
 
-def header(identifier, flags, answers=0):
-    """The header of a message with one question (RFC 1035 4.1.1)."""
-    return struct.pack("!6H", identifier, flags, 1, answers, 0, 0)
+def header(identifier, flags, answers=0, authorities=0, questions=1):
+    """The header of a message (RFC 1035 4.1.1), with one question unless another number is said."""
+    return struct.pack("!6H", identifier, flags, questions, answers, authorities, 0)
 
 
-def question(identifier, name, rtype=A, flags=RECURSION_DESIRED):
+def question(identifier, name, rtype=A, flags=RECURSION_DESIRED, rclass=IN):
     """A message with one question (RFC 1035 4.1.2)."""
-    return header(identifier, flags) + name_of(name) + struct.pack("!2H", rtype, IN)
+    return header(identifier, flags) + name_of(name) + struct.pack("!2H", rtype, rclass)
 
 
 def flags_of(message):
@@ -105,24 +115,62 @@ def code_of(message):
     return flags_of(message) & 0x000F
 
 
-def record(rtype, rdata, ttl=300):
-    """A record (RFC 1035 4.1.3) whose name is a pointer to the question's."""
-    return struct.pack("!3HIH", 0xC000 | HEADER_LENGTH, rtype, IN, ttl, len(rdata)) + rdata
+def record(rtype, rdata, ttl=300, owner=POINTER, rclass=IN):
+    """A record (RFC 1035 4.1.3). Its name is a pointer to the question's unless another is said."""
+    return name_of(owner) + struct.pack("!2HIH", rtype, rclass, ttl, len(rdata)) + rdata
+
+
+def soa(minimum=300, names=b"\0\0"):
+    """The data of an SOA record (RFC 1035 3.3.13) with this MINIMUM."""
+    return names + struct.pack("!5I", 1, 3600, 600, 86400, minimum)
+
+
+def response(query, answers=(), authorities=(), flags=ANSWERED):
+    """A reply to a query of one question, with these records."""
+    identifier = struct.unpack("!H", query[:2])[0]
+    begin = header(identifier, flags, len(answers), len(authorities))
+    return begin + query[HEADER_LENGTH:] + b"".join([*answers, *authorities])
 
 
 def reply_to(query, *records):
     """The reply to a query of one question, with these records as its answer: one address where
     there are none."""
-    records = records or (record(A, ADDRESS),)
-    flags = RESPONSE | RECURSION_DESIRED | RECURSION_AVAILABLE
-    identifier = struct.unpack("!H", query[:2])[0]
-    return header(identifier, flags, len(records)) + query[HEADER_LENGTH:] + b"".join(records)
+    return response(query, records or (record(A, ADDRESS),))
+
+
+def body_of(*parts):
+    """The body of an RRset: the data of each record."""
+    return struct.pack("!H", len(parts)) + b"".join(struct.pack("!H", len(part)) + part for part in parts)
+
+
+def any_entry(kind, rank, stamp, life, name, rtype, body=b""):
+    """An entry of a frame, of any kind."""
+    return struct.pack("!2BQI", kind, rank, stamp, life) + name_of(name) + struct.pack("!H", rtype) + body
 
 
 def entry(name, stamp, life=300, rank=3, rtype=A, rdata=ADDRESS):
     """An entry of a frame: an RRset of one record."""
-    body = struct.pack("!2H", 1, len(rdata)) + rdata
-    return struct.pack("!2BQI", 3, rank, stamp, life) + name_of(name) + struct.pack("!H", rtype) + body
+    return any_entry(3, rank, stamp, life, name, rtype, body_of(rdata))
+
+
+def denial_body(owner, rdata):
+    """The body of a denial: the name and the data of an SOA record."""
+    return name_of(owner) + struct.pack("!H", len(rdata)) + rdata
+
+
+def no_data(name, stamp, life=300, rank=1, rtype=A, body=denial_body("", soa())):
+    """An entry of a frame: a name has no data of a type."""
+    return any_entry(2, rank, stamp, life, name, rtype, body)
+
+
+def no_name(name, stamp, life=300, rank=1, rtype=0, body=denial_body("", soa())):
+    """An entry of a frame: a name error."""
+    return any_entry(1, rank, stamp, life, name, rtype, body)
+
+
+def flush(name, stamp, life=86400, rank=3, rtype=0):
+    """An entry of a frame: a flush."""
+    return any_entry(4, rank, stamp, life, name, rtype)
 
 
 FRAME_HEADER_LENGTH = 5

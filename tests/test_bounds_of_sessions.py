@@ -1,0 +1,193 @@
+"""Bounds of a site that serves: what is sent at once and what waits, how much waits, how long a turn
+lasts, and where its socket is."""
+
+import os
+import tempfile
+import time
+
+from support.checks import Case, add_cases
+from support.messages import TXT, entry, frame, question
+from support.program import started
+from support.sessions import ELSEWHERE, HOST, KEY, LONGEST_DATAGRAM, TRIES, ask_until_known
+from support.sessions import configuration, free_ports, open_socket, port_of, report_of, serving_one, waiting
+
+LIFE = 86400
+
+# Room in a socket for all that a session sends at once.
+ROOM = 1 << 22
+
+# More turns than a session takes with thousands of datagrams.
+MANY_TURNS = 1 << 22
+
+
+def text_frame(name, length):
+    """A frame of so many octets, with one text."""
+    now = int(time.time())
+    less = len(frame([entry(name, now, LIFE, rtype=TXT, rdata=b"")]))
+    return frame([entry(name, now, LIFE, rtype=TXT, rdata=b"x" * (length - less))])
+
+
+class BoundsOfSending(Case):
+    """A datagram of 512 octets or less is sent at once: where it can't be, it is lost. A longer one
+    waits: where it can't be sent then, that is a fault."""
+
+    def swept_counts(self, length):
+        """What a site counts that sweeps a frame of so many octets twice or more, to one peer to
+        which nothing can be sent and to another one."""
+        with open_socket() as peer:
+            peers = [port_of(peer), ELSEWHERE]
+            with serving_one(lambda port: configuration(port, [5301], peers, 1)) as site:
+                octets = text_frame("example", length)
+                self.check_equal(len(octets), length)
+                site.bring(peer, octets)
+                for _ in range(3):
+                    self.check_equal(peer.recv(LONGEST_DATAGRAM), octets)
+                return site.counts()
+
+    def test_frame_of_512(self):
+        """a frame of 512 octets is sent at once"""
+        counts = self.swept_counts(512)
+        self.check_counts(counts, faults=0, refused=0, short=0)
+        self.check_true(counts["lost"] >= 2, "two are lost or more", counts)
+
+    def test_frame_of_513(self):
+        """a frame of 513 octets waits"""
+        counts = self.swept_counts(513)
+        self.check_counts(counts, lost=0, refused=0, short=0)
+        self.check_true(counts["faults"] >= 2, "two faults or more", counts)
+
+    def check(self, name, length):
+        """The query for a name has so many octets, and is sent at once."""
+        asked = question(7, name)
+        self.check_equal(len(asked), length)
+        with open_socket() as client:
+            with serving_one(lambda port: configuration(port, [ELSEWHERE])) as site:
+                site.bring(client, asked)
+                self.check_counts(site.counts(), lost=1, faults=0, refused=0, short=0)
+
+
+add_cases(
+    BoundsOfSending,
+    [
+        ("a query of 65 octets is sent at once", "a" * 47, 65),
+        ("a query of 66 octets is sent at once", "a" * 48, 66),
+        ("a query of 271 octets, the longest, is sent at once", ".".join(["a" * 63] * 3 + ["a" * 61]), 271),
+    ],
+)
+
+
+class BoundsOfWaiting(Case):
+    """4095 frames wait to be sent. One more is sent at once, before all that wait."""
+
+    def first_at_the_last(self, frames, peers):
+        """Which frame of a sweep comes first to the last one of so many peers, or nothing where a
+        sweep began before the site had all frames."""
+        others = [open_socket() for _ in range(peers - 1)]
+        try:
+            with open_socket() as last, open_socket() as client:
+                places = [port_of(one) for one in (*others, last)]
+                with serving_one(lambda port: configuration(port, [ELSEWHERE], places, 8), MANY_TURNS) as site:
+                    for octets, name in frames:
+                        site.bring(others[0], octets)
+                        ask_until_known(site, client, name, TXT)
+                    if waiting(last):
+                        return None
+                    return last.recv(LONGEST_DATAGRAM)
+        finally:
+            for one in others:
+                one.close()
+
+    def check(self, count, peers, place):
+        """Of so many frames to so many peers the one at a place comes first to the last peer."""
+        names = [f"{number:03}" for number in range(count)]
+        frames = [(text_frame(name, 8210), name) for name in names]
+        for _ in range(TRIES):
+            first = self.first_at_the_last(frames, peers)
+            if first is not None:
+                break
+        self.check_equal([octets for octets, _ in frames].index(first), place)
+
+
+add_cases(
+    BoundsOfWaiting,
+    [
+        ("of 273 frames to 15 peers all 4095 wait, and each peer gets the first one first", 273, 15, 0),
+        ("of 256 frames to 16 peers 4095 wait, and the last peer gets the last one first", 256, 16, 255),
+    ],
+)
+
+
+class BoundsOfTurns(Case):
+    """How long turns last."""
+
+    def check_lasting(self, turns, brought, peers, seconds):
+        """A site serves so many turns, and gets datagrams at their beginning. It takes so long, or
+        longer; gives what it counted."""
+        places = [port_of(one) for one in peers]
+        with open_socket() as upstream:
+            with serving_one(lambda port: configuration(port, [port_of(upstream)], places, 1), turns) as site:
+                begun = time.monotonic()
+                for octets in brought:
+                    site.bring(peers[0], octets)
+                ended = site.end()
+                lasted = time.monotonic() - begun
+        self.check_equal((ended.status, ended.errors), (0, b""))
+        self.check_true(lasted >= seconds, f"{seconds} seconds or more", lasted)
+        return report_of(ended.output)
+
+    def test_behind_a_long_datagram(self):
+        """behind a datagram of 600 octets each of 9 turns still lasts a fifth of a second"""
+        with open_socket() as peer:
+            counts = self.check_lasting(10, [b"x" * 600], [peer], 9 * 0.2 - 0.1)
+        self.check_counts(counts, turns=10, received=1)
+
+    def test_many_frames_in_a_turn(self):
+        """a turn sends all of the 128 frames that wait: so 23 turns last beyond one sweep of them"""
+        peers = [open_socket(ROOM) for _ in range(16)]
+        frames = [text_frame(f"{number}", 8210) for number in range(8)]
+        counts = self.check_lasting(23, frames, peers, 2)
+        for peer in peers:
+            peer.close()
+        self.check_counts(counts, turns=23, received=8, lost=0, refused=0)
+        self.check_true(counts["sent"] > 128, "more than 128 are sent", counts)
+
+
+class BoundsOfDescriptors(Case):
+    """A site that is started without a standard descriptor has its socket at 3, the first other
+    one."""
+
+    def sockets_of(self, closed):
+        """Where a site has sockets that is started without these descriptors."""
+
+        def close():
+            for descriptor in closed:
+                os.close(descriptor)
+
+        with tempfile.NamedTemporaryFile("w") as file:
+            file.write(configuration(free_ports(1)[0], [5301]))
+            file.flush()
+            words = ["serve", "--config", file.name, "--turns", "10", "--key", KEY]
+            with started(words, stdin=None, stderr=None, preexec_fn=close) as child:
+                if not child.stdout.readline().startswith(f"listening {HOST}:".encode()):
+                    return None
+                folder = f"/proc/{child.pid}/fd"
+                places = {int(word): os.readlink(f"{folder}/{word}") for word in os.listdir(folder)}
+                return [place for place, leads in places.items() if leads.startswith("socket:")]
+
+    def check(self, *closed):
+        for _ in range(TRIES):
+            places = self.sockets_of(closed)
+            if places is not None:
+                break
+        self.check_equal(places, [3])
+
+
+add_cases(
+    BoundsOfDescriptors,
+    [
+        ("with all standard descriptors the socket is at 3",),
+        ("without standard input the socket is at 3", 0),
+        ("without standard error the socket is at 3", 2),
+        ("without standard input and standard error the socket is at 3", 0, 2),
+    ],
+)
