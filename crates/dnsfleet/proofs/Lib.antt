@@ -6,3 +6,4 @@ mod Apart
 mod Configurations
 mod Sockets
 mod Queues
+mod Chains

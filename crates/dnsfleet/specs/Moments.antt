@@ -4,11 +4,10 @@ use Rattle.std.specs.Prelude.{ℕ, ◌/◌, min, Result, Ok, Err}
 use Rattle.std.specs.declared.time.Duration.{Duration}
 use Rattle.std.specs.Duration.{as_nanos}
 use Rattle.fleet_observe.specs.declared.bounds.TheConstants.{LATEST}
-use Rattle.dnsfleet.specs.declared.system_clock.TheConstants.{NANOS_PER_SECOND}
 
 -- whole seconds, at most the latest moment
 abbrev pub moment_in : Duration → ℕ
-moment_in since = min (as_nanos since / NANOS_PER_SECOND) LATEST
+moment_in since = min (as_nanos since / 1000000000) LATEST
 
 -- where the clock can't be read, the last moment again
 abbrev pub moment_after : {E : Type 0} → Result Duration E → ℕ → ℕ

@@ -10,12 +10,11 @@ use Rattle.fleet_site.specs.server.Served.{Served, FollowsSteps}
 use Rattle.fleet_site.specs.StandsFor.{StandsFor, opening}
 use Rattle.fleet_site.specs.SiteData.{SiteData}
 use Rattle.fleet_site.specs.declared.report.Report.{Report}
-use Rattle.dnsfleet.specs.declared.serve.TheConstants.{DOUBLE_ROUNDS}
 use Rattle.dnsfleet.specs.declared.settings.Settings.{Settings}
 
--- the key stream of ChaCha20
+-- the key stream of ChaCha20, which has ten double rounds
 abbrev pub key_stream : OctetList → Stream
-key_stream key = stream_of (steps_u32 (next_word DOUBLE_ROUNDS)) (of_seed key)
+key_stream key = stream_of (steps_u32 (next_word 10)) (of_seed key)
 
 -- this number of turns was served, with the upstreams, the peers and the seconds between sweeps
 -- that the settings say, by a site that took nothing in before; it follows the model's steps

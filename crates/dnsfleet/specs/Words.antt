@@ -1,8 +1,8 @@
 -- What the words of a line say.
 -- Serves the readers of a script and of a configuration.
-use Rattle.std.specs.Prelude.{◌≡◌, ◌≢◌, ℕ, ◌≤◌, ◌⊎◌, ◌++◌, [], length, codes, nat_eq, IsFalse, Ok}
+use Rattle.std.specs.Prelude.{◌≡◌, ◌==◌, ◌≢◌, ℕ, ◌≤◌, ◌⊎◌, ◌++◌, List, [], length, codes, nat_eq, IsFalse, Ok}
 use Rattle.std.specs.Char.{is_ascii_digit}
-use Rattle.std.specs.List.{AllPass, starts_with}
+use Rattle.std.specs.List.{AllPass, starts_with, slice_split}
 use Rattle.std.specs.Int.{w32, to_be_bytes}
 use Rattle.std.specs.Net.Grammar.{IsDotted}
 use Rattle.std.specs.Str.Parse.{digits_value}
@@ -11,6 +11,10 @@ use Rattle.fleet_name.specs.Name.{wire, lower, IsName}
 use Rattle.fleet_pending.specs.declared.addr.Addr.{Addr}
 use Rattle.hex.specs.Hex.{decode_of}
 use Rattle.dnsfleet.specs.declared.words.TheConstants.{MOST_DIGITS, LARGEST_16_BITS}
+
+-- the words of a line: what stands between its spaces
+abbrev pub words_of : OctetList → List OctetList
+words_of line = slice_split (λ octet. octet == 32) line
 
 -- a whole number: 1 to 13 decimal digits
 pub record IsNumber (word : OctetList) : Type 0 where

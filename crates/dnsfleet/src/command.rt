@@ -1,5 +1,8 @@
 //! What a line asks for.
 
+ghost use Rattle.std.specs.Prelude.{◌≡◌, map, take};
+ghost use Rattle.dnsfleet.specs.Words.{words_of};
+
 use crate::fault::LineFault;
 use crate::words::{
     Hex, NameWord, SiteCount, address, moment, number, site_count, word_of_16_bits,
@@ -156,13 +159,12 @@ impl Step<'_> {
 }
 
 /// The first words of a line, up to seven: no line has more than six.
-fn first_words(line: &str) -> ArrayVec<&str, 7> {
+fn first_words(line: &str) -> ArrayVec<&str, 7>
+    ensures { map (λ word. word.now) result.items ≡ take 7 (words_of line.now) }
+{
     let mut words = ArrayVec::new();
-    for word in line.split(' ') {
-        if words.try_push(word).is_err() {
-            break;
-        }
-    }
+    // There is room for seven.
+    let _ = words.extend(line.split(' ').take(7));
     words
 }
 

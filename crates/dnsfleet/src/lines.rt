@@ -1,7 +1,7 @@
 //! The lines that a reader gives.
 
 ghost use Rattle.std.specs.Prelude.{◌≡◌, ◌<◌, ◌≤◌, length, vec_len, IfOk};
-ghost use Rattle.dnsfleet.specs.declared.lines.TheConstants.{CHUNK, LONGEST, MOST_CALLS};
+ghost use Rattle.dnsfleet.specs.declared.lines.TheConstants.{CHUNK, LONGEST};
 
 use crate::calls::Calls;
 use crate::fault::LineFault;
@@ -31,7 +31,7 @@ pub struct Lines<'a, R> {
 impl<'a, R: Read> Lines<'a, R> {
     /// The lines of a reader, before the first.
     pub fn new(reader: &'a mut R) -> Lines<'a, R>
-        ensures { result.calls.left ≡ MOST_CALLS }
+        ensures { result.calls.left ≡ 4294967295 }
     {
         Lines {
             calls: Calls::new(reader, MOST_CALLS),

@@ -27,9 +27,6 @@ use thiserror::Error;
 /// How many octets a key has.
 const KEY_LENGTH: usize = 32;
 
-/// How many double rounds ChaCha20 has, as contracts cite it.
-const DOUBLE_ROUNDS: u32 = 10;
-
 /// The status with which a bad key ends.
 const BAD_KEY: u8 = 2;
 

@@ -9,9 +9,6 @@ use fleet_site::Clock;
 use std::time::Duration;
 use std::{io, time};
 
-/// How many nanoseconds a second has, as contracts cite it.
-const NANOS_PER_SECOND: u64 = 1_000_000_000;
-
 /// A clock of the system. Moments are its seconds since 1970, at most 2^40; where it can't be read,
 /// the last moment again, and 0 where there was none.
 #[derive(Drop)]

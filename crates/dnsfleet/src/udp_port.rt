@@ -1,11 +1,10 @@
 //! A port over the system's UDP socket.
 
-ghost use Rattle.std.specs.Prelude.{◌≡◌, ◌↔◌, ◌≤◌, ◌≤ℤ◌, [], ◌∷◌, length, IsTrue, false, Some, None, IfOk, IfSome};
+ghost use Rattle.std.specs.Prelude.{◌≡◌, ◌↔◌, ◌≤◌, ◌≤ℤ◌, pos, [], ◌∷◌, length, IsTrue, false, Some, None, IfOk, IfSome};
 ghost use Rattle.std.specs.Net.Udp.{udp_raw_fd};
 ghost use Rattle.fleet_site.specs.server.PortRecord.{NotesAll, receive_of, send_of, failures_after, one_more};
 ghost use Rattle.dnsfleet.specs.Queue.{TakesIn, Receives, Leaves, SendsOrKeeps};
 ghost use Rattle.dnsfleet.specs.Socket.{IsAt, IsQuiet, address_in};
-ghost use Rattle.dnsfleet.specs.declared.udp_port.TheConstants.{LOWEST_FREE};
 
 use crate::inbox::Inbox;
 use crate::queue::{MOST_WAITING, Queue};
@@ -63,7 +62,7 @@ impl<'a, C: time::Clock, A: Allocator + Copy> UdpPort<'a, C, A> {
         addr: Addr,
     ) -> Result<UdpPort<'a, C, A>, PortFault>
         ensures address { IfOk result (λ port. IsAt addr port.address) }
-        ensures descriptor { IfOk result (λ port. LOWEST_FREE ≤ℤ udp_raw_fd port.socket) }
+        ensures descriptor { IfOk result (λ port. pos 3 ≤ℤ udp_raw_fd port.socket) }
         ensures failed { IfOk result (λ port. port.failed ≡ 0) }
         ensures idle { IfOk result (λ port. (port.arrived.messages ≡ [])
             × (port.arrived.frames ≡ []) × (port.leaving ≡ [])) }
@@ -339,7 +338,7 @@ impl<C: time::Clock, A: Allocator + Copy> Port for UdpPort<'_, C, A> {
 
 /// A socket that is bound to an address, and whose receives wait 200 milliseconds at most.
 fn open<N: Net>(net: &N, addr: Addr) -> io::Result<UdpSocket>
-    ensures { IfOk result (λ socket. LOWEST_FREE ≤ℤ udp_raw_fd socket) }
+    ensures { IfOk result (λ socket. pos 3 ≤ℤ udp_raw_fd socket) }
 {
     let socket = beyond_standard(UdpSocket::bind(net, system_addr(addr))?)?;
     socket.set_read_timeout(Some(Duration::from_millis(WAIT)))?;
@@ -349,7 +348,7 @@ fn open<N: Net>(net: &N, addr: Addr) -> io::Result<UdpSocket>
 /// The same socket, by a descriptor that is no standard one. A process that was started without
 /// some of them is given their numbers first.
 fn beyond_standard(socket: UdpSocket) -> io::Result<UdpSocket>
-    ensures { IfOk result (λ socket. LOWEST_FREE ≤ℤ udp_raw_fd socket) }
+    ensures { IfOk result (λ socket. pos 3 ≤ℤ udp_raw_fd socket) }
 {
     if socket.as_raw_fd() >= LOWEST_FREE {
         return Ok(socket);

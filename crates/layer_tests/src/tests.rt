@@ -4,9 +4,10 @@
 //! `calls` and `observations` read rows, make their calls and compare their output. Each other file
 //! has tests: of names and octets; of lists of items; of messages that are cut off or lie (`faults`), that servers
 //! sent (`captures`) and that are read in place; of what replies say, and of observations that are
-//! made; of fronts; of caches, flushes, exchanges between caches and the memory that purges give
+//! made (`bodies` has those behind other octets); of fronts; of caches, flushes, exchanges between caches and the memory that purges give
 //! back; of frames, their second entries, and frames that are taken; of open questions.
 
+mod bodies;
 mod caches;
 mod calls;
 mod captures;

@@ -1,7 +1,6 @@
 //! Sites over sockets of this machine, and the system's clock.
 
 use super::messages::{QUESTION, RELAY};
-use super::settings::loopback;
 use crate::{SystemClock, UdpPort};
 use fleet_observe::Moment;
 use fleet_pending::Addr;
@@ -21,6 +20,14 @@ const RECORD: &[u8] = b"\xc0\x0c\x00\x01\x00\x01\x00\x00\x01\x2c\x00\x04\xc0\x00
 
 /// Where the last octet of the TTL is in the answer to it, which has the name in full.
 const SECONDS: usize = 49;
+
+/// An address of 127.0.0.1.
+pub fn loopback(port: u16) -> Addr {
+    Addr {
+        host: 0x7f00_0001,
+        port,
+    }
+}
 
 /// A socket of a test, which waits for a second at most, and where it is.
 pub fn open(stop: &impl Abort, rt: &HostRuntime) -> (UdpSocket, Addr) {
@@ -211,126 +218,29 @@ fn set_seconds(answer: &mut [u8]) {
     }
 }
 
-/// Two sends of a port fail and are counted; a receive that finds nothing is not.
+/// A send to no port fails and is counted; a receive that finds nothing is not.
 fn check_failures(rt: &impl Abort, port: &mut UdpPort<'_, HostRuntime>) {
     assert!(rt; port.send(loopback(0), b"x").is_err());
-    let elsewhere = Addr {
-        host: 0x0a00_0001,
-        port: 53,
-    };
-    assert!(rt; port.send(elsewhere, b"x").is_err());
-    assert_eq!(rt; port.failures(), 2);
+    assert_eq!(rt; port.failures(), 1);
     let mut buffer = [0u8; 8];
     assert!(rt; matches!(port.recv(&mut buffer), Ok(None)));
-    assert_eq!(rt; port.failures(), 2);
+    assert_eq!(rt; port.failures(), 1);
 }
 
-/// A port receives the first octets of a datagram, at most eight.
-fn check_arrival(
-    rt: &impl Abort,
-    port: &mut UdpPort<'_, HostRuntime>,
-    client: &UdpSocket,
-    from: Addr,
-    bytes: &[u8],
-) {
+/// A port receives the first octets of a datagram, as many as its buffer has.
+fn check_cut(rt: &impl Abort, port: &mut UdpPort<'_, HostRuntime>, client: &UdpSocket, from: Addr) {
     let mut buffer = [0u8; 8];
-    let len = bytes.len().min(8);
-    send(rt, client, port.address(), bytes);
-    match port.recv(&mut buffer) {
-        Ok(Some(got)) => assert_eq!(rt; got, (from, len)),
-        _ => assert!(rt; false, "{len}"),
-    }
-    assert_eq!(rt; buffer.get(..len), bytes.get(..len));
-}
-
-/// A port receives datagrams of a client, and sends one to it.
-fn check_client(
-    rt: &impl Abort,
-    alloc: Global,
-    port: &mut UdpPort<'_, HostRuntime>,
-    client: &UdpSocket,
-    from: Addr,
-) {
-    check_arrival(rt, port, client, from, b"");
-    check_arrival(rt, port, client, from, b"12345678");
-    check_arrival(rt, port, client, from, b"123456789");
-    port.send(from, b"abc").expect(rt, "a send");
-    assert_eq!(rt; receive(rt, alloc, client).as_slice(), b"abc".as_slice());
-    assert_eq!(rt; port.failures(), 2);
+    send(rt, client, port.address(), b"123456789");
+    assert!(rt; matches!(port.recv(&mut buffer), Ok(Some(got)) if got == (from, 8)));
+    assert_eq!(rt; buffer, *b"12345678");
 }
 
 #[test]
-fn counts_what_fails(rt: HostRuntime) {
+fn counts_what_fails_and_cuts_what_is_too_long(rt: HostRuntime) {
     let mut port = UdpPort::bind(&rt, &rt, rt.alloc(), loopback(0)).expect(&rt, "a port");
-    assert!(rt; UdpPort::bind(&rt, &rt, rt.alloc(), port.address()).is_err());
     check_failures(&rt, &mut port);
     let (client, from) = open(&rt, &rt);
-    check_client(&rt, rt.alloc(), &mut port, &client, from);
-}
-
-/// The length of the longest frame.
-const LONGEST: usize = 16384;
-
-/// As many octets as the longest frame has.
-fn longest_frame(rt: &impl Abort, alloc: Global) -> Vec<u8> {
-    let mut bytes = Vec::new(alloc);
-    for at in 0..LONGEST {
-        bytes.push((at % 251) as u8).expect(rt, "memory");
-    }
-    bytes
-}
-
-/// A port receives the longest frame.
-fn check_received(
-    rt: &impl Abort,
-    port: &mut UdpPort<'_, HostRuntime>,
-    from: Addr,
-    bytes: &[u8],
-    buffer: &mut [u8],
-) {
-    match port.recv(buffer) {
-        Ok(Some(got)) => assert_eq!(rt; got, (from, LONGEST)),
-        _ => assert!(rt; false, "nothing came"),
-    }
-    assert_eq!(rt; buffer.get(..LONGEST), bytes.get(..LONGEST));
-}
-
-/// A port sends the longest frame to a client.
-fn check_sent(
-    rt: &impl Abort,
-    port: &mut UdpPort<'_, HostRuntime>,
-    client: &UdpSocket,
-    to: Addr,
-    bytes: &[u8],
-    buffer: &mut [u8],
-) {
-    port.send(to, bytes).expect(rt, "a send");
-    port.finish();
-    let (len, _) = client.recv_from(buffer).expect(rt, "a datagram");
-    assert_eq!(rt; buffer.get(..len), bytes.get(..LONGEST));
-}
-
-/// A port carries the longest frame, from a client and to it.
-fn check_longest(
-    rt: &impl Abort,
-    alloc: Global,
-    port: &mut UdpPort<'_, HostRuntime>,
-    client: &UdpSocket,
-    from: Addr,
-) {
-    let bytes = longest_frame(rt, alloc);
-    let mut buffer = vec![in alloc; 0u8; LONGEST + 1].expect(rt, "memory");
-    send(rt, client, port.address(), &bytes);
-    check_received(rt, port, from, &bytes, &mut buffer);
-    buffer.fill(0);
-    check_sent(rt, port, client, from, &bytes, &mut buffer);
-}
-
-#[test]
-fn carries_the_longest_frame(rt: HostRuntime) {
-    let mut port = UdpPort::bind(&rt, &rt, rt.alloc(), loopback(0)).expect(&rt, "a port");
-    let (client, from) = open(&rt, &rt);
-    check_longest(&rt, rt.alloc(), &mut port, &client, from);
+    check_cut(&rt, &mut port, &client, from);
 }
 
 /// A clock that is set by hand; `None` is one that can't be read.
