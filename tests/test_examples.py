@@ -10,13 +10,16 @@ import re
 
 from support.checks import Case, add_cases, parts_of
 from support.messages import spelled
-from support.program import Ended, run_octet_by_octet, run_script
+from support.program import CASES, TESTS, Ended, run_octet_by_octet, run_script
 from support.streams import run_interrupted
 from support.transcripts import text_of
 
 FILES = ("examples_questions.txt", "examples_datagrams.txt", "examples_frames.txt")
 EXAMPLES = 58
 MOST_SITES = 9
+
+# Where the program's crate has the same texts, and runs them with each call for memory refused.
+SOURCES = TESTS.parent / "crates" / "dnsfleet" / "src" / "tests"
 
 
 def parts_of_transcript(transcript):
@@ -91,3 +94,18 @@ class AllExamples(Case):
         """all examples as one script, behind a read that was interrupted"""
         script, printed = read_as_one()
         self.check_equal(run_interrupted([script]), Ended(0, printed))
+
+
+def text_in(source):
+    """The text of a source file of the crate that has one constant of several lines."""
+    return (SOURCES / source).read_text(encoding="utf-8").split(' = "\\\n', 1)[1].split('";', 1)[0].replace("\\\\", "\\")
+
+
+class InTheCrate(Case):
+    """The texts of the program's crate, where the sources are at hand."""
+
+    def test_same(self):
+        """the examples of the program's crate are these"""
+        for name in FILES if SOURCES.is_dir() else ():
+            source = name.removeprefix("examples_").replace(".txt", ".rt")
+            self.check_equal(text_in(source), (CASES / name).read_text(encoding="utf-8"), name)
