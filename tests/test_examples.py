@@ -98,7 +98,8 @@ class AllExamples(Case):
 
 def text_in(source):
     """The text of a source file of the crate that has one constant of several lines."""
-    return (SOURCES / source).read_text(encoding="utf-8").split(' = "\\\n', 1)[1].split('";', 1)[0].replace("\\\\", "\\")
+    text = (SOURCES / source).read_text(encoding="utf-8").split(' = "\\\n', 1)[1].split('\n";', 1)[0]
+    return re.sub(r"\\(.)", r"\1", text) + "\n"
 
 
 class InTheCrate(Case):
