@@ -8,7 +8,7 @@ import time
 from support.checks import Case, add_cases
 from support.messages import TXT, entry, frame, question
 from support.program import started
-from support.sessions import ELSEWHERE, HOST, KEY, LONGEST_DATAGRAM, TRIES, ask_until_known
+from support.sessions import ELSEWHERE, HOST, KEY, LONGEST_DATAGRAM, TRIES, WIDTH, ask_until_known
 from support.sessions import configuration, free_ports, open_socket, port_of, report_of, serving_one, waiting
 
 LIFE = 86400
@@ -122,7 +122,7 @@ class BoundsOfTurns(Case):
 
     def check_lasting(self, turns, brought, peers, seconds):
         """A site serves so many turns, and gets datagrams at their beginning. It takes so long, or
-        longer; gives what it counted."""
+        somewhat longer; gives what it counted."""
         places = [port_of(one) for one in peers]
         with open_socket() as upstream:
             with serving_one(lambda port: configuration(port, [port_of(upstream)], places, 1), turns) as site:
@@ -132,8 +132,14 @@ class BoundsOfTurns(Case):
                 ended = site.end()
                 lasted = time.monotonic() - begun
         self.check_equal((ended.status, ended.errors), (0, b""))
-        self.check_true(lasted >= seconds, f"{seconds} seconds or more", lasted)
+        wanted = f"{seconds} seconds or more, and less than {WIDTH} more"
+        self.check_true(seconds <= lasted < seconds + WIDTH, wanted, lasted)
         return report_of(ended.output)
+
+    def test_without_a_datagram(self):
+        """each of 15 turns lasts a fifth of a second where nothing comes, and not two seconds"""
+        counts = self.check_lasting(15, [], [], 15 * 0.2 - 0.1)
+        self.check_counts(counts, turns=15, received=0)
 
     def test_behind_a_long_datagram(self):
         """behind a datagram of 600 octets each of 9 turns still lasts a fifth of a second"""

@@ -1,13 +1,14 @@
 """Sessions with frames that come and go in bursts. Frames of more octets than a message has wait
 in the site; messages overtake them."""
 
+import contextlib
 import time
 
 from support.checks import Case
 from support.messages import FRAME_HEADER_LENGTH, NO_ERROR, NS, REFUSED, TXT, code_of, entry, frame
 from support.messages import question, record, reply_to
-from support.sessions import ELSEWHERE, LONGEST_DATAGRAM, TRIES, arrival, ask_until_known
-from support.sessions import configuration, open_socket, port_of, serving_one, waiting, with_neighbours
+from support.sessions import ELSEWHERE, LONGEST_DATAGRAM, TRIES, WIDTH, arrival, ask_until_known
+from support.sessions import ask_upstream, configuration, open_socket, port_of, serving_one, waiting, with_neighbours
 from support.streams import go_on, stop
 
 LONGEST_MESSAGE = 512
@@ -16,6 +17,11 @@ LIFE = 86400
 
 # Room in a socket for all that a session sends at once.
 ROOM = 1 << 22
+
+# A name, and records of names below it: a reply with them is a message, and a frame with them is
+# longer than one.
+LONG_NAME = ".".join([letter * 40 for letter in "abc"])
+LONG_RECORDS = [record(NS, b"\1" + letter.encode() + b"\xc0\x0c") for letter in "vwxyz"]
 
 # How many frames a sweep of these sessions has, and how many octets the data in each has: two of
 # them don't go into one frame.
@@ -148,6 +154,22 @@ class Leaving(Case):
             self.check_true(lasted > least - 0.5, f"more than {least} milliseconds", lasted)
             self.check_counts(site.counts(), lost=0, faults=0, refused=0, short=0)
 
+    def test_many(self):
+        """4000 frames leave two a millisecond: in two seconds, and not in none or in twenty more"""
+        asked, peers = 250, 16
+        with contextlib.ExitStack() as stack:
+            upstream, client, *others, last = [stack.enter_context(open_socket(ROOM)) for _ in range(2 + peers)]
+            places = [port_of(one) for one in (*others, last)]
+            site = stack.enter_context(serving_one(lambda port: configuration(port, [port_of(upstream)], places, 0)))
+            begun = time.monotonic()
+            for number in range(asked):
+                ask_upstream(site, client, upstream, question(number, f"{number}.{LONG_NAME}", NS), *LONG_RECORDS)
+            frames = [last.recv(LONGEST_DATAGRAM) for _ in range(asked)]
+            lasted = time.monotonic() - begun
+            self.check_true(all(len(octets) > LONGEST_MESSAGE for octets in frames), "long frames", frames[0])
+            self.check_true(1.9 < lasted < 1.9 + WIDTH, f"more than 1.9 seconds, and less than {WIDTH} more", lasted)
+            self.check_counts(site.counts(), lost=0, faults=0, short=0)
+
     def test_messages_overtake(self):
         """while frames wait to be sent, the site answers"""
         frames, asked = swept_frames(int(time.time())), 50
@@ -178,17 +200,15 @@ class Leaving(Case):
     def check_end(self, turns=100, asked=60, peers=8):
         """A site whose turns end while replies come, each with a frame to each peer; gives how
         many it handled."""
-        name = ".".join([letter * 40 for letter in "abc"])
-        records = [record(NS, b"\1" + letter.encode() + b"\xc0\x0c") for letter in "vwxyz"]
         with open_socket() as upstream, open_socket(ROOM) as client, open_socket(ROOM) as peer:
             others = [open_socket(ROOM) for _ in range(peers - 1)]
             places = [port_of(one) for one in (peer, *others)]
             with serving_one(lambda port: configuration(port, [port_of(upstream)], places, 0), turns) as site:
                 for number in range(asked):
-                    site.bring(client, question(number, f"{number}.{name}", NS))
+                    site.bring(client, question(number, f"{number}.{LONG_NAME}", NS))
                 queries = [upstream.recv(LONGEST_DATAGRAM) for _ in range(asked)]
                 for query in queries:
-                    site.bring(upstream, reply_to(query, *records))
+                    site.bring(upstream, reply_to(query, *LONG_RECORDS))
                 site.end()
             relays = [octets for octets in waiting(client) if code_of(octets) == NO_ERROR]
             sent = [waiting(one) for one in (peer, *others)]

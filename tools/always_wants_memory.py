@@ -14,7 +14,8 @@ import re
 import sys
 
 sys.dont_write_bytecode = True
-from memory_calls import rows
+from memory_calls import case_of, rows
+from proved_cases import cases_fail
 from unproved_tests import copy_of_sources, fails
 
 # What a call answers that finds no memory, by the fault of its signature.
@@ -68,21 +69,25 @@ def edited(folder, call):
     return False
 
 
+def attempt(crate, call, test):
+    """Whether the test of a call fails where the call always wants memory."""
+    what = f"{crate}: {call}"
+    with copy_of_sources() as root:
+        if not edited(root / "crates" / crate, call):
+            print(f"{what}: not found")
+            return False
+        case = case_of(test)
+        if case:
+            return cases_fail(root, [case], what)
+        place, _, name = test.rpartition("::")
+        return fails(root, place or crate, name, what)
+
+
 def main():
     wanted = sys.argv[1:]
-    passed = 0
-    for crate, calls, test in rows():
-        place, _, name = test.rpartition("::")
-        for call in calls:
-            if wanted and call not in wanted:
-                continue
-            with copy_of_sources() as root:
-                if not edited(root / "crates" / crate, call):
-                    print(f"{crate}: {call}: not found")
-                    passed += 1
-                elif not fails(root, place or crate, name, f"{crate}: {call}"):
-                    passed += 1
-    sys.exit(1 if passed else 0)
+    made = [(crate, call, test) for crate, calls, test in rows() for call in calls]
+    tried = [attempt(*row) for row in made if not wanted or row[1] in wanted]
+    sys.exit(0 if all(tried) else 1)
 
 
 if __name__ == "__main__":

@@ -6,12 +6,16 @@ ample memory by a test that compares its answer, and the table under "## Calls t
 Run at the top of the repository, by hand: `python3 tools/memory_calls.py`. It reads signatures: a call counts where the
 fault that it may answer is `AllocError`, or a type of the repository that speaks of memory or has such a part. It looks
 whether each test that the table names is there, and whether the calls of its row are made in the crate of the test (a row
-of text is read by a helper, which makes the call); it ends with status 1 where one is not.
+of text is read by a helper, which makes the call); it ends with status 1 where one is not. A row of the program may name a
+case in the place of a test, as `tests: MODULE.CLASS.TEST`: that has to be one of `tests/run --list`.
 """
 
 import re
 import sys
 from pathlib import Path
+
+sys.dont_write_bytecode = True
+from proved_cases import names_of_cases
 
 ROOT = Path(__file__).resolve().parent.parent
 TABLE = ROOT / "docs" / "PROMISES.md"
@@ -92,7 +96,7 @@ def calls(crate, files, told):
 
 
 def rows():
-    """The rows of the table: a crate, its calls and the test that makes them."""
+    """The rows of the table: a crate, its calls, and the test or the case that makes them."""
     text = TABLE.read_text()
     if HEADING not in text:
         sys.exit(f"{TABLE.name} has no part '{HEADING}'")
@@ -109,6 +113,25 @@ def crate_with_test(files, test):
     return "".join(files.values()) if any(re.search(pattern, text) for text in files.values()) else ""
 
 
+def case_of(test):
+    """The case that a row names, or nothing where it names a test of Rattle."""
+    word, _, case = test.partition(": ")
+    return case if word == "tests" else None
+
+
+def wrong_row(files, cases, crate, made, test):
+    """What is wrong with the test of a row: it is not there, or it does not make a call."""
+    case = case_of(test)
+    if case:
+        return [] if case in cases else [f"{crate}: no case {case}"]
+    place, _, name = test.rpartition("::")
+    text = crate_with_test(files.get(place or crate, {}), name)
+    if not text:
+        return [f"{crate}: no test {test}"]
+    unmade = [call for call in made if not re.search(rf"\b{call.split('::')[-1]}\(", text)]
+    return [f"{crate}: the crate of {test} does not call {call}" for call in unmade]
+
+
 def main():
     crates = sorted(path.name for path in (ROOT / "crates").iterdir() if (path / "src").is_dir())
     files = {crate: sources(crate) for crate in crates}
@@ -116,17 +139,12 @@ def main():
     for crate in crates:
         definitions.update(types(files[crate]))
     told = faults(definitions)
+    cases = names_of_cases()
     wrong = []
     with_row = set()
     for crate, made, test in rows():
-        place, _, name = test.rpartition("::")
-        text = crate_with_test(files.get(place or crate, {}), name)
-        if not text:
-            wrong.append(f"{crate}: no test {test}")
-        for call in made:
-            with_row.add((crate, call))
-            if text and not re.search(rf"\b{call.split('::')[-1]}\(", text):
-                wrong.append(f"{crate}: the crate of {test} does not call {call}")
+        with_row.update((crate, call) for call in made)
+        wrong += wrong_row(files, cases, crate, made, test)
     wanted = {(crate, call) for crate in crates for call in calls(crate, files[crate], told)}
     wrong += [f"{crate}: {call} has no row" for crate, call in sorted(wanted - with_row)]
     for line in wrong:

@@ -3,17 +3,27 @@
 
 usage: collect.py FILE.. > datagrams.txt
 
-Of a script or of what it prints (.in, .out, .script) every word of hexadecimal digits is taken; of a Rattle source
-(.rt) every byte string, and every such word in a string, where {HH*N} stands for the octet HH, N times.
+Of a script or of what it prints (.in, .out, .script) the last word of each line is taken, where it is one of
+hexadecimal digits. So it is of the examples under tests/cases, where names stand for messages. Of the messages and
+flushes there each line is taken, by its name or its parts. Of a Rattle source (.rt) every byte string is taken, and
+every such word in a string, where {HH*N} stands for the octet HH, N times.
 """
 
 import re
 import sys
+from pathlib import Path
+
+CASES = Path(__file__).resolve().parents[2] / "tests" / "cases"
+sys.path.insert(0, str(CASES.parent))
+sys.dont_write_bytecode = True
+from support.messages import event_octets, spelled
 
 HEX = re.compile(r"(?:[0-9a-f]{2}|\{[0-9a-f]{2}\*[0-9]+\})+", re.IGNORECASE)
 REPEATED = re.compile(r"\{([0-9a-f]{2})\*([0-9]+)\}", re.IGNORECASE)
 BYTES = re.compile(r'b"((?:[^"\\]|\\.)*)"', re.DOTALL)
 STRING = re.compile(r'(?<!b)"((?:[^"\\]|\\.)*)"', re.DOTALL)
+# Files of tests/cases that have messages and frames by their names or in parts, one a line.
+IN_PARTS = ("event_messages.txt", "hostile_messages.txt", "hostile_flushes.txt")
 SIMPLE = {"n": 10, "r": 13, "t": 9, "0": 0, "\\": 92, '"': 34, "'": 39}
 
 
@@ -23,6 +33,11 @@ def words_of(text, shortest):
             digits = REPEATED.sub(lambda found: found[1] * int(found[2]), word)
             if len(digits) >= 2 * shortest:
                 yield bytes.fromhex(digits)
+
+
+def last_word_of(line):
+    """An event's last word, or what a step sends; numbers stand before it."""
+    yield from words_of(" ".join(line.split()[-1:]), 1)
 
 
 def unescaped(text):
@@ -43,13 +58,25 @@ def unescaped(text):
     return bytes(octets)
 
 
+def datagrams_of_case(path, lines):
+    """What a file of tests/cases has: messages by their names or in parts, or lines of scripts and what they print."""
+    for line in lines:
+        if line.startswith(("#", ";", "=")):
+            continue
+        if path.name in IN_PARTS:
+            yield event_octets(line.rpartition(":")[2])
+        else:
+            yield from last_word_of(spelled(line))
+
+
 def datagrams_of(path):
-    with open(path) as file:
-        text = file.read()
-    if not path.endswith(".rt"):
-        # An event's last word, or what a step sends; numbers stand before it.
+    text = path.read_text(encoding="utf-8")
+    if path.resolve().parent == CASES:
+        yield from datagrams_of_case(path, text.splitlines())
+        return
+    if path.suffix != ".rt":
         for line in text.splitlines():
-            yield from words_of(" ".join(line.split()[-1:]), 1)
+            yield from last_word_of(line)
         return
     for found in BYTES.finditer(text):
         yield unescaped(found[1])
@@ -59,7 +86,7 @@ def datagrams_of(path):
 
 def main():
     seen = {b""}
-    for path in sys.argv[1:]:
+    for path in map(Path, sys.argv[1:]):
         seen.update(one for one in datagrams_of(path) if len(one) <= 65000)
     for one in sorted(seen, key=lambda one: (len(one), one)):
         print(one.hex() or "-")

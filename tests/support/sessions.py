@@ -1,10 +1,11 @@
 """Sessions: the program as a site on a port of this machine, with sockets of the test as its
 clients, upstreams and peers.
 
-A session waits for what it expects, up to `PATIENCE` seconds, and rests on no other bound on
-time. A site serves more turns than any session takes. When a session is done it brings datagrams
-without octets until the site has served all turns, and takes these out of what the site counted.
-So counts are exact, however long a session took.
+A session waits for what it expects, up to `PATIENCE` seconds. Where it is about time, it may last
+`WIDTH` seconds longer than it has to. It rests on no other bound on time. A site serves more
+turns than any session takes. When a session is done it brings datagrams without octets until the
+site has served all turns, and takes these out of what the site counted. So counts are exact,
+however long a session took.
 """
 
 import contextlib
@@ -30,6 +31,9 @@ HOST = "127.0.0.1"
 
 # An address to which a socket of 127.0.0.1 can't send.
 ELSEWHERE = "10.0.0.1:53"
+
+# How many seconds longer than it has to a session may last.
+WIDTH = 20
 
 # How often a port that another program took is tried anew.
 TRIES = 10
@@ -237,12 +241,13 @@ def ask_until_known(site, one, name, rtype=A):
     raise AssertionError(f"not known within {PATIENCE} seconds: {name}")
 
 
-def ask_upstream(site, client, upstream, asked):
-    """Asks a site what it has to ask its only upstream, which answers; gives the relay, and how
-    often the answer came too late, so that the client got a failure and asked again."""
+def ask_upstream(site, client, upstream, asked, *records):
+    """Asks a site what it has to ask its only upstream, which answers with these records, or with
+    one address; gives the relay, and how often the answer came too late, so that the client got a
+    failure and asked again."""
     for late in range(TRIES):
         site.bring(client, asked)
-        site.bring(upstream, reply_to(upstream.recv(LONGEST_DATAGRAM)))
+        site.bring(upstream, reply_to(upstream.recv(LONGEST_DATAGRAM), *records))
         relay = client.recv(LONGEST_DATAGRAM)
         if code_of(relay) != SERVER_FAILURE:
             return relay, late
