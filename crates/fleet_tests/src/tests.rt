@@ -13,6 +13,8 @@ mod hits;
 mod hostile;
 mod messages;
 mod octets;
+mod refused;
+mod refusing;
 mod sites;
 mod turns;
 mod worked;

@@ -1,6 +1,6 @@
 //! Lists of events with what they do.
 
-use crate::tests::fleets::{check_new, check_rows, check_run, events_of, fleet};
+use crate::tests::fleets::{check_new, check_rows, check_run, events_of, fleet, rows_of};
 use fleet_world::World;
 use std::alloc::Global;
 use std::process::Abort;
@@ -209,7 +209,7 @@ site 1 => none
 
 /// Why a run of the events of rows was halted, and after how many.
 fn halt_of(rt: &impl Abort, alloc: Global, world: &mut World, rows: &str) -> String {
-    let events = events_of(rt, alloc, rows);
+    let events = events_of(rt, alloc, &rows_of(rt, alloc, rows));
     match world.run(&events) {
         Ok(_) => panic!(rt; "not halted"),
         Err(halted) => format!(in alloc; "{halted}").expect(rt, "memory"),

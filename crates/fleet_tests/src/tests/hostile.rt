@@ -2,7 +2,7 @@
 //! that octets can come in as: what is refused leaves what a site holds, its open questions and the
 //! kept frames as they were.
 
-use crate::tests::fleets::{events_of, fleet};
+use crate::tests::fleets::{events_of, fleet, rows_of};
 use crate::tests::octets::{octets, parts_of};
 use crate::tests::sites::{addr, at};
 use crate::tests::worked::{FLUSHES, WORKED};
@@ -330,7 +330,7 @@ fn check_line(
 
 /// All messages come in so, and it is counted how often they are refused for each reason.
 fn count_all(rt: &impl Abort, alloc: Global, way: Way, messages: &str, counts: &mut Vec<Count>) {
-    let before = events_of(rt, alloc, BEFORE);
+    let before = events_of(rt, alloc, &rows_of(rt, alloc, BEFORE));
     for line in messages.lines() {
         if !line.starts_with('#') {
             check_line(rt, alloc, way, &before, line, counts);
@@ -574,7 +574,7 @@ fn check_long(rt: &impl Abort, alloc: Global, twins: &mut Twins) {
 #[test]
 fn what_is_too_long_changes_nothing(rt: HostRuntime) {
     let alloc = rt.alloc();
-    let before = events_of(&rt, alloc, BEFORE);
+    let before = events_of(&rt, alloc, &rows_of(&rt, alloc, BEFORE));
     let held = octets(&rt, alloc, "held");
     let trial = Trial {
         alloc,

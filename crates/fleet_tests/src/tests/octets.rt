@@ -2,11 +2,11 @@
 
 use crate::tests::messages::MESSAGES;
 use fleet_name::Octets;
-use std::alloc::Global;
+use std::alloc::Allocator;
 use std::process::Abort;
 
 /// Adds the digits of a part of octets.
-fn add_part(rt: &impl Abort, text: &mut String, part: &str) {
+fn add_part<A: Allocator>(rt: &impl Abort, text: &mut String<A>, part: &str) {
     let part = match part {
         "example.com" => "076578616d706c6503636f6d00",
         "example.org" => "076578616d706c65036f726700",
@@ -19,7 +19,7 @@ fn add_part(rt: &impl Abort, text: &mut String, part: &str) {
 }
 
 /// Adds the digits of all parts of octets.
-fn add_parts(rt: &impl Abort, text: &mut String, parts: &str) {
+fn add_parts<A: Allocator>(rt: &impl Abort, text: &mut String<A>, parts: &str) {
     for part in parts.split_whitespace() {
         add_part(rt, text, part);
     }
@@ -38,7 +38,7 @@ pub fn parts_of(name: &str) -> Option<&'static str> {
 }
 
 /// Adds a word: the digits of the octets that it names, or of itself as a part.
-fn add_word(rt: &impl Abort, text: &mut String, word: &str) {
+fn add_word<A: Allocator>(rt: &impl Abort, text: &mut String<A>, word: &str) {
     match parts_of(word) {
         Some(parts) => add_parts(rt, text, parts),
         None => add_part(rt, text, word),
@@ -46,7 +46,7 @@ fn add_word(rt: &impl Abort, text: &mut String, word: &str) {
 }
 
 /// A text with a space before each word, and with digits in place of the names of octets.
-pub fn spelt_out(rt: &impl Abort, alloc: Global, words: &str) -> String {
+pub fn spelt_out<A: Allocator>(rt: &impl Abort, alloc: A, words: &str) -> String<A> {
     let mut text = String::new(alloc);
     for word in words.split_whitespace() {
         text.push(' ').expect(rt, "memory");
@@ -56,7 +56,7 @@ pub fn spelt_out(rt: &impl Abort, alloc: Global, words: &str) -> String {
 }
 
 /// The octets of a name, or of parts.
-pub fn octets(rt: &impl Abort, alloc: Global, words: &str) -> Octets {
+pub fn octets<A: Allocator + Copy>(rt: &impl Abort, alloc: A, words: &str) -> Octets<A> {
     let mut digits = String::new(alloc);
     for word in words.split_whitespace() {
         add_word(rt, &mut digits, word);
@@ -65,14 +65,13 @@ pub fn octets(rt: &impl Abort, alloc: Global, words: &str) -> Octets {
 }
 
 /// Adds the digits of octets.
-pub fn add_octets(rt: &impl Abort, text: &mut String, octets: &[u8]) {
-    for octet in octets {
-        write!(text, "{octet:02x}").expect(rt, "memory");
-    }
+pub fn add_octets<A: Allocator + Copy>(rt: &impl Abort, text: &mut String<A>, octets: &[u8]) {
+    let digits = hex::encode(*text.allocator(), octets).expect(rt, "memory");
+    text.push_str(digits.as_str()).expect(rt, "memory");
 }
 
 /// Adds octets as a word of digits behind a space.
-pub fn show_octets(rt: &impl Abort, output: &mut String, octets: &[u8]) {
+pub fn show_octets<A: Allocator + Copy>(rt: &impl Abort, output: &mut String<A>, octets: &[u8]) {
     output.push(' ').expect(rt, "memory");
     add_octets(rt, output, octets)
 }

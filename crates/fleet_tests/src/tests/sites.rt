@@ -6,7 +6,7 @@ use fleet_observe::Moment;
 use fleet_pending::Addr;
 use fleet_site::{Config, Handled, Looked, Outcome, Packet, Site};
 use fleet_wire::bounds::LONGEST_MESSAGE;
-use std::alloc::Global;
+use std::alloc::{Allocator, Global};
 use std::process::Abort;
 
 /// 127.0.0.1, where all are.
@@ -18,7 +18,7 @@ pub fn addr(port: u16) -> Addr {
 }
 
 /// The configuration of a site with two upstreams and these peers.
-pub fn config(rt: &impl Abort, alloc: Global, peers: &[Addr]) -> Config {
+pub fn config<A: Allocator + Copy>(rt: &impl Abort, alloc: A, peers: &[Addr]) -> Config<A> {
     let upstreams = Vec::from_slice(alloc, &[addr(5301), addr(5302)]).expect(rt, "memory");
     let peers = Vec::from_slice(alloc, peers).expect(rt, "memory");
     Config::new(upstreams, peers).expect(rt, "a configuration")
@@ -92,7 +92,11 @@ fn show_outcome(rt: &impl Abort, output: &mut String, outcome: &Outcome) {
 }
 
 /// Adds what is answered.
-pub fn show_looked(rt: &impl Abort, output: &mut String, looked: &Looked) {
+pub fn show_looked<A: Allocator + Copy>(
+    rt: &impl Abort,
+    output: &mut String<A>,
+    looked: &Looked<A>,
+) {
     match looked {
         Looked::Reply(octets) => {
             output.push_str(" answer").expect(rt, "memory");
@@ -173,7 +177,7 @@ fn show_ask(rt: &impl Abort, output: &mut String, site: &mut Site, now: Moment, 
 }
 
 /// The name of labels with dots between them.
-pub fn name_of(rt: &impl Abort, alloc: Global, labels: &str) -> Name {
+pub fn name_of<A: Allocator>(rt: &impl Abort, alloc: A, labels: &str) -> Name<A> {
     let mut name = Name::root(alloc).expect(rt, "memory");
     for label in labels.split('.') {
         name.push(label.as_bytes()).expect(rt, "a label");

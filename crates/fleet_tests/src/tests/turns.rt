@@ -15,7 +15,7 @@ use std::process::Abort;
 
 /// Gives one word, again and again.
 #[derive(Drop)]
-struct OneWord(u32);
+pub struct OneWord(pub u32);
 
 impl NextWord<u32> for OneWord {
     ghost step = { λ s. (s.0, s) };

@@ -1,6 +1,6 @@
 //! What a site holds where one allocation was refused.
 
-use crate::tests::messages::ALIASES_REPLY;
+use crate::tests::octets::octets;
 use crate::tests::refused::MANY;
 use crate::tests::refusing::Refusing;
 use fleet_observe::Moment;
@@ -24,8 +24,8 @@ pub fn site<A: Allocator + Copy>(rt: &impl Abort, alloc: A, ample: A) -> Site<A>
 
 /// The site learns the reply with two aliases and a denial: how many observations it took, and
 /// whether that was all.
-fn learn<A: Allocator + Copy>(site: &mut Site<A>, now: Moment) -> (usize, bool) {
-    match site.learn(now, ALIASES_REPLY) {
+fn learn<A: Allocator + Copy>(site: &mut Site<A>, now: Moment, reply: &[u8]) -> (usize, bool) {
+    match site.learn(now, reply) {
         Ok(outcome) => (outcome.taken, true),
         Err(SiteFault::OutOfMemory { taken }) => (taken, false),
     }
@@ -37,9 +37,10 @@ fn check_learning<A: Allocator + Copy>(
     rt: &impl Abort,
     refusing: &Refusing<Global>,
     site: &mut Site<A>,
+    reply: &[u8],
 ) -> bool {
     let now = Moment::new(100).expect(rt, "a moment");
-    let (taken, is_all) = learn(site, now);
+    let (taken, is_all) = learn(site, now, reply);
     assert_eq!(rt; is_all, !refusing.has_refused());
     assert_eq!(rt; site.clock(), now);
     assert_eq!(rt; site.cache().len(), taken);
@@ -47,23 +48,24 @@ fn check_learning<A: Allocator + Copy>(
         assert_eq!(rt; taken, 3);
         return false;
     }
-    assert_eq!(rt; learn(site, now), (3, true));
+    assert_eq!(rt; learn(site, now, reply), (3, true));
     assert_eq!(rt; site.cache().len(), 3);
     true
 }
 
 /// A site learns the reply with a call refused; says whether that call was made.
-fn learn_refused(rt: &impl Abort, alloc: Global, call: u64) -> bool {
+fn learn_refused(rt: &impl Abort, alloc: Global, reply: &[u8], call: u64) -> bool {
     let ample = Refusing::after(alloc, 0);
     let refusing = Refusing::after(alloc, call);
     let mut site = site(rt, &refusing, &ample);
-    check_learning(rt, &refusing, &mut site)
+    check_learning(rt, &refusing, &mut site, reply)
 }
 
 #[test]
 fn a_site_holds_as_many_as_it_says(rt: HostRuntime) {
+    let reply = octets(&rt, rt.alloc(), "aliases-reply");
     for call in 1..MANY {
-        if !learn_refused(&rt, rt.alloc(), call) {
+        if !learn_refused(&rt, rt.alloc(), reply.as_slice(), call) {
             return;
         }
     }

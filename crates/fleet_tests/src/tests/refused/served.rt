@@ -1,61 +1,23 @@
 //! A server with one allocation refused.
 
-ghost use Rattle.rand_core.specs.Steps.{stream_of, steps_u32};
-
-use crate::tests::messages::{FAILURE, QUERY, QUESTION};
+use crate::tests::octets::octets;
 use crate::tests::refused::MANY;
 use crate::tests::refusing::Refusing;
-use fleet_name::Octets;
+use crate::tests::sites::{addr, config};
+use crate::tests::turns::OneWord;
 use fleet_observe::Moment;
 use fleet_pending::Addr;
-use fleet_site::{Config, ListClock, MemoryPort, Note, Outcome, Port, Report, Site, serve};
-use rand_core::utils::NextWord;
-use rand_core::{Rng, utils};
+use fleet_site::{ListClock, MemoryPort, Note, Outcome, Port, Report, Site, serve};
 use std::alloc::{Allocator, Global};
 use std::process::Abort;
 
-/// Gives one word, again and again.
-#[derive(Drop)]
-struct OneWord(u32);
-
-impl NextWord<u32> for OneWord {
-    ghost step = { λ s. (s.0, s) };
-
-    fn next_word(&mut self) -> u32 {
-        self.0
-    }
-}
-
-impl Rng for OneWord {
-    ghost stream = { stream_of (steps_u32 (λ s. (s.0, s))) };
-
-    fn next_u32(&mut self) -> u32 {
-        self.next_word()
-    }
-
-    fn next_u64(&mut self) -> u64 {
-        utils::next_u64_via_u32(self)
-    }
-
-    fn fill_bytes(&mut self, dst: &mut [u8]) {
-        utils::fill_bytes_via_u32(self, dst)
-    }
-}
-
-/// What is sent, in order: the port that it goes to, and the octets.
-fn sent_at(place: usize) -> Option<(u16, &'static [u8])> {
+/// What is sent, in order: the port that it goes to, and the octets by name.
+fn sent_at(place: usize) -> Option<(u16, &'static str)> {
     match place {
-        0 => Some((5301, QUERY)),
-        1 => Some((5302, QUERY)),
-        2 => Some((6001, FAILURE)),
+        0 => Some((5301, "query")),
+        1 => Some((5302, "query")),
+        2 => Some((6001, "failure")),
         _ => None,
-    }
-}
-
-fn addr(port: u16) -> Addr {
-    Addr {
-        host: 0x7f00_0001,
-        port,
     }
 }
 
@@ -63,23 +25,14 @@ fn addr(port: u16) -> Addr {
 fn port<A: Allocator + Copy>(rt: &impl Abort, alloc: A, ample: A) -> MemoryPort<A> {
     let mut arrivals = Vec::new(ample);
     arrivals
-        .push(Some((
-            addr(6001),
-            Octets::copy_of(ample, QUESTION).expect(rt, "memory"),
-        )))
+        .push(Some((addr(6001), octets(rt, ample, "question"))))
         .expect(rt, "memory");
     MemoryPort::new(alloc, arrivals, None)
 }
 
 /// A site with two upstreams.
 fn site<A: Allocator + Copy>(rt: &impl Abort, alloc: A, ample: A) -> Site<A> {
-    let mut upstreams = Vec::new(ample);
-    upstreams.push(addr(5301)).expect(rt, "memory");
-    upstreams.push(addr(5302)).expect(rt, "memory");
-    Site::new(
-        alloc,
-        Config::new(upstreams, Vec::new(ample)).expect(rt, "a config"),
-    )
+    Site::new(alloc, config(rt, ample, &[]))
 }
 
 /// A clock that gives the moments of three turns.
@@ -119,19 +72,25 @@ fn short_reports() -> [Report; 5] {
 }
 
 /// Whether octets went to an address as the packet at a place.
-fn is_sent(place: usize, to: Addr, octets: &[u8]) -> bool {
+fn is_sent<A: Allocator + Copy>(
+    rt: &impl Abort,
+    ample: A,
+    place: usize,
+    to: Addr,
+    bytes: &[u8],
+) -> bool {
     match sent_at(place) {
-        Some((port, wanted)) => to == addr(port) && octets == wanted,
+        Some((port, name)) => to == addr(port) && bytes == octets(rt, ample, name).as_slice(),
         None => false,
     }
 }
 
 /// How many packets were sent, if these are the first ones.
-fn count_sent<A: Allocator + Copy>(notes: &[Note<A>]) -> Option<usize> {
+fn count_sent<A: Allocator + Copy>(rt: &impl Abort, ample: A, notes: &[Note<A>]) -> Option<usize> {
     let mut sent = 0usize;
     for note in notes {
-        if let Note::Sent(to, octets) = note {
-            if !is_sent(sent, *to, octets.as_slice()) {
+        if let Note::Sent(to, bytes) = note {
+            if !is_sent(rt, ample, sent, *to, bytes.as_slice()) {
                 return None;
             }
             sent = sent.saturating_add(1);
@@ -141,28 +100,46 @@ fn count_sent<A: Allocator + Copy>(notes: &[Note<A>]) -> Option<usize> {
 }
 
 /// Whether a port sent these first ones, if it still has its record.
-fn has_sent<A: Allocator + Copy>(port: &MemoryPort<A>, count: u64) -> bool {
+fn has_sent<A: Allocator + Copy>(
+    rt: &impl Abort,
+    ample: A,
+    port: &MemoryPort<A>,
+    count: u64,
+) -> bool {
     match port.notes() {
-        Some(notes) => count_sent(notes) == Some(count as usize),
+        Some(notes) => count_sent(rt, ample, notes) == Some(count as usize),
         None => true,
     }
 }
 
-/// Whether one packet goes out, this one.
-fn is_sending<A: Allocator + Copy>(outcome: &Outcome<A>, port: u16, octets: &[u8]) -> bool {
+/// Whether one packet goes out: to this port, with the octets of this name.
+fn is_sending<A: Allocator + Copy>(
+    rt: &impl Abort,
+    ample: A,
+    outcome: &Outcome<A>,
+    port: u16,
+    name: &str,
+) -> bool {
+    let wanted = octets(rt, ample, name);
     match outcome.packets.as_slice() {
-        [packet] => packet.to == addr(port) && packet.bytes.as_slice() == octets,
+        [packet] => packet.to == addr(port) && packet.bytes.as_slice() == wanted.as_slice(),
         _ => false,
     }
 }
 
 /// Checks a tick after the turns: where a query went out and its failure did not, that failure is
 /// due at 106.
-fn check_tick<A: Allocator + Copy>(rt: &impl Abort, site: &mut Site<A>, late: Moment, sent: u64) {
+fn check_tick<A: Allocator + Copy>(
+    rt: &impl Abort,
+    ample: A,
+    site: &mut Site<A>,
+    late: Moment,
+    sent: u64,
+) {
     let outcome = site.tick(late).expect(rt, "memory");
     assert!(rt; !outcome.more);
     if sent == 2 {
-        assert!(rt; is_sending(&outcome, 6001, FAILURE));
+        assert!(rt; is_sending(rt, ample, &outcome, 6001, "failure"));
     } else {
         assert!(rt; outcome.packets.as_slice().is_empty());
     }
@@ -170,13 +147,14 @@ fn check_tick<A: Allocator + Copy>(rt: &impl Abort, site: &mut Site<A>, late: Mo
 
 /// Checks the table of a site after its turns: it has one failure that is due, or none, and then
 /// the question is as new.
-fn check_table<A: Allocator + Copy>(rt: &impl Abort, site: &mut Site<A>, sent: u64) {
+fn check_table<A: Allocator + Copy>(rt: &impl Abort, ample: A, site: &mut Site<A>, sent: u64) {
     let late = Moment::new(106).expect(rt, "a moment");
-    check_tick(rt, site, late, sent);
+    check_tick(rt, ample, site, late, sent);
+    let question = octets(rt, ample, "question");
     let outcome = site
-        .datagram(late, addr(6001), QUESTION, 0x1234)
+        .datagram(late, addr(6001), question.as_slice(), 0x1234)
         .expect(rt, "memory");
-    assert!(rt; is_sending(&outcome, 5301, QUERY));
+    assert!(rt; is_sending(rt, ample, &outcome, 5301, "query"));
 }
 
 /// How many calls of a port failed.
@@ -192,11 +170,16 @@ fn check_report(rt: &impl Abort, report: &Report) {
 }
 
 /// Checks what a port counted and noted.
-fn check_port<A: Allocator + Copy>(rt: &impl Abort, port: &MemoryPort<A>, report: &Report) {
+fn check_port<A: Allocator + Copy>(
+    rt: &impl Abort,
+    ample: A,
+    port: &MemoryPort<A>,
+    report: &Report,
+) {
     let failed = failed_in(report);
     assert_eq!(rt; port.failures(), failed);
     assert_eq!(rt; port.notes().is_none(), failed > 0);
-    assert!(rt; has_sent(port, report.sent));
+    assert!(rt; has_sent(rt, ample, port, report.sent));
 }
 
 /// Checks what a site holds, and its clock.
@@ -227,10 +210,10 @@ fn serve_site<A: Allocator + Copy>(
 ) -> Report {
     let report = serve_turns(rt, ample, port, site);
     check_report(rt, &report);
-    check_port(rt, port, &report);
+    check_port(rt, ample, port, &report);
     check_site(rt, site);
     if report.short > 0 {
-        check_table(rt, site, report.sent);
+        check_table(rt, ample, site, report.sent);
     }
     report
 }

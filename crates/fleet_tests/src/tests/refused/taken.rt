@@ -1,7 +1,7 @@
 //! What a cache holds of a frame where one allocation was refused: what it held before, where the
 //! observations were still being made; else the first of them.
 
-use crate::tests::messages::ALIASES_REPLY;
+use crate::tests::octets::octets;
 use crate::tests::refused::MANY;
 use crate::tests::refused::sites::site;
 use crate::tests::refusing::Refusing;
@@ -18,7 +18,8 @@ const COUNT: usize = 3;
 fn frame_of_aliases(rt: &impl Abort, alloc: Global) -> Vec<u8> {
     let mut site = site(rt, alloc, alloc);
     let now = Moment::new(100).expect(rt, "a moment");
-    site.learn(now, ALIASES_REPLY).expect(rt, "memory");
+    let reply = octets(rt, alloc, "aliases-reply");
+    site.learn(now, reply.as_slice()).expect(rt, "memory");
     let frames = site.sweep().expect(rt, "memory");
     let mut frame = Vec::new(alloc);
     let octets = frames.first().expect(rt, "a frame").as_slice();

@@ -2,12 +2,10 @@
 
 ghost use Rattle.std.specs.Prelude.{◌<◌};
 
-use crate::command::{Command, read_command};
-use crate::fleet::Fleet;
-use crate::print::print_looked;
-use crate::tests::examples::example_of;
-use crate::tests::refused::lines::{Line, begin, lines_of, run_line};
+use crate::tests::fleets::{asked_of, check_output, check_row, fleet, line_of};
+use crate::tests::refused::examples::{DENIAL, LENT, REFUSED, example_of};
 use crate::tests::refusing::Refusing;
+use crate::tests::sites::show_looked;
 use fleet_cache::{Answer, Cache, Chain, Shown};
 use fleet_name::Octets;
 use fleet_observe::{Moment, Rows, add_rows, add_soa};
@@ -16,22 +14,6 @@ use fleet_wire::{Header, Outline, Question, read_query, write_reply};
 use fleet_world::World;
 use std::alloc::{Allocator, Global};
 use std::process::Abort;
-
-/// How many questions an example has, and what it shows.
-const LENT: &str = "\
-3 of two observations the higher rank answers while it lasts
-3 the same in the other order
-3 of the same rank the later answers, and the one that lasts longer after it
-2 what is learnt is answered until its end
-4 a name error behind two aliases denies the last target, for each type but the alias itself
-3 a name error denies the names below it until data there is learnt later
-1 eight aliases are followed
-1 a ninth is a miss
-1 so are aliases of one another
-1 a denial holds for three hours at most, and is shown with the SOA of an ancestor
-1 no data behind an alias is shown with the alias and the SOA
-2 an alias whose target is not known is a miss, and answers where it is asked for
-";
 
 /// The records of a part.
 fn rows_of<'a, A: Allocator>(part: &Shown<'a, A>) -> Rows<'a, A> {
@@ -107,8 +89,8 @@ fn look_at<A: Allocator + Copy>(
     Looked::Reply(Octets::new(reply))
 }
 
-/// The reply to a question, looked up while every allocation is refused, as it is printed.
-fn print_answer<A: Allocator + Copy>(
+/// The reply to a question, looked up while every allocation is refused, as it is shown.
+fn show_answer<A: Allocator + Copy>(
     rt: &impl Abort,
     alloc: A,
     refusing: &Refusing<Global>,
@@ -121,80 +103,71 @@ fn print_answer<A: Allocator + Copy>(
     let answer = cache.answer(&question, now);
     refusing.refuse_all(false);
     let looked = look_at(rt, alloc, header, &question, &answer);
-    let mut printed = String::new(alloc);
-    print_looked(&mut printed, &looked).expect(rt, "memory");
-    printed
+    let mut output = String::new(alloc);
+    show_looked(rt, &mut output, &looked);
+    output
 }
 
-/// Does a line, and says whether it is a question.
-fn run_lent<A: Allocator + Copy>(
+/// Asks the cache of a site what a row asks of the site, and compares what it gives.
+fn check_lent<A: Allocator + Copy>(
+    rt: &impl Abort,
+    alloc: A,
+    refusing: &Refusing<Global>,
+    world: &World<A>,
+    words: &str,
+    row: &str,
+) {
+    let (site, now, octets) = asked_of(rt, alloc, words);
+    let cache = world.site(site).expect(rt, "a site").cache();
+    let output = show_answer(rt, alloc, refusing, cache, now, octets.as_slice());
+    check_output(rt, alloc, output.as_str(), row)
+}
+
+/// Does what rows say, and says how many are questions.
+fn count_lent<A: Allocator + Copy>(
     rt: &impl Abort,
     alloc: A,
     refusing: &Refusing<Global>,
     world: &mut World<A>,
-    line: &Line<'_>,
-) -> bool {
-    let Command::Ask {
-        site,
-        now,
-        question,
-    } = read_command(line.text).expect(rt, "a command")
-    else {
-        run_line(rt, world, alloc, line.text);
-        return false;
-    };
-    let octets = question.octets(alloc).expect(rt, "memory");
-    let cache = world.site(site).expect(rt, "a site").cache();
-    let printed = print_answer(rt, alloc, refusing, cache, now, octets.as_slice());
-    assert_eq!(rt; printed.as_str(), line.prints);
-    true
-}
-
-/// Does the lines of an example on a new fleet, and says how many are questions.
-fn count_on<A: Allocator + Copy>(
-    rt: &impl Abort,
-    alloc: A,
-    refusing: &Refusing<Global>,
-    fleet: &mut Fleet<A>,
-    lines: &[Line<'_>],
-) -> u64 {
-    begin(fleet, lines.first().expect(rt, "a line").text).expect(rt, "sites");
-    let mut count = 0u64;
-    for line in lines {
-        let world = fleet.world().expect(rt, "memory");
-        if run_lent(rt, alloc, refusing, world, line) {
-            count = count.saturating_add(1);
+    rows: &str,
+) -> usize {
+    let mut count = 0usize;
+    for row in rows.lines() {
+        match row.strip_prefix("ask ") {
+            Some(words) => {
+                check_lent(rt, alloc, refusing, world, line_of(rt, words), row);
+                count = count.saturating_add(1);
+            }
+            None => check_row(rt, alloc, world, row),
         }
     }
     count
 }
 
-/// Does the lines of an example, and says how many are questions.
-fn count_lent<A: Allocator + Copy>(
+/// Does the rows of an example in a new world, which says how many are questions.
+fn check_example<A: Allocator + Copy>(
     rt: &impl Abort,
     alloc: A,
     refusing: &Refusing<Global>,
-    lines: &[Line<'_>],
-) -> u64 {
-    let mut fleet = Fleet::new(alloc);
-    count_on(rt, alloc, refusing, &mut fleet, lines)
+    text: &str,
+) {
+    let example = example_of(rt, text);
+    let mut world = fleet(rt, alloc, example.sites, &[]);
+    let count = count_lent(rt, alloc, refusing, &mut world, example.rows);
+    assert_eq!(rt; count, example.questions, "{text}");
 }
 
-/// Does the lines of the example that shows this.
-fn run_example(rt: &impl Abort, alloc: Global, shows: &str) -> u64 {
-    let transcript = example_of(rt, alloc, shows).spelled(rt, alloc);
-    let lines = lines_of(rt, alloc, transcript.as_str());
+/// Does the rows of examples so.
+fn check_examples(rt: &impl Abort, alloc: Global, texts: &str) {
     let refusing = Refusing::after(alloc, 0);
-    count_lent(rt, &refusing, &refusing, &lines)
+    for text in texts.split("\n\n") {
+        check_example(rt, &refusing, &refusing, text);
+    }
 }
 
 #[test]
 fn answers_are_lent_where_no_memory_is_left(rt: HostRuntime) {
-    for row in LENT.lines() {
-        let (count, shows) = row.split_once(' ').expect(&rt, "a count");
-        assert_eq!(rt;
-            run_example(&rt, rt.alloc(), shows),
-            count.parse::<u64>().expect(&rt, "a number")
-        );
-    }
+    check_examples(&rt, rt.alloc(), REFUSED);
+    check_examples(&rt, rt.alloc(), DENIAL);
+    check_examples(&rt, rt.alloc(), LENT);
 }

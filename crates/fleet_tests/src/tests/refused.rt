@@ -1,0 +1,270 @@
+//! One allocation refused, each in turn. A step runs out of memory where an allocation was refused,
+//! and nowhere else; the sites then hold the first observations of the step, and all else is as
+//! before; and the step done again is as if nothing had been.
+
+mod examples;
+mod lent;
+mod parts;
+mod runs;
+mod served;
+mod sites;
+mod taken;
+mod worlds;
+
+use crate::tests::fleets::{Ended, check_output, check_row, configs, line_of, rows_of, show_line};
+use crate::tests::refusing::Refusing;
+use examples::{DENIAL, OTHERS, REFUSED, example_of};
+use fleet_world::World;
+use parts::do_part;
+use std::alloc::{Allocator, Global};
+use std::process::Abort;
+use worlds::{check_same, has_same_sites, keeps_same_frames, without_frames, world_after};
+
+/// More allocations than any of the examples makes.
+const MANY: u64 = 65536;
+
+/// How often an allocation was refused at a row that then ran out of memory: after no observation,
+/// after some, and when all was done but the keeping of frames.
+#[derive(Clone, Copy, Debug)]
+struct Met {
+    short: u64,
+    partly: u64,
+    lost: u64,
+}
+
+impl Met {
+    /// Nothing was refused yet.
+    fn new() -> Met {
+        Met {
+            short: 0,
+            partly: 0,
+            lost: 0,
+        }
+    }
+
+    /// Counts a row that was stopped after this number of observations.
+    fn count(&mut self, taken: usize) {
+        if taken == 0 {
+            self.short = self.short.saturating_add(1);
+        } else {
+            self.partly = self.partly.saturating_add(1);
+        }
+    }
+
+    /// Counts a row whose frames were not kept.
+    fn count_lost(&mut self) {
+        self.lost = self.lost.saturating_add(1);
+    }
+}
+
+/// An example, and the allocators with which it is run.
+#[derive(Clone, Copy)]
+struct Trial<'a, A: Allocator + Copy> {
+    /// Refuses nothing.
+    ample: A,
+    /// Refuses a call.
+    alloc: A,
+    /// The same allocator, which says whether it has refused.
+    refusing: &'a Refusing<Global>,
+    /// How many sites there are.
+    sites: usize,
+    /// What is done.
+    rows: &'a [&'a str],
+}
+
+/// Makes the sites of an example, a second time where a call was refused.
+fn begin_refused<A: Allocator + Copy>(rt: &impl Abort, trial: &Trial<'_, A>) -> World<A> {
+    let configs_of_sites = configs(rt, trial.ample, trial.sites, &[]);
+    let begun = World::new(trial.alloc, configs_of_sites);
+    assert_eq!(rt; begun.is_err(), trial.refusing.has_refused());
+    match begun {
+        Ok(world) => world,
+        Err(_) => world_after(rt, trial.alloc, trial.sites, &[]),
+    }
+}
+
+/// A world that did rows with ample memory, and the first observations of the row behind them, a
+/// number of them.
+#[derive(Drop)]
+struct Part<A: Allocator> {
+    taken: usize,
+    world: World<A>,
+}
+
+/// What a world is like where the last of these rows ran out of memory after these observations.
+fn part_after<A: Allocator + Copy>(
+    rt: &impl Abort,
+    trial: &Trial<'_, A>,
+    rows: &[&str],
+    taken: usize,
+) -> Part<A> {
+    let (row, others) = rows.split_last().expect(rt, "a row");
+    let mut world = world_after(rt, trial.ample, trial.sites, others);
+    do_part(rt, trial.ample, &mut world, row, taken);
+    Part { taken, world }
+}
+
+/// Checks a world after the last of these rows, which ran out of memory after these observations.
+/// The world that it is compared with is kept for the next such row.
+fn check_part<A: Allocator + Copy>(
+    rt: &impl Abort,
+    trial: &Trial<'_, A>,
+    world: &World<A>,
+    rows: &[&str],
+    taken: usize,
+    known: &mut Option<Part<A>>,
+) {
+    let is_known = known.as_ref().is_some_and(|part| part.taken == taken);
+    if !is_known {
+        *known = Some(part_after(rt, trial, rows, taken));
+    }
+    let part = known.as_ref().expect(rt, "a part");
+    check_same(rt, world, &part.world, rows.last().expect(rt, "a row"))
+}
+
+/// Checks a world after a row that was done, and whose frames were not kept: it gives this output,
+/// and `before` is a world that did the rows before it.
+fn check_lost<A: Allocator + Copy>(
+    rt: &impl Abort,
+    alloc: A,
+    world: &World<A>,
+    before: &mut World<A>,
+    row: &str,
+    output: &str,
+) {
+    let wanted = without_frames(rt, alloc, row);
+    check_output(rt, alloc, output, wanted.as_str());
+    assert!(rt; keeps_same_frames(world, before), "{row}");
+    check_row(rt, alloc, before, row);
+    assert!(rt; has_same_sites(world, before), "{row}");
+}
+
+/// Checks what became of the last of these rows on a world that did the others, and leaves the
+/// world as if no call had been refused.
+fn check_last<A: Allocator + Copy>(
+    rt: &impl Abort,
+    trial: &Trial<'_, A>,
+    world: &mut World<A>,
+    rows: &[&str],
+    output: &str,
+    ended: Ended,
+    known: &mut Option<Part<A>>,
+    met: &mut Met,
+) {
+    let (row, others) = rows.split_last().expect(rt, "a row");
+    match ended {
+        Ended::Done => check_output(rt, trial.ample, output, row),
+        Ended::Short(taken) => {
+            met.count(taken);
+            check_part(rt, trial, world, rows, taken, known);
+            check_row(rt, trial.ample, world, row)
+        }
+        Ended::Lost => {
+            met.count_lost();
+            let mut before = world_after(rt, trial.ample, trial.sites, others);
+            check_lost(rt, trial.ample, world, &mut before, row, output);
+            *world = world_after(rt, trial.alloc, trial.sites, rows);
+        }
+    }
+}
+
+/// Does the last of these rows with the call of this number refused, where it makes as many, and
+/// says whether it does.
+fn run_last<A: Allocator + Copy>(
+    rt: &impl Abort,
+    trial: &Trial<'_, A>,
+    world: &mut World<A>,
+    rows: &[&str],
+    call: u64,
+    known: &mut Option<Part<A>>,
+    met: &mut Met,
+) -> bool {
+    let line = line_of(rt, rows.last().expect(rt, "a row"));
+    let mut output = String::new(trial.ample);
+    trial.refusing.refuse(call);
+    let ended = show_line(rt, &mut output, world, line);
+    let has_refused = trial.refusing.has_refused();
+    assert_eq!(rt; ended == Ended::Done, !has_refused, "{line}");
+    check_last(rt, trial, world, rows, output.as_str(), ended, known, met);
+    has_refused
+}
+
+/// Does the rows of an example with the call of this number refused at each, where it makes as
+/// many, and says whether there was one. For each row, what it is compared with is in `parts`.
+fn run_rows<A: Allocator + Copy>(
+    rt: &impl Abort,
+    trial: &Trial<'_, A>,
+    call: u64,
+    parts: &mut [Option<Part<A>>],
+    met: &mut Met,
+) -> bool {
+    trial.refusing.refuse(call);
+    let mut world = begin_refused(rt, trial);
+    let mut has_refused = trial.refusing.has_refused();
+    for place in 0..trial.rows.len() {
+        let rows = &trial.rows[..=place];
+        let known = parts.get_mut(place).expect(rt, "a row");
+        let refused = run_last(rt, trial, &mut world, rows, call, known, met);
+        has_refused = has_refused || refused;
+    }
+    has_refused
+}
+
+/// Does the rows of an example with the first call refused at each, then with the second at each,
+/// and so on, until none is refused.
+fn refuse_rows<A: Allocator + Copy>(rt: &impl Abort, trial: &Trial<'_, A>, met: &mut Met) {
+    let mut parts = Vec::new(trial.ample);
+    for _ in trial.rows {
+        parts.push(None).expect(rt, "memory");
+    }
+    for call in 1..MANY {
+        if !run_rows(rt, trial, call, &mut parts, met) {
+            return;
+        }
+    }
+    panic!(rt; "refused each time");
+}
+
+/// Does rows with each call of each refused in turn.
+fn refuse_each(rt: &impl Abort, alloc: Global, sites: usize, rows: &str, met: &mut Met) {
+    let rows = rows_of(rt, alloc, rows);
+    let ample = Refusing::after(alloc, 0);
+    let refusing = Refusing::after(alloc, MANY);
+    let trial = Trial {
+        ample: &ample,
+        alloc: &refusing,
+        refusing: &refusing,
+        sites,
+        rows: &rows,
+    };
+    refuse_rows(rt, &trial, met)
+}
+
+/// Does the rows of an example so.
+fn refuse_example(rt: &impl Abort, alloc: Global, text: &str, met: &mut Met) {
+    let example = example_of(rt, text);
+    refuse_each(rt, alloc, example.sites, example.rows, met)
+}
+
+/// Does the rows of the denial so, behind each of the rows that bring other observations.
+fn refuse_denials(rt: &impl Abort, alloc: Global, met: &mut Met) {
+    let denial = example_of(rt, DENIAL);
+    for other in OTHERS.lines() {
+        let rows = denial.rows;
+        let text = format!(in alloc; "{other}\n{rows}").expect(rt, "memory");
+        refuse_each(rt, alloc, denial.sites, text.as_str(), met);
+    }
+}
+
+#[test]
+fn a_line_without_memory_is_done_again(rt: HostRuntime) {
+    let mut met = Met::new();
+    for example in REFUSED.split("\n\n") {
+        refuse_example(&rt, rt.alloc(), example, &mut met);
+    }
+    refuse_example(&rt, rt.alloc(), DENIAL, &mut met);
+    refuse_denials(&rt, rt.alloc(), &mut met);
+    assert!(rt; met.short > 0, "{met:?}");
+    assert!(rt; met.partly > 0, "{met:?}");
+    assert!(rt; met.lost > 0, "{met:?}");
+}
