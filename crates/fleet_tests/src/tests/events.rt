@@ -41,157 +41,6 @@ same 0 2 => same
 }
 
 #[test]
-fn what_ended_comes_in_and_is_not_held(rt: HostRuntime) {
-    check_new(
-        &rt,
-        rt.alloc(),
-        2,
-        "\
-frame 0 100 older => taken 1
-sweep 0 => frame 0
-deliver 1 200 0 => taken 1
-same 0 1 => same
-tick 1 500 =>
-same 0 1 => different
-deliver 1 500 0 => taken 1
-site 1 => clock 500 floor 500 items 0
-tick 0 500 =>
-same 0 1 => same
-",
-    )
-}
-
-#[test]
-fn merging_makes_sites_the_same(rt: HostRuntime) {
-    check_new(
-        &rt,
-        rt.alloc(),
-        2,
-        "\
-frame 0 100 older => taken 1
-frame 1 100 newer => taken 1
-tick 1 150 =>
-merge 0 1 => taken 1
-site 0 => clock 150 floor 150 items 2
-merge 1 0 => taken 2
-same 0 1 => same
-merge 0 1 => taken 2
-merge 1 1 =>
-same 0 1 => same
-",
-    )
-}
-
-#[test]
-fn a_reply_is_relayed_and_sent_to_peers(rt: HostRuntime) {
-    check_new(
-        &rt,
-        rt.alloc(),
-        1,
-        "\
-datagram 0 100 6001 4660 question => send 5301 query
-datagram 0 101 5302 0 reply => refused Unmatched
-datagram 0 101 5301 0 reply => send 6001 relay frame 0 taken 1
-kept 0 => frame-101
-",
-    )
-}
-
-#[test]
-fn a_site_begins_again(rt: HostRuntime) {
-    check_new(
-        &rt,
-        rt.alloc(),
-        1,
-        "\
-frame 0 100 older => taken 1
-sweep 0 => frame 0
-site 0 => clock 100 floor 0 items 1
-restart 0 =>
-site 0 => clock 0 floor 0 items 0
-kept 0 => older
-",
-    )
-}
-
-#[test]
-fn a_question_is_tried_at_each_upstream(rt: HostRuntime) {
-    check_new(
-        &rt,
-        rt.alloc(),
-        1,
-        "\
-datagram 0 100 6001 4660 question => send 5301 query
-tick 0 101 =>
-tick 0 102 => send 5302 query
-tick 0 104 => send 6001 failure
-",
-    )
-}
-
-#[test]
-fn a_site_answers_what_it_took_in(rt: HostRuntime) {
-    check_new(
-        &rt,
-        rt.alloc(),
-        2,
-        "\
-learn 1 100 reply => taken 1
-ask 1 110 question => answer relay-290
-ask 0 110 question => miss
-ask 0 110 3f => dropped
-ask 2 110 question => no such site
-site 0 => clock 110 floor 0 items 0
-",
-    )
-}
-
-#[test]
-fn a_flush_withdraws_in_any_order_and_keeps_what_comes_later(rt: HostRuntime) {
-    check_new(
-        &rt,
-        rt.alloc(),
-        2,
-        "\
-frame 0 100 older => taken 1
-flush 0 120 com => frame 0 taken 1
-kept 0 => flush
-ask 0 130 question => miss
-frame 0 150 after => taken 1
-ask 0 200 question => answer after-relay
-frame 1 200 after => taken 1
-deliver 1 200 0 => taken 1
-frame 1 200 older => taken 1
-same 0 1 => same
-sweep 0 => frame 1
-kept 1 => withdrawn
-flush 2 200 com => no such site
-",
-    )
-}
-
-#[test]
-fn a_site_that_hears_late_of_a_flush_drops_then_what_it_voids(rt: HostRuntime) {
-    check_new(
-        &rt,
-        rt.alloc(),
-        2,
-        "\
-flush 0 120 com => frame 0 taken 1
-frame 1 100 first-older => taken 1
-ask 1 110 question => answer relay-290
-deliver 1 130 0 => taken 1
-ask 1 130 question => miss
-site 1 => clock 130 floor 0 items 1
-deliver 1 140 0 => taken 1
-frame 1 140 older => taken 1
-site 1 => clock 140 floor 0 items 1
-same 0 1 => same
-",
-    )
-}
-
-#[test]
 fn a_site_that_is_not_there_is_reported_before_a_frame(rt: HostRuntime) {
     check_new(
         &rt,
@@ -201,8 +50,12 @@ fn a_site_that_is_not_there_is_reported_before_a_frame(rt: HostRuntime) {
 deliver 1 100 0 => no such site
 deliver 0 100 0 => no such frame
 merge 0 1 => no such site
+flush 1 100 com => no such site
+ask 1 110 question => no such site
 site 0 => clock 0 floor 0 items 0
 site 1 => none
+learn 0 100 reply => taken 1
+ask 0 110 question => answer relay-290
 ",
     )
 }

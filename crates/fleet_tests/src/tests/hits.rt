@@ -9,27 +9,22 @@ use std::alloc::{AllocError, Global};
 use std::process::Abort;
 
 /// What is learnt at 100, and then a datagram that is a plain hit: the buffer holds the packet that is
-/// to be sent, and `datagram` gives just this too.
+/// to be sent.
 const HITS: &str = "\
 100 learn reply => taken 1
 110 handle 6001 0 question => into 6001 relay-290 clock 110
-110 datagram 6001 0 question => 6001 relay-290
 
 100 learn reply => taken 1
 110 handle 6002 65535 local => into 6002 local-relay clock 110
-110 datagram 6002 65535 local => 6002 local-relay
 
 100 learn no-data-reply => taken 1
 110 handle 6001 0 no-data => into 6001 no-data-relay clock 110
-110 datagram 6001 0 no-data => 6001 no-data-relay
 
 100 learn no-name-reply => taken 1
 110 handle 6001 0 no-name => into 6001 no-name-relay clock 110
-110 datagram 6001 0 no-name => 6001 no-name-relay
 
 100 learn aliases-reply => taken 3
-110 handle 6001 0 aliases => into 6001 aliases-relay clock 110
-110 datagram 6001 0 aliases => 6001 aliases-relay";
+110 handle 6001 0 aliases => into 6001 aliases-relay clock 110";
 
 #[test]
 fn hits_are_answered_at_once(rt: HostRuntime) {
