@@ -8,7 +8,8 @@ from support.checks import Case
 from support.messages import FRAME_HEADER_LENGTH, NO_ERROR, NS, REFUSED, TXT, code_of, entry, frame
 from support.messages import question, record, reply_to
 from support.sessions import ELSEWHERE, LONGEST_DATAGRAM, TRIES, WIDTH, arrival, ask_until_known
-from support.sessions import ask_upstream, configuration, open_socket, port_of, serving_one, waiting, with_neighbours
+from support.sessions import ask_upstream, configuration, open_socket, port_of, room_for, serving_one, waiting
+from support.sessions import with_neighbours
 from support.streams import go_on, stop
 
 LONGEST_MESSAGE = 512
@@ -58,20 +59,22 @@ class Arriving(Case):
             self.check_counts(site.counts(), lost=0, faults=0, refused=0, short=0)
 
     def test_none_is_lost(self):
-        """of 500 frames in five bursts, each taken in while others wait, none is lost"""
-        now, bursts, count = int(time.time()), 5, 100
+        """of 500 frames in some bursts, each taken in while others wait, none is lost"""
+        now, count = int(time.time()), 500
+        names = [f"{number}.example" for number in range(count)]
+        # A burst leaves room in the socket of the site.
+        most = max(1, room_for(long_frame(names[-1], now)) * 2 // 3)
         with with_neighbours() as (site, _, peer, client):
-            for burst in range(bursts):
+            for first in range(0, count, most):
                 stop(site.child)
-                for number in range(count):
-                    site.bring(peer, long_frame(f"{number}.{burst}.example", now))
-                site.bring(client, question(burst, "example", flags=0))
+                for name in names[first : first + most]:
+                    site.bring(peer, long_frame(name, now))
+                site.bring(client, question(first, "example", flags=0))
                 go_on(site.child)
                 # Behind the reply all of the burst was taken in, and most of it waits.
                 self.check_equal(code_of(client.recv(LONGEST_DATAGRAM)), REFUSED)
-            for burst in range(bursts):
-                for number in range(count):
-                    ask_until_known(site, client, f"{number}.{burst}.example")
+            for name in names:
+                ask_until_known(site, client, name)
             self.check_counts(site.counts(), lost=0, faults=0, refused=0, short=0)
 
     def test_longest(self):

@@ -5,7 +5,7 @@ import os
 
 from support.checks import Case
 from support.program import Ended, failed, run_into_file, run_script, started
-from support.streams import run_from_terminal, run_interrupted, with_time_out
+from support.streams import run_before_a_fault, run_interrupted, with_time_out
 from test_examples import read_examples, text_of
 
 # An example of two lines, each of which prints one.
@@ -26,11 +26,11 @@ class Reads(Case):
 
     def test_behind_lines(self):
         """a read fails behind two lines, which are done"""
-        self.check_equal(run_from_terminal(SCRIPT), failed("line 3: read", OUTPUT))
+        self.check_equal(run_before_a_fault(SCRIPT), failed("line 3: read", OUTPUT))
 
     def test_in_a_line(self):
         """a read fails in a line"""
-        self.check_equal(run_from_terminal(b"# half a line"), failed("line 1: read"))
+        self.check_equal(run_before_a_fault(b"# half a line"), failed("line 1: read"))
 
     def test_time_out(self):
         """a read fails since nothing came in its time"""
@@ -54,8 +54,7 @@ class Writes(Case):
 
     def test_first_line(self):
         """what the first line prints can't be written"""
-        with open("/dev/full", "wb") as full:
-            self.check_equal(run_script(SCRIPT, stdout=full), failed("line 1: write"))
+        self.check_equal(run_into_file(["script"], 0, SCRIPT), failed("line 1: write"))
 
     def test_second_line(self):
         """what the second line prints can't be written; that of the first one remains"""

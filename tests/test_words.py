@@ -4,7 +4,7 @@
 """
 
 from support.checks import Case, add_cases, lines_of
-from support.program import Ended, failed, run
+from support.program import Ended, failed, run, run_into_file
 from support.sessions import KEY
 
 ROWS = 13
@@ -47,8 +47,7 @@ class Pages(Case):
 
     def check_unprinted(self, word):
         """A page that can't be printed is reported."""
-        with open("/dev/full", "wb") as full:
-            self.check_equal(run([word], stdout=full), failed("write"))
+        self.check_equal(run_into_file([word], 0), failed("write"))
 
     def test_unprinted_help(self):
         """help that can't be printed"""

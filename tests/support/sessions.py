@@ -43,6 +43,9 @@ SO_TIMESTAMPNS = 35
 
 LONGEST_DATAGRAM = 65535
 
+# How many datagrams are sent to see how many wait at a socket.
+MOST_WAITING = 500
+
 
 def open_socket(room=None, stamped=False):
     """A socket at a free port, with room for so many octets, and with the times of arrival if
@@ -87,6 +90,14 @@ def waiting(one):
         return came
     finally:
         one.settimeout(PATIENCE)
+
+
+def room_for(octets):
+    """How many datagrams like this one wait at a socket whose room the system chose, as a site's is."""
+    with open_socket() as one:
+        for _ in range(MOST_WAITING):
+            one.sendto(octets, one.getsockname())
+        return len(waiting(one))
 
 
 def configuration(listen, upstreams, peers=(), sweep=None):
@@ -161,10 +172,12 @@ class Site:
     def finish(self):
         """Brings datagrams without octets until it has served its turns."""
         deadline = time.monotonic() + LONGEST_RUN
-        with open_socket() as filler:
+        with open_socket() as filler, contextlib.suppress(ConnectionRefusedError):
+            # A socket with one other end is told when the site has closed the port.
+            filler.connect((HOST, self.port))
             while self.child.poll() is None and time.monotonic() < deadline:
                 for _ in range(50):
-                    filler.sendto(b"", (HOST, self.port))
+                    filler.send(b"")
                 time.sleep(0.001)
         return self.end()
 

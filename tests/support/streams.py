@@ -4,7 +4,6 @@ import os
 import signal
 import socket
 import struct
-import termios
 import time
 from pathlib import Path
 
@@ -80,16 +79,12 @@ def run_interrupted(pieces, check_printed=None):
         return Ended(child.returncode, output, errors)
 
 
-def run_from_terminal(octets):
-    """Runs a script from a terminal that has these octets and whose other end is gone: behind
-    them a read fails."""
-    reader, writer = os.openpty()
-    try:
-        modes = termios.tcgetattr(writer)
-        modes[1] &= ~termios.OPOST
-        termios.tcsetattr(writer, termios.TCSANOW, modes)
-        os.write(writer, octets)
-        os.close(writer)
+def run_before_a_fault(octets):
+    """Runs a script from a stream that has these octets, and fails behind them: its other end was
+    closed with an octet that was not read (ECONNRESET of unix(7))."""
+    reader, writer = socket.socketpair()
+    with reader:
+        reader.sendall(b"x")
+        writer.sendall(octets)
+        writer.close()
         return run_script(b"", stdin=reader)
-    finally:
-        os.close(reader)
