@@ -1,6 +1,6 @@
 -- What a chain of iterators gives, as far as it is called.
-use Rattle.std.proofs.Common.{◌≡◌, ℕ, ◌≤◌, List, [], ◌∷◌, ◌++◌, ap, length, map, take, refl, arith, ap₂, sym, ◌∙◌, subst}
-use Rattle.std.specs.Prelude.{Option, Some, None, Result, Ok, Err, OnErr}
+use Rattle.std.proofs.Common.{◌≡◌, ℕ, ◌≤◌, List, [], ◌∷◌, ◌++◌, ap, length, map, take, refl, ap₂, sym, ◌∙◌, subst}
+use Rattle.std.specs.Prelude.{Option, None, Result, Ok, Err, OnErr}
 use Rattle.std.specs.Iterator.{AlwaysYields, Yields, Drains}
 use Rattle.std.specs.Result.{MatchResult}
 use Rattle.std.proofs.lemmas.List.{take_all, length-take}

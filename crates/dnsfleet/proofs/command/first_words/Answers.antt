@@ -1,4 +1,4 @@
-use Rattle.std.proofs.Common.{rules, lit<, ◌≡◌, ◌==◌, map, take, ℕ, ◌≤◌, length, refl}
+use Rattle.std.proofs.Common.{lit<, ◌==◌}
 use Rattle.std.specs.List.{slice_split}
 use Rattle.std.proofs.lemmas.Iterator.Splits.{YieldsList-from_str_split}
 use Rattle.dnsfleet.proofs.Chains.{all_from_extend, short_take}
