@@ -3,7 +3,8 @@
 //! `messages` has messages and frames by their names, `worked` those of the worked examples, and
 //! `octets` reads both. `sites` and `fleets` read rows, make their calls and compare their output.
 //! Each other file has tests: of the calls of a site, and of its hits; of turns of a server over a
-//! port in memory; of the events of a fleet; of forged replies, and of hostile octets.
+//! port in memory; of the events of a fleet; of forged replies, and of hostile octets. The tests
+//! below `refused` have an allocator that refuses a call (`refusing`).
 
 mod calls;
 mod events;
