@@ -28,8 +28,8 @@ fn add_parts<A: Allocator>(rt: &impl Abort, text: &mut String<A>, parts: &str) {
 /// The parts of the octets that have this name.
 pub fn parts_of(name: &str) -> Option<&'static str> {
     for line in MESSAGES.lines() {
-        if let Some((other, parts)) = line.split_once(':') {
-            if other == name {
+        if let Some(rest) = line.strip_prefix(name) {
+            if let Some(parts) = rest.strip_prefix(":") {
                 return Some(parts);
             }
         }

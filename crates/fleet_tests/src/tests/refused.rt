@@ -57,7 +57,7 @@ impl Met {
     }
 }
 
-/// An example, and the allocators with which it is run.
+/// With which allocators an example is run, and of how many sites.
 #[derive(Clone, Copy)]
 struct Trial<'a, A: Allocator + Copy> {
     /// Refuses nothing.
@@ -68,8 +68,6 @@ struct Trial<'a, A: Allocator + Copy> {
     refusing: &'a Refusing<Global>,
     /// How many sites there are.
     sites: usize,
-    /// What is done.
-    rows: &'a [&'a str],
 }
 
 /// Makes the sites of an example, a second time where a call was refused.
@@ -189,11 +187,12 @@ fn run_last<A: Allocator + Copy>(
     has_refused
 }
 
-/// Does the rows of an example with the call of this number refused at each, where it makes as
-/// many, and says whether there was one. For each row, what it is compared with is in `parts`.
+/// Does rows with the call of this number refused at each, where it makes as many, and says whether
+/// there was one. For each row, what it is compared with is in `parts`.
 fn run_rows<A: Allocator + Copy>(
     rt: &impl Abort,
     trial: &Trial<'_, A>,
+    rows: &[&str],
     call: u64,
     parts: &mut [Option<Part<A>>],
     met: &mut Met,
@@ -201,28 +200,51 @@ fn run_rows<A: Allocator + Copy>(
     trial.refusing.refuse(call);
     let mut world = begin_refused(rt, trial);
     let mut has_refused = trial.refusing.has_refused();
-    for place in 0..trial.rows.len() {
-        let rows = &trial.rows[..=place];
+    for place in 0..rows.len() {
         let known = parts.get_mut(place).expect(rt, "a row");
-        let refused = run_last(rt, trial, &mut world, rows, call, known, met);
+        let refused = run_last(rt, trial, &mut world, &rows[..=place], call, known, met);
         has_refused = has_refused || refused;
     }
     has_refused
 }
 
-/// Does the rows of an example with the first call refused at each, then with the second at each,
-/// and so on, until none is refused.
-fn refuse_rows<A: Allocator + Copy>(rt: &impl Abort, trial: &Trial<'_, A>, met: &mut Met) {
+/// Does rows with the first call refused at each, then with the second at each, and so on, until
+/// none is refused.
+fn refuse_rows<A: Allocator + Copy>(
+    rt: &impl Abort,
+    trial: &Trial<'_, A>,
+    rows: &[&str],
+    met: &mut Met,
+) {
     let mut parts = Vec::new(trial.ample);
-    for _ in trial.rows {
+    for _ in rows {
         parts.push(None).expect(rt, "memory");
     }
     for call in 1..MANY {
-        if !run_rows(rt, trial, call, &mut parts, met) {
+        if !run_rows(rt, trial, rows, call, &mut parts, met) {
             return;
         }
     }
     panic!(rt; "refused each time");
+}
+
+/// Does rows so, with these allocators.
+fn refuse_with<A: Allocator + Copy>(
+    rt: &impl Abort,
+    ample: A,
+    alloc: A,
+    refusing: &Refusing<Global>,
+    sites: usize,
+    rows: &[&str],
+    met: &mut Met,
+) {
+    let trial = Trial {
+        ample,
+        alloc,
+        refusing: &*refusing,
+        sites,
+    };
+    refuse_rows(rt, &trial, rows, met)
 }
 
 /// Does rows with each call of each refused in turn.
@@ -230,14 +252,7 @@ fn refuse_each(rt: &impl Abort, alloc: Global, sites: usize, rows: &str, met: &m
     let rows = rows_of(rt, alloc, rows);
     let ample = Refusing::after(alloc, 0);
     let refusing = Refusing::after(alloc, MANY);
-    let trial = Trial {
-        ample: &ample,
-        alloc: &refusing,
-        refusing: &refusing,
-        sites,
-        rows: &rows,
-    };
-    refuse_rows(rt, &trial, met)
+    refuse_with(rt, &ample, &refusing, &refusing, sites, &rows, met)
 }
 
 /// Does the rows of an example so.
