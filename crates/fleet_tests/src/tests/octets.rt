@@ -66,9 +66,8 @@ pub fn octets(rt: &impl Abort, alloc: Global, words: &str) -> Octets {
 
 /// Adds the digits of octets.
 pub fn add_octets(rt: &impl Abort, text: &mut String, octets: &[u8]) {
-    for octet in octets {
-        write!(text, "{octet:02x}").expect(rt, "memory");
-    }
+    let digits = hex::encode(*text.allocator(), octets).expect(rt, "memory");
+    text.push_str(digits.as_str()).expect(rt, "memory")
 }
 
 /// Adds octets as a word of digits behind a space.
