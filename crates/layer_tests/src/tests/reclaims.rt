@@ -4,7 +4,8 @@
 //! questions alike. So here each observation that was ever taken is looked for in a cache
 //! (`Cache::holds`) and in a map whose purges are spelled out: one front after the other is found
 //! behind the last one, and what is not live is dropped of it. The names are those around the
-//! longest that the cache's first map has, the moments those around the ends of what is held.
+//! longest that the cache's first map has, and two whose keys have the most words. The moments are those
+//! around the ends of what is held.
 
 use crate::tests::observations::{flush_in, moment_of, record_in};
 use crate::tests::rows::Words;
@@ -216,14 +217,16 @@ impl Pair {
     }
 }
 
-/// The name of a number, of 8, 31, 32, 33 or 66 octets.
+/// The name of a number, of 8, 31, 32, 33, 66, 249 or 255 octets.
 fn name_of(rt: &impl Abort, alloc: Global, number: u16) -> String {
-    let name = match number % 5 {
+    let name = match number % 7 {
         0 => format!(in alloc; "{number:04}.a"),
         1 => format!(in alloc; "{number:027}.b"),
         2 => format!(in alloc; "{number:028}.a"),
         3 => format!(in alloc; "{number:029}.b"),
-        _ => format!(in alloc; "{number:060}.b.a"),
+        4 => format!(in alloc; "{number:060}.b.a"),
+        5 => format!(in alloc; "{number:058}.{number:062}.{number:062}.{number:060}.b"),
+        _ => format!(in alloc; "{number:062}.{number:060}.{number:063}.{number:063}.b"),
     };
     name.expect(rt, "memory")
 }
