@@ -4,7 +4,8 @@
 //! questions alike. So here each observation that was ever taken is looked for in a cache
 //! (`Cache::holds`) and in a map whose purges are spelled out: one front after the other is found
 //! behind the last one, and what is not live is dropped of it. The names are those around the
-//! longest that the cache's first map has, the moments those around the ends of what is held.
+//! longest that the cache's first map has, and two whose keys have the most words. The moments are those
+//! around the ends of what is held.
 
 use crate::tests::observations::{flush_in, moment_of, record_in};
 use crate::tests::rows::Words;
@@ -216,18 +217,32 @@ impl Pair {
     }
 }
 
-/// The name of a number of four digits, of 8, 31, 32, 33 or 66 octets.
+/// As many zeros as a label has octets at most.
+const ZEROS: &str = "000000000000000000000000000000000000000000000000000000000000000";
+
+/// Adds labels of these lengths, each a number of four digits behind zeros.
+fn add_labels(rt: &impl Abort, name: &mut String, number: u16, lengths: &[usize]) {
+    for length in lengths {
+        let zeros = ZEROS.get(4..*length).expect(rt, "a length");
+        write!(name, "{zeros}{number}.").expect(rt, "memory");
+    }
+}
+
+/// The name of a number of four digits, of 8, 31, 32, 33, 66, 249 or 255 octets.
 fn name_of(rt: &impl Abort, alloc: Global, number: u16) -> String {
-    let name = match number % 5 {
-        0 => format!(in alloc; "{number}.a"),
-        1 => format!(in alloc; "00000000000000000000000{number}.b"),
-        2 => format!(in alloc; "000000000000000000000000{number}.a"),
-        3 => format!(in alloc; "0000000000000000000000000{number}.b"),
-        _ => format!(in alloc;
-            "00000000000000000000000000000000000000000000000000000000{number}.b.a"
-        ),
+    let (lengths, end): (&[usize], &str) = match number % 7 {
+        0 => (&[4], "a"),
+        1 => (&[27], "b"),
+        2 => (&[28], "a"),
+        3 => (&[29], "b"),
+        4 => (&[60], "b.a"),
+        5 => (&[58, 62, 62, 60], "b"),
+        _ => (&[62, 60, 63, 63], "b"),
     };
-    name.expect(rt, "memory")
+    let mut name = String::new(alloc);
+    add_labels(rt, &mut name, number, lengths);
+    name.push_str(end).expect(rt, "memory");
+    name
 }
 
 /// A record of the name of a number and of a type without names in its RDATA. Its stamp is 100 to 119,
@@ -253,7 +268,7 @@ fn check_seed(rt: &impl Abort, alloc: Global, seed: u32, names: u16, types: u16)
             }
         }
         if seed % 2 == 1 && round == 1 {
-            pair.flush(rt, alloc, "1000.a");
+            pair.flush(rt, alloc, "1001.a");
             pair.flush(rt, alloc, "b");
         }
         for _ in 0..2u8 {
