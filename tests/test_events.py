@@ -3,14 +3,16 @@
 A list in `cases/events_*.txt` begins with `= ` and what it shows. The line below it says how
 many sites there are. Each other line is a row: an event with its site and its moment, and behind
 `=>` what it does: packets, frames, how many observations were taken if any were, a refusal, and
-whether there is more. A datagram comes from a port of this machine. These rows look at
-something: `ask` at the answer to a question, `kept` at the frame with a number, `site` at the
-clock of a site, its floor and how many items it has, `same` at whether two sites hold the same.
-Messages and frames are those of `cases/event_messages.txt`.
+whether there is more. A line that begins with `#` says what octets below it are. A datagram comes
+from a port of this machine. These rows look at something: `ask` at the answer to a question, `kept`
+at the frame with a number, `site` at the clock of a site, its floor and how many items it has,
+`same` at whether two sites hold the same. Messages and frames are those of
+`cases/event_messages.txt`.
 """
 
 from support.checks import Case, add_cases, parts_of
 from support.messages import event_octets, name_of
+from support.rows import rows_in
 from support.scripts import script_of
 from support.sessions import HOST
 
@@ -114,7 +116,7 @@ def read_lists():
     lists = []
     for name in FILES:
         for shows, text in parts_of(name):
-            sites, *rows = text.splitlines()
+            sites, *rows = rows_in(text)
             lists.append((shows, int(sites.removeprefix("sites ")), rows))
     return lists
 

@@ -11,11 +11,8 @@ Another program counted that, which reads the formats on its own.
 from collections import Counter
 
 from support.checks import Case, add_cases, lines_of, parts_of
-from support.messages import event_octets, event_parts, question
+from support.messages import OTHERS, event_octets, event_parts, question
 from support.scripts import script_of
-
-# The octets that each replace the octet of a message at one place.
-OTHERS = (0x00, 0x3F, 0x40, 0xC0, 0xFF)
 
 # After how many octets that were not refused the twins begin anew: those of an upstream settle the
 # question.

@@ -60,7 +60,8 @@ class ManyLines(Case):
         self.check_script(lines, printed + "refused frame TooLong\n")
 
     def test_most_questions(self):
-        """256 questions are asked, under the next free identifiers, and the 257th fails"""
+        """256 questions are asked, under the next free identifiers, and the 257th fails; one more
+        client joins, and those that are due go on, the least identifier first"""
         lines, printed = "", ""
         for number in range(MOST_QUESTIONS + 1):
             lines += f"datagram 0 100 127.0.0.1:6001 65535 {message(QUESTION, number)}\n"
@@ -68,8 +69,11 @@ class ManyLines(Case):
             identifier = f"{(65535 + number) % 65536:04x}"
             printed += f"send 127.0.0.1:5301 {identifier}{message(QUERY_BEHIND_ID, number)}\ntaken 0\n"
         printed += f"send 127.0.0.1:6001 {message(FAILURE, MOST_QUESTIONS)}\nrefused full\n"
-        printed += f"send 127.0.0.1:5302 0000{message(QUERY_BEHIND_ID, 1)}\nmore\n"
-        self.check_script(lines + "tick 0 102\n", printed)
+        lines += f"datagram 0 100 127.0.0.1:6002 65535 {message(QUESTION, MOST_QUESTIONS - 1)}\n"
+        lines += "tick 0 101\ntick 0 102\ntick 0 103\n"
+        printed += f"taken 0\nidle\nsend 127.0.0.1:5302 0000{message(QUERY_BEHIND_ID, 1)}\nmore\n"
+        printed += f"send 127.0.0.1:5302 0001{message(QUERY_BEHIND_ID, 2)}\nmore\n"
+        self.check_script(lines, printed)
 
     def test_many_frames(self):
         """each of many frames is kept under its number, and can be delivered"""

@@ -23,6 +23,10 @@ HEADER_LENGTH = 12
 # A name that is a pointer to the question's.
 POINTER = b"\xc0\x0c"
 
+# What each octet of a message is replaced by: a zero, the longest label, what is no label, a
+# pointer, and the greatest octet.
+OTHERS = (0x00, 0x3F, 0x40, 0xC0, 0xFF)
+
 
 def _repeated(text):
     """A text with each `{61*460}` in it, 460 times `61`, written out."""

@@ -2,17 +2,16 @@
 //!
 //! `messages` has the octets that more than one row is about, by their names. `rows`, `tables`,
 //! `calls` and `observations` read rows, make their calls and compare their output. Each other file
-//! has tests: of names and octets; of lists of items; of messages that are cut off or lie (`faults`), that servers
-//! sent (`captures`) and that are read in place; of what replies say, and of observations that are
-//! made; of fronts; of caches, flushes, exchanges between caches and the memory that purges give
-//! back; of frames, their second entries, and frames that are taken; of open questions.
+//! has tests: of names and octets; of lists of items; of messages that servers sent (`captures`) and
+//! that are read in place; of what replies say, and of observations that are made; of fronts; of
+//! caches and the memory that purges give back; of frames, and frames that are taken; of open
+//! questions.
+//!
+//! What a script shows of these is tried from outside, by `tests/run` at the top of the repository.
 
 mod caches;
 mod calls;
 mod captures;
-mod exchanges;
-mod faults;
-mod flushes;
 mod frames;
 mod fronts;
 mod in_place;
@@ -26,6 +25,5 @@ mod questions;
 mod reclaims;
 mod replies;
 mod rows;
-mod second_entries;
 mod tables;
 mod taken;

@@ -1,11 +1,10 @@
 //! Messages of servers, and one of each kind that is read or refused.
 
-use crate::tests::faults::{push_both, push_fault};
 use crate::tests::in_place::{check_in_place, written_twice};
-use crate::tests::rows::{Words, is_row, octets_of, push_octets};
+use crate::tests::rows::{Words, octets_of, push_octets};
 use crate::tests::tables::{check_rows, rows_of};
 use fleet_wire::{
-    Message, Outline, Question, Record, plain_rdata, read_query, read_reply, write_query,
+    Message, Outline, Question, ReadFault, Record, plain_rdata, read_query, read_reply, write_query,
 };
 use std::alloc::Global;
 use std::process::Abort;
@@ -330,9 +329,10 @@ reply 12348180000100010000000007'example'03'com'0000010001c00c000100010000012c00
 reply <aliases-relay> => <aliases-relay>
 ";
 
-/// The octets that replace each octet of a message: a zero, the longest label, what is no label, a
-/// pointer, and the greatest one.
-const OCTETS: [u8; 5] = [0x00, 0x3f, 0x40, 0xc0, 0xff];
+/// Adds why there is no message.
+fn push_fault(rt: &impl Abort, output: &mut String, fault: ReadFault) {
+    write!(output, "{fault:?}").expect(rt, "memory");
+}
 
 /// Adds a record to the answer section of an outline.
 fn add_answer<'a>(rt: &impl Abort, outline: &mut Outline<'a>, record: &'a Record) {
@@ -469,60 +469,11 @@ asked <mixed-question> => 9 03'wWw'00 12340100000100000000000003'www'00001c0001"
     check_rows(&rt, rt.alloc(), rows);
 }
 
-/// A message with this octet at a place.
-fn message_with(rt: &impl Abort, alloc: Global, message: &[u8], at: usize, octet: u8) -> Vec<u8> {
-    let mut other = message.to_vec(alloc).expect(rt, "memory");
-    *other.get_mut(at).expect(rt, "a place") = octet;
-    other
-}
-
-/// Reads a message with this octet at a place.
-fn read_with(rt: &impl Abort, alloc: Global, message: &[u8], at: usize, octet: u8) {
-    let other = message_with(rt, alloc, message, at, octet);
-    let mut output = String::new(alloc);
-    push_both(rt, alloc, other.as_slice(), &mut output);
-}
-
-/// Reads a message with each octet at each place, and says how many places it has.
-fn read_with_each(rt: &impl Abort, alloc: Global, message: &[u8]) -> usize {
-    for at in 0..message.len() {
-        for octet in OCTETS {
-            read_with(rt, alloc, message, at, octet);
-        }
-    }
-    message.len()
-}
-
-/// Reads the message of a row with each octet at each place, and says how many places it has.
-fn read_row(rt: &impl Abort, alloc: Global, row: &str) -> usize {
-    let asked = row.strip_prefix("reply ").expect(rt, "a reply");
-    let (word, _) = asked.split_once(' ').expect(rt, "a message");
-    let message = octets_of(rt, alloc, word);
-    read_with_each(rt, alloc, message.as_slice())
-}
-
-/// Reads the messages of a table so, and says how many places they have.
-fn read_rows(rt: &impl Abort, alloc: Global, rows: &str) -> usize {
-    let mut places = 0usize;
-    for row in rows.lines() {
-        if is_row(row) {
-            places = places.saturating_add(read_row(rt, alloc, row));
-        }
-    }
-    places
-}
-
-#[test]
-fn returns_whatever_an_octet_is(rt: HostRuntime) {
-    assert_eq!(rt; read_rows(&rt, rt.alloc(), EXAMPLES), 4969);
-}
-
-/// A reply with one record of a type, whose RDATA begins at place 39; its question is for a.example,
-/// whose name begins at place 12.
-fn reply_with(rt: &impl Abort, alloc: Global, rtype: u16, rdata: &str) -> Vec<u8> {
-    let length = octets_of(rt, alloc, rdata).len();
+/// A reply with one record, by its type, the length of its RDATA and its RDATA, which begins at place 39;
+/// its question is for a.example, whose name begins at place 12.
+fn reply_with(rt: &impl Abort, alloc: Global, rtype: &str, length: &str, rdata: &str) -> Vec<u8> {
     let text = format!(in alloc;
-        "00018180000100010000000001'a'07'example'0000010001c00c{rtype:04x}00010000012c{length:04x}{rdata}"
+        "00018180000100010000000001'a'07'example'0000010001c00c{rtype}00010000012c{length}{rdata}"
     ).expect(rt, "memory");
     octets_of(rt, alloc, text.as_str())
 }
@@ -538,39 +489,42 @@ fn push_rdata(rt: &impl Abort, alloc: Global, message: &[u8], output: &mut Strin
     }
 }
 
-/// What is read of the RDATA of a type.
+/// What is read of RDATA: its type, its length and itself.
 pub(crate) fn show_rdata(
     rt: &impl Abort,
     alloc: Global,
     mut words: Words<'_>,
     output: &mut String,
 ) {
-    let rtype = words.word().parse().expect(rt, "a number");
-    let message = reply_with(rt, alloc, rtype, words.word());
+    let rtype = words.word();
+    let length = words.word();
+    let message = reply_with(rt, alloc, rtype, length, words.word());
     push_rdata(rt, alloc, message.as_slice(), output);
 }
 
-/// The types with names in their RDATA (RFC 1035 3.3, RFC 2782), each with RDATA whose names are
-/// pointers to a.example, beside octets that begin no name; and then with these in full.
+/// The types with names in their RDATA (RFC 1035 3.3, RFC 2782), in hexadecimal digits as the length of
+/// the RDATA is, each with RDATA whose names are pointers to a.example, beside octets that begin no name;
+/// and then with these in full.
 const SHAPES: &str = "\
-rdata 2 c00c => 01'a'07'example'00
-rdata 3 c00c => 01'a'07'example'00
-rdata 4 c00c => 01'a'07'example'00
-rdata 5 c00c => 01'a'07'example'00
-rdata 6 c00cc00c{ff*20} => 01'a'07'example'0001'a'07'example'00{ff*20}
-rdata 7 c00c => 01'a'07'example'00
-rdata 8 c00c => 01'a'07'example'00
-rdata 9 c00c => 01'a'07'example'00
-rdata 12 c00c => 01'a'07'example'00
-rdata 14 c00cc00c => 01'a'07'example'0001'a'07'example'00
-rdata 15 {ff*2}c00c => {ff*2}01'a'07'example'00
-rdata 33 {ff*6}c00c => {ff*6}01'a'07'example'00
+rdata 0002 0002 c00c => 01'a'07'example'00
+rdata 0003 0002 c00c => 01'a'07'example'00
+rdata 0004 0002 c00c => 01'a'07'example'00
+rdata 0005 0002 c00c => 01'a'07'example'00
+rdata 0006 0018 c00cc00c{ff*20} => 01'a'07'example'0001'a'07'example'00{ff*20}
+rdata 0007 0002 c00c => 01'a'07'example'00
+rdata 0008 0002 c00c => 01'a'07'example'00
+rdata 0009 0002 c00c => 01'a'07'example'00
+rdata 000c 0002 c00c => 01'a'07'example'00
+rdata 000e 0004 c00cc00c => 01'a'07'example'0001'a'07'example'00
+rdata 000f 0004 {ff*2}c00c => {ff*2}01'a'07'example'00
+rdata 0021 0008 {ff*6}c00c => {ff*6}01'a'07'example'00
 ";
 
 /// Whether a type's RDATA has names: a pointer alone is then expanded or refused.
 fn has_names(rt: &impl Abort, alloc: Global, rtype: u16) -> bool {
     let pointer = b"\xc0\x0c";
-    let message = reply_with(rt, alloc, rtype, "c00c");
+    let digits = hex::encode(alloc, &rtype.to_be_bytes()).expect(rt, "memory");
+    let message = reply_with(rt, alloc, digits.as_str(), "0002", "c00c");
     match read_reply(alloc, &message) {
         Ok(reply) => {
             let record = reply.answer().first().expect(rt, "a record");
@@ -599,15 +553,4 @@ fn count_shaped(rt: &impl Abort, alloc: Global) -> usize {
 fn shapes_of_types(rt: HostRuntime) {
     check_rows(&rt, rt.alloc(), SHAPES);
     assert_eq!(rt; count_shaped(&rt, rt.alloc()), rows_of(SHAPES));
-}
-
-#[test]
-fn knows_plain_rdata(rt: HostRuntime) {
-    let rows = "
-plain 15 000a04'mail'00 => true
-plain 15 000a04'Mail'00 => false
-plain 15 000ac00c => false
-plain 15 000a04'mail'0000 => false
-plain 16 c00c => true";
-    check_rows(&rt, rt.alloc(), rows);
 }

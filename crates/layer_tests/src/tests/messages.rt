@@ -12,8 +12,6 @@ mixed-question 00090120000100000000000003'wWw'00001c0001
 aliases 00070100000100000000000003'www'07'example'0000010001
 # id 7 rd: www.example. IN AAAA
 aliases-aaaa 00070100000100000000000003'www'07'example'00001c0001
-# id 7 rd: Example.COM. IN A
-capitals-question 00070100000100000000000007'Example'03'COM'0000010001
 # id 7 rd: example.com. IN A
 question 00070100000100000000000007'example'03'com'0000010001
 # id 7 qr rd ra NOERROR: example.com. IN A
@@ -22,21 +20,8 @@ empty-reply 00078180000100000000000007'example'03'com'0000010001
 chaos-reply 00078180000100000000000007'example'03'com'0000010003
 # id 7 qr rd ra NOERROR: example.com. IN ANY
 any-reply 00078180000100000000000007'example'03'com'0000ff0001
-# id 7 qr tc rd ra NOERROR: Example.COM. IN A
-capitals-cut-off 00078380000100000000000007'Example'03'COM'0000010001
 # id 4660 qr rd ra NXDOMAIN: example.com. IN A
 no-soa 12348183000100000000000007'example'03'com'0000010001
-# id 4660 qr aa rd ra SERVFAIL: example.com. IN A; authority example.com. 600 IN NS ns.example.com.
-failed 12348582000100000001000007'example'03'com'0000010001c00c0002000100000258000502'ns'c00c
-# id 4660 qr aa rd ra REFUSED: example.com. IN A; authority example.com. 600 IN NS ns.example.com.
-refused 12348585000100000001000007'example'03'com'0000010001c00c0002000100000258000502'ns'c00c
-# id 4660 qr aa tc rd ra NOERROR: example.com. IN A; authority example.com. 600 IN NS
-#   ns.example.com.
-cut-off 12348780000100000001000007'example'03'com'0000010001c00c0002000100000258000502'ns'c00c
-# id 4660 qr aa tc rd ra NXDOMAIN: example.com. IN A; authority example.com. 600 IN NS
-#   ns.example.com.
-cut-off-name-error 12348783000100000001000007'example'03'com'0000010001c00c0002000100000258000502'\
-    ns'c00c
 # id 4 qr aa rd ra NOERROR: x.y.b.example. IN A; answer x.y.b.example. 300 IN A 192.0.2.1
 below-reply 00048580000100010000000001'x'01'y'01'b'07'example'0000010001c00c000100010000012c0004c0\
     000201
@@ -68,10 +53,6 @@ top-bit-minimum 00058580000100000001000007'example'03'com'00001c0001c01400060001
 #   20000
 other-soa 00058580000100000001000007'example'03'com'00001c000103'net'0000060001000186a000160000000\
     0000100000e10000002580001518000004e20
-# id 2 qr aa rd ra NOERROR: www.example. IN AAAA; answer www.example. 60 IN CNAME a.example.;
-#   authority example. 3600 IN SOA ns.example. . 1 3600 600 86400 300
-no-data-behind-alias 00028580000100010001000003'www'07'example'00001c0001c00c000500010000003c00040\
-    1'a'c010c0100006000100000e10001a02'ns'c010000000000100000e1000000258000151800000012c
 # id 1 qr rd ra NOERROR: example.com. IN A; answer example.com. 300 IN A 192.0.2.1; authority
 #   example.com. 600 IN NS ns.example.com.
 servers-whole 00018180000100010001000007'example'03'com'000001000107'example'03'com'00000100010000\
@@ -96,14 +77,6 @@ nine-aliases 000181800001000a0000000002'c0'000001000102'c0'00000500010000012c000
     c9'00000100010000012c0004c0000201
 # frame 2: positive rank 1 at 0 for 1: a\\.b.\\\\.\\000. TXT \"x\"
 escaped-frame @00010301{00*7}000000000103'a.b'015c0100000010000100020178
-# frame 2: positive rank 1 at 100 for 300: example.com. A 192.0.2.1
-older @00010301{00*7}640000012c07'example'03'com'00000100010004c0000201
-# frame 2: positive rank 3 at 100 for 300: 0000442.com. A 192.0.2.1
-frame-442 @00010303{00*7}640000012c07'0000442'03'com'00000100010004c0000201
 # frame 2: positive rank 3 at 100 for 300: example.com. A 192.0.2.1
 frame-100 @00010303{00*7}640000012c07'example'03'com'00000100010004c0000201
-# frame 2: positive rank 1 at 200 for 10: example.com. A 192.0.2.2; positive rank 1 at 100 for 300:
-#   example.com. A 192.0.2.1
-both @00020301{00*7}c80000000a07'example'03'com'00000100010004c00002020301{00*7}640000012c07'examp\
-    le'03'com'00000100010004c0000201
 ";

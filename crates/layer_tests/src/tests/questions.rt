@@ -278,63 +278,14 @@ find 0 4661 0001 1 => true";
     check_calls(&rt, rt.alloc(), &mut table, rows);
 }
 
-/// Asks a number of questions, with the greatest word: the identifiers go on behind it from zero.
-fn check_questions(rt: &impl Abort, alloc: Global, table: &mut Pending, count: u16) {
-    for number in 0..count {
-        let id = number.wrapping_sub(1);
-        let row = format!(in alloc; "ask {number:04} 1 6001 7 100 65535 => send 0 {id}").expect(
-            rt, "memory",
-        );
-        check_call(rt, alloc, table, row.as_str());
-    }
-}
-
-#[test]
-fn at_most_256_are_open(rt: HostRuntime) {
-    let rows = "
-query_id 0256 1 65535 => none
-ask 0256 1 6001 7 100 65535 => Full
-ask 0255 1 6002 7 100 65535 => joined
-due 101 => none
-due 102 => retry 1 0 0001.
-advance 0 102 => true
-advance 0 102 => false
-entry 0 => true
-due 103 => retry 1 1 0002.";
-    let mut table = Pending::new(rt.alloc(), 2);
-    check_questions(&rt, rt.alloc(), &mut table, 256);
-    check_calls(&rt, rt.alloc(), &mut table, rows);
-}
-
-/// Joins a question from a number of ports behind 6001.
-fn check_joins(rt: &impl Abort, alloc: Global, table: &mut Pending, ports: u16) {
-    for port in 0..ports {
-        let port = port.wrapping_add(6002);
-        let row = format!(in alloc; "ask 0000 1 {port} 7 100 4660 => joined").expect(rt, "memory");
-        check_call(rt, alloc, table, row.as_str());
-    }
-}
-
-#[test]
-fn at_most_32_wait_for_one_question(rt: HostRuntime) {
-    let first = "ask 0000 1 6001 7 100 4660 => send 0 4660";
-    let rows = "
-ask 0000 1 6033 7 100 4660 => WaitersFull
-ask 0000 1 6001 7 100 4660 => again
-due 102 => failed 4660";
-    let mut table = Pending::new(rt.alloc(), 1);
-    check_calls(&rt, rt.alloc(), &mut table, first);
-    check_joins(&rt, rt.alloc(), &mut table, 31);
-    check_calls(&rt, rt.alloc(), &mut table, rows);
-}
-
 #[test]
 fn a_question_of_another_class_waits(rt: HostRuntime) {
     let rows = "
 ask 0000 3 6001 7 100 1 => send 0 1
 ask 0000 1 6002 7 100 1 => joined
 find 0 1 0000 1 => true
-find 0 1 0000 3 => false";
+find 0 1 0000 3 => false
+due 102 => failed 1";
     let mut table = Pending::new(rt.alloc(), 1);
     check_calls(&rt, rt.alloc(), &mut table, rows);
 }
@@ -350,6 +301,8 @@ ask 0002 1 6001 8 101 2 => send 0 2
 look_ahead 101 => none
 look_ahead 102 => retry 1 1 0001.
 advance 1 102 => true
+advance 1 102 => false
+entry 1 => true
 due 102 => none
 look_ahead 102 => none
 due 103 => retry 1 2 0002.
@@ -358,28 +311,12 @@ look_ahead 103 => none
 due 104 => failed 1
 look_ahead 104 => failed 1
 settle 1 => 6001/7;
+entry 1 => false
 look_ahead 200 => none
 ask 0003 1 6001 9 50 3 => send 0 3
 due 51 => none
 due 52 => retry 1 3 0003.";
     let mut table = Pending::new(rt.alloc(), 2);
-    check_calls(&rt, rt.alloc(), &mut table, rows);
-}
-
-#[test]
-fn a_cleared_table_is_as_new(rt: HostRuntime) {
-    let rows = "
-ask 0000 1 6001 7 100 1 => send 0 1
-ask 0001 1 6001 7 100 1 => send 0 2
-ask 0002 1 6001 7 100 1 => send 0 3";
-    let mut table = Pending::new(rt.alloc(), 2);
-    check_calls(&rt, rt.alloc(), &mut table, rows);
-    table.clear();
-    let rows = "
-entry 1 => false
-due 102 => none
-ask 0002 1 6001 7 100 1 => send 0 1
-due 102 => retry 1 1 0002.";
     check_calls(&rt, rt.alloc(), &mut table, rows);
 }
 
