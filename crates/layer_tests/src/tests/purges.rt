@@ -15,9 +15,9 @@ struct Held<'a> {
     cache: Cache<&'a LocalHeap>,
 }
 
-/// Takes an address, from second 100 on, of a name of four digits.
+/// Takes an address, from second 100 on, of the name of a number of four digits.
 fn take(rt: &impl Abort, held: &mut Held<'_>, number: u16, life: u16) {
-    let row = format!(in held.global; "{number:04} 1 3 100 {life} c0000201").expect(rt, "memory");
+    let row = format!(in held.global; "{number} 1 3 100 {life} c0000201").expect(rt, "memory");
     let mut words = Words::new(row.as_str());
     let observation = record_in(rt, held.heap, held.global, &mut words);
     held.cache.take(observation).expect(rt, "memory");
@@ -25,7 +25,7 @@ fn take(rt: &impl Abort, held: &mut Held<'_>, number: u16, life: u16) {
 
 /// Takes addresses of 5000 names. Every other one ends at 110, the rest at 400.
 fn take_all(rt: &impl Abort, held: &mut Held<'_>) {
-    for number in 0..5000u16 {
+    for number in 1000..6000u16 {
         take(rt, held, number, if number % 2 == 0 { 10 } else { 300 });
     }
 }
@@ -45,7 +45,7 @@ fn go_round(rt: &impl Abort, global: Global, heap: &LocalHeap) -> [usize; 6] {
         heap,
         cache,
     };
-    take(rt, &mut held, 0, 5);
+    take(rt, &mut held, 1000, 5);
     let empty = used_after(rt, &mut held, "105");
     take_all(rt, &mut held);
     let all = heap.used();

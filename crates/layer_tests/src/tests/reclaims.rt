@@ -216,14 +216,16 @@ impl Pair {
     }
 }
 
-/// The name of a number, of 8, 31, 32, 33 or 66 octets.
+/// The name of a number of four digits, of 8, 31, 32, 33 or 66 octets.
 fn name_of(rt: &impl Abort, alloc: Global, number: u16) -> String {
     let name = match number % 5 {
-        0 => format!(in alloc; "{number:04}.a"),
-        1 => format!(in alloc; "{number:027}.b"),
-        2 => format!(in alloc; "{number:028}.a"),
-        3 => format!(in alloc; "{number:029}.b"),
-        _ => format!(in alloc; "{number:060}.b.a"),
+        0 => format!(in alloc; "{number}.a"),
+        1 => format!(in alloc; "00000000000000000000000{number}.b"),
+        2 => format!(in alloc; "000000000000000000000000{number}.a"),
+        3 => format!(in alloc; "0000000000000000000000000{number}.b"),
+        _ => format!(in alloc;
+            "00000000000000000000000000000000000000000000000000000000{number}.b.a"
+        ),
     };
     name.expect(rt, "memory")
 }
@@ -238,20 +240,20 @@ fn made(rt: &impl Abort, alloc: Global, words: &mut Pcg32, number: u16, rtype: u
     record_in(rt, alloc, alloc, &mut Words::new(row.as_str()))
 }
 
-/// Takes records of three of four of these names, of a type, and purges twice; as often as there are
-/// types.
+/// Takes records of three of four of the names of the numbers from 1000 on, of a type, and purges twice;
+/// as often as there are types.
 fn check_seed(rt: &impl Abort, alloc: Global, seed: u32, names: u16, types: u16) {
     let mut words = Pcg32::new(u64::from(seed), 54);
     let mut pair = Pair::new(rt, alloc);
     for round in 0..types {
         let rtype = round.saturating_add(65);
-        for number in 0..names {
+        for number in 1000..names {
             if words.next_word() % 4 != 0 {
                 pair.take(rt, alloc, made(rt, alloc, &mut words, number, rtype));
             }
         }
         if seed % 2 == 1 && round == 1 {
-            pair.flush(rt, alloc, "0000.a");
+            pair.flush(rt, alloc, "1000.a");
             pair.flush(rt, alloc, "b");
         }
         for _ in 0..2u8 {
@@ -265,13 +267,13 @@ fn check_seed(rt: &impl Abort, alloc: Global, seed: u32, names: u16, types: u16)
 #[test]
 fn purges_leave_what_is_live_in_memory(rt: HostRuntime) {
     for seed in 0..24u32 {
-        check_seed(&rt, rt.alloc(), seed, 40, 4);
+        check_seed(&rt, rt.alloc(), seed, 1040, 4);
     }
 }
 
 #[test]
 fn purges_go_on_behind_what_they_looked_at(rt: HostRuntime) {
     for seed in 0..2u32 {
-        check_seed(&rt, rt.alloc(), seed, 6000, 2);
+        check_seed(&rt, rt.alloc(), seed, 7000, 2);
     }
 }
