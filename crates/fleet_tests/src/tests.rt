@@ -14,4 +14,3 @@ mod messages;
 mod octets;
 mod sites;
 mod turns;
-mod worked;
