@@ -15,13 +15,22 @@ sites, the one at hand first, and behind `=>` what comes of it:
 """
 
 from support.checks import Case, add_cases, parts_of
-from support.messages import CNAME, any_entry, body_of, code_of, denial_body, frame, name_of, question, soa
+from support.messages import (
+    CNAME,
+    NAME_ERROR,
+    any_entry,
+    body_of,
+    code_of,
+    denial_body,
+    frame,
+    name_of,
+    question,
+    soa,
+)
 from support.reading import sections_of
-from support.rows import name_in, octets_in, row_of, rows_in
+from support.rows import name_in, observation_of, octets_in, row_of, rows_in
 from support.scripts import script_of
 
-KINDS = {"positive": "Positive", "nodata": "NoData", "nxdomain": "NameError", "flush": "Flush"}
-NAME_ERROR = 3
 FLUSH_RANK, FLUSH_LIFE = 3, 86400
 
 # The words of a record in a row.
@@ -136,11 +145,7 @@ class Sites:
         return self.do("show")[0].removeprefix("floor ")
 
     def observations(self):
-        items = [item.split(" ") for item in self.do("show")[1:-1]]
-        return "".join(
-            f"{KINDS[kind]} {name} {rtype} {rank} {stamp} {life} {body};"
-            for kind, rank, stamp, life, name, rtype, body in items
-        )
+        return "".join(f"{observation_of(item)};" for item in self.do("show")[1:-1])
 
     def sweep(self):
         frames = [line.split(" ")[2] for line in self.do("sweep") if line.startswith("frame ")]

@@ -8,17 +8,9 @@ upstream's: what goes to the client.
 """
 
 from support.checks import Case, add_cases, parts_of
-from support.rows import octets_in, row_of, rows_in
+from support.rows import observation_of, octets_in, row_of, rows_in
 from support.scripts import script_of
 from support.sessions import HOST
-
-KINDS = {"positive": "Positive", "nodata": "NoData", "nxdomain": "NameError"}
-
-
-def observation_of(item):
-    """What a row says of an item that is shown."""
-    kind, rank, stamp, life, name, rtype, body = item.split(" ")
-    return " ".join([KINDS[kind], name, rtype, rank, stamp, life, body])
 
 
 class Replies(Case):

@@ -4,6 +4,10 @@
 OPENING = "444702"
 
 
+# The kind of an observation, as a script shows it and as a row has it.
+_KINDS = {"positive": "Positive", "nodata": "NoData", "nxdomain": "NameError", "flush": "Flush"}
+
+
 def _repeated(text):
     """A text with each `{61*460}` in it, 460 times `61`, written out."""
     first, *others = text.split("{")
@@ -34,6 +38,12 @@ def octets_in(word):
 def rows_in(text):
     """The rows of a text: its lines, but for those that begin with `#`."""
     return [line for line in text.splitlines() if not line.startswith("#")]
+
+
+def observation_of(item):
+    """What a row says of an item that a script shows."""
+    kind, rank, stamp, life, name, rtype, body = item.split(" ")
+    return " ".join([_KINDS[kind], name, rtype, rank, stamp, life, body])
 
 
 def row_of(line):

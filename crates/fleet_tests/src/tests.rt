@@ -18,4 +18,3 @@ mod refused;
 mod refusing;
 mod sites;
 mod turns;
-mod worked;

@@ -15,8 +15,6 @@ question: 0007 0100 0001 0000 0000 0000 example.com 0001 0001
 question-8: 0008 0100 0001 0000 0000 0000 example.com 0001 0001
 # id 4660 rd: example.com. IN A
 query: 1234 0100 0001 0000 0000 0000 example.com 0001 0001
-# id 4661 rd: example.com. IN A
-query-1235: 1235 0100 0001 0000 0000 0000 example.com 0001 0001
 # id 4660 qr rd ra NOERROR: example.com. IN A; answer example.com. 300 IN A 192.0.2.1
 reply: 1234 8180 0001 0001 0000 0000 example.com 0001 0001 c00c 0001 0001 0000012c 0004 c0000201
 # id 7 qr rd ra NOERROR: example.com. IN A; answer example.com. 300 IN A 192.0.2.1
@@ -28,22 +26,6 @@ relay-8: 0008 8180 0001 0001 0000 0000 example.com 0001 0001 example.com 0001 00
 # id 7 qr rd ra NOERROR: example.com. IN A; answer example.com. 290 IN A 192.0.2.1
 relay-290: 0007 8180 0001 0001 0000 0000 example.com 0001 0001 example.com 0001 0001 00000122 0004 \
     c0000201
-# id 7 qr rd ra NOERROR: example.com. IN A; answer example.com. 150 IN A 192.0.2.1
-relay-150: 0007 8180 0001 0001 0000 0000 example.com 0001 0001 example.com 0001 0001 00000096 0004 \
-    c0000201
-# id 4660 qr rd ra NOERROR: example.com. IN A; answer example.com. 300 IN A 192.0.2.1, example.com.
-#   2147483649 IN A 192.0.2.1
-ended-reply: 1234 8180 0001 0002 0000 0000 example.com 0001 0001 c00c 0001 0001 0000012c 0004 \
-    c0000201 c00c 0001 0001 80000001 0004 c0000201
-# id 7 qr rd ra NOERROR: example.com. IN A; answer example.com. 0 IN A 192.0.2.1
-ended-relay: 0007 8180 0001 0001 0000 0000 example.com 0001 0001 example.com 0001 0001 00000000 \
-    0004 c0000201
-# id 4660 qr rd ra NOERROR: example.com. IN A; answer example.com. 300 IN CNAME example.com.
-circle: 1234 8180 0001 0001 0000 0000 example.com 0001 0001 c00c 0005 0001 0000012c 0002 c00c
-# id 4660 qr rd ra NXDOMAIN: example.com. IN A
-no-soa: 1234 8183 0001 0000 0000 0000 example.com 0001 0001
-# id 7 qr rd ra NXDOMAIN: example.com. IN A
-no-soa-relay: 0007 8183 0001 0000 0000 0000 example.com 0001 0001
 # id 7 qr rd ra SERVFAIL: example.com. IN A
 failure: 0007 8182 0001 0000 0000 0000 example.com 0001 0001
 # id 7 qr rd ra FORMERR, QDCOUNT 0
@@ -52,8 +34,6 @@ unread: 0007 8181 0000 0000 0000 0000
 header: 0007 0100 0001 0000 0000 0000
 # id 7 rd: a*63.a*63.a*63.a*61. IN A
 longest: 0007 0100 0001 0000 0000 0000 3f 61*63 3f 61*63 3f 61*63 3d 61*61 00 0001 0001
-# id 65535 rd: a*63.a*63.a*63.a*61. IN A
-longest-query: ffff 0100 0001 0000 0000 0000 3f 61*63 3f 61*63 3f 61*63 3d 61*61 00 0001 0001
 # id 7 rd; name of 256 octets
 longer: 0007 0100 0001 0000 0000 0000 3f 61*63 3f 61*63 3f 61*63 3e 61*62 00 0001 0001
 # id 7 rd: example.com. IN ANY
@@ -64,22 +44,14 @@ any-denial: 0007 8184 0001 0000 0000 0000 example.com 00ff 0001
 chaos: 0007 0100 0001 0000 0000 0000 example.com 0001 0003
 # id 7 qr rd ra NOTIMP: example.com. CH A
 chaos-denial: 0007 8184 0001 0000 0000 0000 example.com 0001 0003
-# id 7 qr rd ra NOERROR: example.com. CH A
-chaos-reply: 0007 8180 0001 0000 0000 0000 example.com 0001 0003
 # id 7 rd opcode 2: example.com. IN A
 status: 0007 1100 0001 0000 0000 0000 example.com 0001 0001
 # id 7 qr rd ra opcode 2 NOTIMP, QDCOUNT 0
 status-denial: 0007 9184 0000 0000 0000 0000
-# id 7 rd, QDCOUNT 0: example.com. IN A
-no-question: 0007 0100 0000 0000 0000 0000 example.com 0001 0001
-# id 7 rd, QDCOUNT 2: example.com. IN A
-two-questions: 0007 0100 0002 0000 0000 0000 example.com 0001 0001
 # id 7 rd: 0256. IN A
 question-0256: 0007 0100 0001 0000 0000 0000 04 30323536 00 0001 0001
 # id 7 qr rd ra SERVFAIL: 0256. IN A
 failure-0256: 0007 8182 0001 0000 0000 0000 04 30323536 00 0001 0001
-# id 0 rd: 0001. IN A
-query-0001: 0000 0100 0001 0000 0000 0000 04 30303031 00 0001 0001
 # id 7: example.com. IN A
 local: 0007 0000 0001 0000 0000 0000 example.com 0001 0001
 # id 7 qr ra REFUSED: example.com. IN A
@@ -88,23 +60,8 @@ local-denial: 0007 8085 0001 0000 0000 0000 example.com 0001 0001
 frame-100: 4447 02 0001 03 03 0000000000000064 0000012c example.com 0001 0001 0004 c0000201
 # frame 2: positive rank 1 at 101 for 300: example.com. A 192.0.2.1
 frame-101: 4447 02 0001 03 01 0000000000000065 0000012c example.com 0001 0001 0004 c0000201
-# frame 1: positive rank 3 at 100 for 300: example.com. A 192.0.2.1
-first-100: 4447 01 0001 03 03 0000000000000064 0000012c example.com 0001 0001 0004 c0000201
-# frame 1: flush rank 3 at 100 for 86400: com.
-first-flush: 4447 01 0001 04 03 0000000000000064 00015180 03636f6d00 0000
 # frame 2: flush rank 3 at 100 for 86400: com.
 flush-100: 4447 02 0001 04 03 0000000000000064 00015180 03636f6d00 0000
-# frame 1
-empty-frame: 4447 01 0000
-# frame of another magic 1
-other-magic: 4448 01 0000
-# frame cut off after 2 octets
-half-frame: 4447
-# 16385 octets: one more than a frame may have
-long-frame: 44*16385
-# id 4660 qr rd ra NOERROR: example.com. IN AAAA; answer example.com. 300 IN A 192.0.2.1
-other-type: 1234 8180 0001 0001 0000 0000 example.com 001c 0001 c00c 0001 0001 0000012c 0004 \
-    c0000201
 # frame 2: positive rank 1 at 100 for 300: example.com. A 192.0.2.1
 older: 4447 02 0001 03 01 0000000000000064 0000012c example.com 0001 0001 0004 c0000201
 # frame 2: positive rank 1 at 200 for 10: example.com. A 192.0.2.2
@@ -113,10 +70,6 @@ newer: 4447 02 0001 03 01 00000000000000c8 0000000a example.com 0001 0001 0004 c
 #   example.com. A 192.0.2.1
 both: 4447 02 0002 03 01 00000000000000c8 0000000a example.com 0001 0001 0004 c0000202 03 01 \
     0000000000000064 0000012c example.com 0001 0001 0004 c0000201
-# frame 2: positive rank 1 at 100 for 300: example.org. A 192.0.2.9
-held: 4447 02 0001 03 01 0000000000000064 0000012c example.org 0001 0001 0004 c0000209
-# frame 1: positive rank 1 at 100 for 300: example.com. A 192.0.2.1
-first-older: 4447 01 0001 03 01 0000000000000064 0000012c example.com 0001 0001 0004 c0000201
 # frame 2: positive rank 1 at 100 for 300: example.com. TXT \\# 8188 61..; positive rank 1 at 100
 #   for 300: example.org. TXT \\# 8125 61..
 longest-frame: 4447 02 0002 03 01 0000000000000064 0000012c example.com 0010 0001 1ffc 61*8188 03 \
@@ -129,13 +82,6 @@ two-octets-more: 4447 02 0002 03 01 0000000000000064 0000012c example.com 0010 0
 flush: 4447 02 0001 04 03 0000000000000078 00015180 03636f6d00 0000
 # frame 2: positive rank 1 at 150 for 100: example.com. A 192.0.2.2
 after: 4447 02 0001 03 01 0000000000000096 00000064 example.com 0001 0001 0004 c0000202
-# frame 2: flush rank 3 at 120 for 86400: com.; positive rank 1 at 150 for 100: example.com. A
-#   192.0.2.2
-withdrawn: 4447 02 0002 04 03 0000000000000078 00015180 03636f6d00 0000 03 01 0000000000000096 \
-    00000064 example.com 0001 0001 0004 c0000202
-# id 7 qr rd ra NOERROR: example.com. IN A; answer example.com. 50 IN A 192.0.2.2
-after-relay: 0007 8180 0001 0001 0000 0000 example.com 0001 0001 example.com 0001 0001 00000032 \
-    0004 c0000202
 # id 7 rd: example.org. IN AAAA
 asked: 0007 0100 0001 0000 0000 0000 example.org 001c 0001
 # id 7 qr ra NOERROR: example.com. IN A; answer example.com. 290 IN A 192.0.2.1
