@@ -26,6 +26,11 @@ relay-8: 0008 8180 0001 0001 0000 0000 example.com 0001 0001 example.com 0001 00
 # id 7 qr rd ra NOERROR: example.com. IN A; answer example.com. 290 IN A 192.0.2.1
 relay-290: 0007 8180 0001 0001 0000 0000 example.com 0001 0001 example.com 0001 0001 00000122 0004 \
     c0000201
+# id 7 qr rd ra NOERROR: example.com. IN A; answer example.com. 150 IN A 192.0.2.1
+relay-150: 0007 8180 0001 0001 0000 0000 example.com 0001 0001 example.com 0001 0001 00000096 0004 \
+    c0000201
+    c0000201 c00c 0001 0001 80000001 0004 c0000201
+    0004 c0000201
 # id 7 qr rd ra SERVFAIL: example.com. IN A
 failure: 0007 8182 0001 0000 0000 0000 example.com 0001 0001
 # id 7 qr rd ra FORMERR, QDCOUNT 0
@@ -60,8 +65,13 @@ local-denial: 0007 8085 0001 0000 0000 0000 example.com 0001 0001
 frame-100: 4447 02 0001 03 03 0000000000000064 0000012c example.com 0001 0001 0004 c0000201
 # frame 2: positive rank 1 at 101 for 300: example.com. A 192.0.2.1
 frame-101: 4447 02 0001 03 01 0000000000000065 0000012c example.com 0001 0001 0004 c0000201
+# frame 1: positive rank 3 at 100 for 300: example.com. A 192.0.2.1
+first-100: 4447 01 0001 03 03 0000000000000064 0000012c example.com 0001 0001 0004 c0000201
 # frame 2: flush rank 3 at 100 for 86400: com.
 flush-100: 4447 02 0001 04 03 0000000000000064 00015180 03636f6d00 0000
+# frame 1
+empty-frame: 4447 01 0000
+    c0000201
 # frame 2: positive rank 1 at 100 for 300: example.com. A 192.0.2.1
 older: 4447 02 0001 03 01 0000000000000064 0000012c example.com 0001 0001 0004 c0000201
 # frame 2: positive rank 1 at 200 for 10: example.com. A 192.0.2.2
@@ -70,6 +80,8 @@ newer: 4447 02 0001 03 01 00000000000000c8 0000000a example.com 0001 0001 0004 c
 #   example.com. A 192.0.2.1
 both: 4447 02 0002 03 01 00000000000000c8 0000000a example.com 0001 0001 0004 c0000202 03 01 \
     0000000000000064 0000012c example.com 0001 0001 0004 c0000201
+# frame 1: positive rank 1 at 100 for 300: example.com. A 192.0.2.1
+first-older: 4447 01 0001 03 01 0000000000000064 0000012c example.com 0001 0001 0004 c0000201
 # frame 2: positive rank 1 at 100 for 300: example.com. TXT \\# 8188 61..; positive rank 1 at 100
 #   for 300: example.org. TXT \\# 8125 61..
 longest-frame: 4447 02 0002 03 01 0000000000000064 0000012c example.com 0010 0001 1ffc 61*8188 03 \
@@ -82,6 +94,13 @@ two-octets-more: 4447 02 0002 03 01 0000000000000064 0000012c example.com 0010 0
 flush: 4447 02 0001 04 03 0000000000000078 00015180 03636f6d00 0000
 # frame 2: positive rank 1 at 150 for 100: example.com. A 192.0.2.2
 after: 4447 02 0001 03 01 0000000000000096 00000064 example.com 0001 0001 0004 c0000202
+# frame 2: flush rank 3 at 120 for 86400: com.; positive rank 1 at 150 for 100: example.com. A
+#   192.0.2.2
+withdrawn: 4447 02 0002 04 03 0000000000000078 00015180 03636f6d00 0000 03 01 0000000000000096 \
+    00000064 example.com 0001 0001 0004 c0000202
+# id 7 qr rd ra NOERROR: example.com. IN A; answer example.com. 50 IN A 192.0.2.2
+after-relay: 0007 8180 0001 0001 0000 0000 example.com 0001 0001 example.com 0001 0001 00000032 \
+    0004 c0000202
 # id 7 rd: example.org. IN AAAA
 asked: 0007 0100 0001 0000 0000 0000 example.org 001c 0001
 # id 7 qr ra NOERROR: example.com. IN A; answer example.com. 290 IN A 192.0.2.1
