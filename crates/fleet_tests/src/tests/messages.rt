@@ -29,16 +29,12 @@ relay-290: 0007 8180 0001 0001 0000 0000 example.com 0001 0001 example.com 0001 
 # id 7 qr rd ra NOERROR: example.com. IN A; answer example.com. 150 IN A 192.0.2.1
 relay-150: 0007 8180 0001 0001 0000 0000 example.com 0001 0001 example.com 0001 0001 00000096 0004 \
     c0000201
-    c0000201 c00c 0001 0001 80000001 0004 c0000201
-    0004 c0000201
 # id 7 qr rd ra SERVFAIL: example.com. IN A
 failure: 0007 8182 0001 0000 0000 0000 example.com 0001 0001
 # id 7 qr rd ra FORMERR, QDCOUNT 0
 unread: 0007 8181 0000 0000 0000 0000
 # id 7 rd; no question behind the header
 header: 0007 0100 0001 0000 0000 0000
-# id 7 rd: a*63.a*63.a*63.a*61. IN A
-longest: 0007 0100 0001 0000 0000 0000 3f 61*63 3f 61*63 3f 61*63 3d 61*61 00 0001 0001
 # id 7 rd; name of 256 octets
 longer: 0007 0100 0001 0000 0000 0000 3f 61*63 3f 61*63 3f 61*63 3e 61*62 00 0001 0001
 # id 7 rd: example.com. IN ANY
@@ -71,7 +67,6 @@ first-100: 4447 01 0001 03 03 0000000000000064 0000012c example.com 0001 0001 00
 flush-100: 4447 02 0001 04 03 0000000000000064 00015180 03636f6d00 0000
 # frame 1
 empty-frame: 4447 01 0000
-    c0000201
 # frame 2: positive rank 1 at 100 for 300: example.com. A 192.0.2.1
 older: 4447 02 0001 03 01 0000000000000064 0000012c example.com 0001 0001 0004 c0000201
 # frame 2: positive rank 1 at 200 for 10: example.com. A 192.0.2.2
@@ -80,6 +75,8 @@ newer: 4447 02 0001 03 01 00000000000000c8 0000000a example.com 0001 0001 0004 c
 #   example.com. A 192.0.2.1
 both: 4447 02 0002 03 01 00000000000000c8 0000000a example.com 0001 0001 0004 c0000202 03 01 \
     0000000000000064 0000012c example.com 0001 0001 0004 c0000201
+# frame 2: positive rank 1 at 100 for 300: example.org. A 192.0.2.9
+held: 4447 02 0001 03 01 0000000000000064 0000012c example.org 0001 0001 0004 c0000209
 # frame 1: positive rank 1 at 100 for 300: example.com. A 192.0.2.1
 first-older: 4447 01 0001 03 01 0000000000000064 0000012c example.com 0001 0001 0004 c0000201
 # frame 2: positive rank 1 at 100 for 300: example.com. TXT \\# 8188 61..; positive rank 1 at 100
