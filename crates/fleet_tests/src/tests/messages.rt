@@ -75,8 +75,6 @@ newer: 4447 02 0001 03 01 00000000000000c8 0000000a example.com 0001 0001 0004 c
 #   example.com. A 192.0.2.1
 both: 4447 02 0002 03 01 00000000000000c8 0000000a example.com 0001 0001 0004 c0000202 03 01 \
     0000000000000064 0000012c example.com 0001 0001 0004 c0000201
-# frame 2: positive rank 1 at 100 for 300: example.org. A 192.0.2.9
-held: 4447 02 0001 03 01 0000000000000064 0000012c example.org 0001 0001 0004 c0000209
 # frame 1: positive rank 1 at 100 for 300: example.com. A 192.0.2.1
 first-older: 4447 01 0001 03 01 0000000000000064 0000012c example.com 0001 0001 0004 c0000201
 # frame 2: positive rank 1 at 100 for 300: example.com. TXT \\# 8188 61..; positive rank 1 at 100
