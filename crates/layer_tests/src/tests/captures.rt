@@ -1,6 +1,6 @@
 //! Messages of servers, and one of each kind that is read or refused.
 
-use crate::tests::in_place::{check_in_place, written_twice};
+use crate::tests::in_place::written_twice;
 use crate::tests::rows::{Words, octets_of, push_octets};
 use crate::tests::tables::{check_rows, rows_of};
 use fleet_wire::{
@@ -455,7 +455,6 @@ pub(crate) fn show_asked(
     output: &mut String,
 ) {
     let message = words.octets(rt, alloc);
-    check_in_place(rt, alloc, message.as_slice());
     let (header, question) = read_query(alloc, message.as_slice()).expect(rt, "a question");
     write!(output, "{} ", header.id).expect(rt, "memory");
     push_question(rt, alloc, &question, output);

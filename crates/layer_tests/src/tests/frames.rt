@@ -189,12 +189,17 @@ fn read_both(rt: &impl Abort, alloc: Global, full: &[u8], last: &[u8]) -> Vec<Ob
     all
 }
 
+/// A frame has these octets.
+fn check_at(rt: &impl Abort, frames: &[Octets], at: usize, wanted: &[u8]) {
+    let frame = frames.get(at).expect(rt, "a frame");
+    assert!(rt; frame.as_slice() == wanted);
+}
+
 /// Compares frames with these two.
 fn check_both(rt: &impl Abort, frames: &[Octets], full: &[u8], last: &[u8]) {
-    let [first, second] = frames else {
-        panic!(rt; "not two frames");
-    };
-    assert!(rt; first.as_slice() == full && second.as_slice() == last);
+    assert_eq!(rt; frames.len(), 2);
+    check_at(rt, frames, 0, full);
+    check_at(rt, frames, 1, last)
 }
 
 #[test]

@@ -3,36 +3,10 @@
 use crate::tests::rows::{Words, push_octets};
 use crate::tests::tables::check_rows;
 use fleet_wire::{
-    LentQuestion, Outline, Question, read_plain_query, read_query, write_reply, write_reply_into,
+    LentQuestion, Outline, Question, read_plain_query, write_reply, write_reply_into,
 };
 use std::alloc::Global;
 use std::process::Abort;
-
-/// Whether a question that is read in place is the one that is read otherwise: the message has one,
-/// whose name is in full and in lower case behind the header.
-pub(crate) fn check_in_place(rt: &impl Abort, alloc: Global, message: &[u8]) {
-    match (read_plain_query(message), read_query(alloc, message)) {
-        (None, Err(_)) => (),
-        (Some((header, plain)), Ok((other, question))) => {
-            let lent = question.lend();
-            let is_same = header == other
-                && plain.name() == question.spelled.as_slice()
-                && plain.name() == lent.name()
-                && (plain.rtype(), plain.class()) == (lent.rtype(), lent.class());
-            if !is_same {
-                panic!(rt; "another question");
-            }
-        }
-        (None, Ok((_, question))) => {
-            let name = question.name.octets();
-            let is_plain = message[12..].starts_with(name);
-            if is_plain {
-                panic!(rt; "a plain question was not read");
-            }
-        }
-        (Some(_), Err(_)) => panic!(rt; "what is no question was read"),
-    }
-}
 
 /// A reply, written for itself and into a buffer that holds other octets.
 pub(crate) fn written_twice(rt: &impl Abort, alloc: Global, outline: &Outline) -> Vec<u8> {
