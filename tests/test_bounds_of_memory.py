@@ -1,13 +1,16 @@
 """Memory that comes back: scripts that take more in than a limit of the system has room for, while
 all of it ends a moment later."""
 
+import resource
+
 from support.checks import Case
 from support.messages import entry, frame
 from support.program import Ended, run_with_memory
 from support.transcripts import entries_line, text_of
 
-# How many pages a script gets. What these scripts take in needs more where nothing ends.
-PAGES = 2000
+# How many pages a script gets: those of 8 MiB. What these scripts take in needs more than twice as many
+# where nothing ends, and some 80 of 4 KiB where all of it does.
+PAGES = (8 << 20) // resource.getpagesize()
 
 # A name of 255 octets in 127 labels, that comes before each other one.
 LONGEST_NAME = bytes([1, 0]) * 127 + b"\0"

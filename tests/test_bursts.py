@@ -7,7 +7,7 @@ import time
 from support.checks import Case
 from support.messages import FRAME_HEADER_LENGTH, NO_ERROR, NS, REFUSED, TXT, code_of, entry, frame
 from support.messages import question, record, reply_to
-from support.sessions import ELSEWHERE, LONGEST_DATAGRAM, TRIES, WIDTH, arrival, ask_until_known
+from support.sessions import ELSEWHERE, LONGEST_DATAGRAM, TRIES, arrival, ask_until_known
 from support.sessions import ask_upstream, configuration, open_socket, port_of, room_for, serving_one, waiting
 from support.sessions import with_neighbours
 from support.streams import go_on, stop
@@ -23,6 +23,9 @@ ROOM = 1 << 22
 # longer than one.
 LONG_NAME = ".".join([letter * 40 for letter in "abc"])
 LONG_RECORDS = [record(NS, b"\1" + letter.encode() + b"\xc0\x0c") for letter in "vwxyz"]
+
+# How many replies come before the frames of the first one are looked at. A socket has room for as many.
+LAG = 50
 
 # How many frames a sweep of these sessions has, and how many octets the data in each has: two of
 # them don't go into one frame.
@@ -158,19 +161,29 @@ class Leaving(Case):
             self.check_counts(site.counts(), lost=0, faults=0, refused=0, short=0)
 
     def test_many(self):
-        """4000 frames leave two a millisecond: in two seconds, and not in none or in twenty more"""
+        """4000 frames leave two a millisecond: in two seconds or more, and once 16 of them within 40 milliseconds"""
         asked, peers = 250, 16
         with contextlib.ExitStack() as stack:
-            upstream, client, *others, last = [stack.enter_context(open_socket(ROOM)) for _ in range(2 + peers)]
-            places = [port_of(one) for one in (*others, last)]
+            upstream, client = [stack.enter_context(open_socket()) for _ in range(2)]
+            first, *others, last = [stack.enter_context(open_socket(stamped=True)) for _ in range(peers)]
+            places = [port_of(one) for one in (first, *others, last)]
             site = stack.enter_context(serving_one(lambda port: configuration(port, [port_of(upstream)], places, 0)))
-            begun = time.monotonic()
-            for number in range(asked):
-                ask_upstream(site, client, upstream, question(number, f"{number}.{LONG_NAME}", NS), *LONG_RECORDS)
-            frames = [last.recv(LONGEST_DATAGRAM) for _ in range(asked)]
+            begun, begins, ends = time.monotonic(), [], []
+            for number in range(asked + LAG):
+                if number < asked:
+                    name = f"{number}.{LONG_NAME}"
+                    ask_upstream(site, client, upstream, question(number, name, NS), *LONG_RECORDS)
+                if number >= LAG:
+                    begins.append(arrival(first))
+                    ends.append(arrival(last))
             lasted = time.monotonic() - begun
-            self.check_true(all(len(octets) > LONGEST_MESSAGE for octets in frames), "long frames", frames[0])
-            self.check_true(1.9 < lasted < 1.9 + WIDTH, f"more than 1.9 seconds, and less than {WIDTH} more", lasted)
+            self.check_equal([octets for _, octets in ends], [octets for _, octets in begins])
+            self.check_true(all(len(octets) > LONGEST_MESSAGE for _, octets in ends), "long frames", ends[0])
+            self.check_true(lasted > 1.9, "more than 1.9 seconds", lasted)
+            # A frame has seven pauses between the first peer and the last one. However busy the machine is,
+            # one of 250 takes no longer than these and some more.
+            least = min(end - begin for (begin, _), (end, _) in zip(begins, ends)) / 1_000_000
+            self.check_true(least < 40, "less than 40 milliseconds from the first peer to the last", least)
             self.check_counts(site.counts(), lost=0, faults=0, short=0)
 
     def test_messages_overtake(self):

@@ -7,14 +7,10 @@ import time
 from support.checks import Case
 from support.messages import HEADER_LENGTH, entry, event_octets, example, frame, name_of, question
 from support.randoms import identifiers
-from support.sessions import ELSEWHERE, KEY, LONGEST_DATAGRAM, arrival, ask_until_known, ask_upstream
-from support.sessions import configuration, open_socket, port_of, report_of, serving, serving_one, waiting
+from support.sessions import ELSEWHERE, KEY, LONGEST_DATAGRAM, WIDTH, arrival, ask_until_known, ask_upstream
+from support.sessions import configuration, open_socket, port_of, serving, serving_one, waiting
 from support.sessions import with_neighbours
 from support.streams import PATIENCE, go_on, stop
-
-# How many seconds a test may take between what is learnt and what is asked, and longer than the
-# least time of what it waits for.
-WIDTH = 20
 
 # Where the TTL is in the reply with one address of example.com.
 TTL = slice(46, 50)
@@ -213,20 +209,6 @@ class Datagrams(Case):
                 site.bring(client, example("question").ljust(512, b"\0"))
                 self.check_equal(upstream.recv(LONGEST_DATAGRAM)[2:], example("question")[2:])
                 self.check_counts(site.counts(), lost=0, faults=0, refused=2, short=0)
-
-
-class Turns(Case):
-    """How long turns last."""
-
-    def test_wait(self):
-        """a turn waits for a fifth of a second where nothing comes: 105 of them take 21 seconds"""
-        begun = time.monotonic()
-        with serving_one(lambda port: configuration(port, [5301]), turns=105) as site:
-            ended = site.end()
-        lasted = time.monotonic() - begun
-        self.check_true(20.9 < lasted < 21 + WIDTH, f"from 20.9 to {21 + WIDTH} seconds", lasted)
-        zero = {name: 0 for name in ("received", "sent", "lost", "faults", "refused", "short")}
-        self.check_equal(report_of(ended.output), {"turns": 105, **zero})
 
 
 class Sweeps(Case):
