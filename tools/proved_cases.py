@@ -31,7 +31,7 @@ def failed_cases(program, cases):
     """Those of the cases that fail with a program, and the last line of the run."""
     words = [word for case in cases for word in ("-k", case)]
     ran = subprocess.run([RUNNER, "--program", program, *words], capture_output=True, text=True, errors="replace")
-    failed = set(re.findall(r"^FAILED ([\w.]+):", ran.stdout, re.M))
+    failed = set(re.findall(r"^FAILED ([\w.]+)", ran.stdout, re.M))
     return failed & set(cases), (ran.stdout.strip().splitlines() or [""])[-1]
 
 
