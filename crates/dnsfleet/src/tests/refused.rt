@@ -12,10 +12,10 @@ const MANY: u64 = 65536;
 /// The part of a transcript before the line with this number.
 fn before_line<'a>(rt: &impl Abort, transcript: &'a str, number: u64) -> &'a str {
     let mut end = 0usize;
-    let mut next = 0;
+    let mut next = 0u64;
     for line in transcript.split_inclusive('\n') {
         if line.starts_with("> ") {
-            next += 1;
+            next = next.saturating_add(1);
         }
         if next < number {
             end = end.saturating_add(line.len());
