@@ -154,10 +154,10 @@ class BoundsOfTurns(Case):
         self.fail(f"wanted: {len(brought)} datagrams within {LATE} seconds\ncame:   each time later")
 
     def test_without_a_datagram(self):
-        """each of 105 turns lasts a fifth of a second where nothing comes, and not two fifths"""
-        counts = self.check_lasting(105, [], [], 105 * 0.2 - 0.1)
+        """each of 55 turns lasts a fifth of a second where nothing comes, and not three fifths"""
+        counts = self.check_lasting(55, [], [], 55 * 0.2 - 0.1)
         zero = {name: 0 for name in ("received", "sent", "lost", "faults", "refused", "short")}
-        self.check_equal(counts, {"turns": 105, **zero})
+        self.check_equal(counts, {"turns": 55, **zero})
 
     def test_behind_a_long_datagram(self):
         """behind a datagram of 600 octets each of 24 turns still lasts a fifth of a second"""

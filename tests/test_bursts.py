@@ -181,8 +181,8 @@ class Leaving(Case):
             self.check_true(all(len(octets) > LONGEST_MESSAGE for _, octets in ends), "long frames", ends[0])
             self.check_true(lasted > 1.9, "more than 1.9 seconds", lasted)
             # A frame has seven pauses between the first peer and the last one. However busy the machine is,
-            # one of 250 takes no longer than these and some more.
-            least = min(end - begin for (begin, _), (end, _) in zip(begins, ends)) / 1_000_000
+            # one of 200 takes no longer than these and some more. The system may stamp the first ones later.
+            least = min(end - begin for (begin, _), (end, _) in zip(begins[LAG:], ends[LAG:])) / 1_000_000
             self.check_true(least < 40, "less than 40 milliseconds from the first peer to the last", least)
             self.check_counts(site.counts(), lost=0, faults=0, short=0)
 
