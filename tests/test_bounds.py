@@ -2,38 +2,11 @@
 follows, how long an upstream has, and what goes when items end or are withdrawn."""
 
 from support.checks import add_cases
-from support.messages import (
-    A,
-    AAAA,
-    ADDRESS,
-    ANSWERED,
-    AUTHORITATIVE,
-    CNAME,
-    NAME_ERROR,
-    SERVER_FAILURE,
-    SOA,
-    body_of,
-    denial_body,
-    entry,
-    flush,
-    name_of,
-    question,
-    record,
-    reply_to,
-    response,
-    soa,
-)
-from support.transcripts import (
-    ScriptCase,
-    answered,
-    ask_line,
-    datagram_line,
-    entries_line,
-    held,
-    kept,
-    learn_line,
-    sent,
-)
+from support.messages import A, AAAA, ADDRESS, ANSWERED, AUTHORITATIVE, CNAME, NAME_ERROR, SERVER_FAILURE
+from support.messages import SOA, body_of, denial_body, entry, flush, name_of, question, record, reply_to
+from support.messages import response, soa
+from support.transcripts import ScriptCase, answered, ask_line, datagram_line, entries_line, held, kept
+from support.transcripts import learn_line, sent
 
 NAME = "example.com"
 QUESTION = question(7, NAME)

@@ -2,40 +2,11 @@
 names that are shown as they are, and the forms of data with names."""
 
 from support.checks import add_cases
-from support.messages import (
-    A,
-    AAAA,
-    ADDRESS,
-    ANSWERED,
-    CNAME,
-    NAME_ERROR,
-    NS,
-    SOA,
-    TXT,
-    any_entry,
-    body_of,
-    denial_body,
-    entry,
-    flush,
-    frame,
-    name_of,
-    no_data,
-    no_name,
-    question,
-    record,
-    response,
-    soa,
-)
-from support.transcripts import (
-    ScriptCase,
-    answered,
-    ask_line,
-    datagram_line,
-    entries_line,
-    frame_line,
-    held,
-    kept,
-)
+from support.messages import A, AAAA, ADDRESS, ANSWERED, CNAME, NAME_ERROR, NS, SOA, TXT, any_entry, body_of
+from support.messages import denial_body, entry, flush, frame, name_of, no_data, no_name, question, record
+from support.messages import response, soa
+from support.transcripts import ScriptCase, answered, ask_line, datagram_line, entries_line, frame_line
+from support.transcripts import held, kept
 
 NAME, OTHER = "example.com", "example.org"
 

@@ -2,45 +2,12 @@
 name ends, and ranks of what a reply says."""
 
 from support.checks import add_cases
-from support.messages import (
-    A,
-    AAAA,
-    ADDRESS,
-    ANSWERED,
-    AUTHORITATIVE,
-    CNAME,
-    FORMAT_ERROR,
-    NAME_ERROR,
-    NOT_IMPLEMENTED,
-    NS,
-    RECURSION_DESIRED,
-    SOA,
-    TRUNCATED,
-    TXT,
-    body_of,
-    denial_body,
-    entry,
-    flush,
-    header,
-    name_of,
-    no_data,
-    question,
-    record,
-    reply_to,
-    response,
-    soa,
-)
-from support.transcripts import (
-    ScriptCase,
-    answered,
-    ask_line,
-    datagram_line,
-    entries_line,
-    held,
-    kept,
-    learn_line,
-    sent,
-)
+from support.messages import A, AAAA, ADDRESS, ANSWERED, AUTHORITATIVE, CNAME, FORMAT_ERROR, NAME_ERROR
+from support.messages import NOT_IMPLEMENTED, NS, RECURSION_DESIRED, SOA, TRUNCATED, TXT, body_of
+from support.messages import denial_body, entry, flush, header, name_of, no_data, question, record, reply_to
+from support.messages import response, soa
+from support.transcripts import ScriptCase, answered, ask_line, datagram_line, entries_line, held, kept
+from support.transcripts import learn_line, sent
 
 NAME = "example.com"
 QUESTION = question(7, NAME)

@@ -3,17 +3,8 @@ words of 16 bits, addresses."""
 
 from support.checks import add_cases
 from support.messages import A, ADDRESS, body_of, entry, flush, frame, question, record, reply_to, response
-from support.transcripts import (
-    ScriptCase,
-    answered,
-    ask_line,
-    datagram_line,
-    entries_line,
-    held,
-    kept,
-    learn_line,
-    sent,
-)
+from support.transcripts import ScriptCase, answered, ask_line, datagram_line, entries_line, held, kept
+from support.transcripts import learn_line, sent
 
 NAME = "example.com"
 QUESTION = question(7, NAME)

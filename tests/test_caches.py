@@ -15,18 +15,8 @@ sites, the one at hand first, and behind `=>` what comes of it:
 """
 
 from support.checks import Case, add_cases, parts_of
-from support.messages import (
-    CNAME,
-    NAME_ERROR,
-    any_entry,
-    body_of,
-    code_of,
-    denial_body,
-    frame,
-    name_of,
-    question,
-    soa,
-)
+from support.messages import CNAME, NAME_ERROR, any_entry, body_of, code_of, denial_body, frame, name_of
+from support.messages import question, soa
 from support.reading import sections_of
 from support.rows import name_in, observation_of, octets_in, row_of, rows_in
 from support.scripts import script_of
