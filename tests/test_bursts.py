@@ -92,6 +92,7 @@ class Arriving(Case):
                 site.bring(peer, octets + longer)
             site.bring(peer, octets)
             swept = peer.recv(LONGEST_DATAGRAM)
+            self.check_equal(len(swept), LONGEST_FRAME, "octets of the sweep")
             self.check_equal(swept[:FRAME_HEADER_LENGTH], octets[:FRAME_HEADER_LENGTH])
             wanted = sorted(entries, key=name_in)
             self.check_equal(split_entries(swept), wanted, "the entries of the sweep")
