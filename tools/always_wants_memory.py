@@ -36,9 +36,15 @@ FAULTS = {
 }
 
 
-# `serve` has no such answer, and counts each step as short.
+# `serve` has no such answer, and counts each step as short. A text that is too long is reported before any allocation: a clause
+# of `read_settings` says so.
 IN_PLACE_OF = {
-    "serve": ("server.rt", "carry_out", "report.count_short(); return false;"),
+    "serve": ("server.rt", "carry_out", "if true { report.count_short(); return false; }"),
+    "read_settings": (
+        "settings.rt",
+        "read_settings",
+        "if octets.len() <= LONGEST_CONFIGURATION { return Err(SettingsFault::OutOfMemory); }",
+    ),
 }
 
 
@@ -63,8 +69,8 @@ def edited(folder, call):
             continue
         end, head = found
         fault = re.findall(rf"\b({'|'.join(FAULTS)})\b", head.split("->", 1)[1]) + [""]
-        body = body or f"return Err({FAULTS[fault[0]]});"
-        file.write_text(f"{text[:end]}\n    if true {{ {body} }}{text[end:]}")
+        body = body or f"if true {{ return Err({FAULTS[fault[0]]}); }}"
+        file.write_text(f"{text[:end]}\n    {body}{text[end:]}")
         return True
     return False
 
