@@ -8,7 +8,7 @@ the version that is written. Lines that begin with `#` say what is in the row be
 """
 
 from support.checks import Case, add_cases, parts_of
-from support.messages import OTHERS, denial_body, entry, frame, no_name, soa
+from support.messages import OTHERS, denial_body, entry, flush, frame, name_of, no_name, soa
 from support.rows import octets_in, row_of, rows_in
 from support.scripts import script_of
 
@@ -102,3 +102,23 @@ class Frames(Case):
 
 
 add_cases(Frames, [(shows, rows_in(text)) for shows, text in parts_of("frames.txt")])
+
+
+# As many frames are made before the first is delivered.
+MANY = 1100
+
+
+class KeptFrames(Case):
+    """Frames that a fleet keeps, so that each can be delivered."""
+
+    def test_many(self):
+        """each of 1100 frames is kept, and comes to another site"""
+        with script_of(2) as script:
+            for number in range(MANY):
+                name = f"{number}.com"
+                made = frame([flush(name, 120)])
+                printed = script.do(f"flush 0 120 {name_of(name).hex()}")
+                self.check_equal(printed, [f"frame {number} {made.hex()}", "taken 1"])
+            for number in range(MANY):
+                self.check_equal(script.do(f"deliver 1 120 {number}"), ["taken 1"])
+            self.check_equal(script.do("same 0 1"), ["same"])

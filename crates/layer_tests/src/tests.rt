@@ -3,9 +3,9 @@
 //! `messages` has the octets that more than one row is about, by their names. `rows`, `tables`,
 //! `calls` and `observations` read rows, make their calls and compare their output. Each other file
 //! has tests: of names and octets; of lists of items; of messages that servers sent (`captures`) and
-//! that are read in place; of what replies say, and of observations that are made (`bodies` has
-//! those behind other octets); of fronts; of caches and the memory that purges give back; of
-//! frames, and frames that are taken; of open questions.
+//! that are read in place; of observations that are made (`bodies` has those behind other octets);
+//! of fronts; of caches and the memory that purges give back; of frames that are taken; of open
+//! questions.
 //!
 //! What a script shows of these is tried from outside, by `tests/run` at the top of the repository.
 
@@ -13,7 +13,6 @@ mod bodies;
 mod caches;
 mod calls;
 mod captures;
-mod frames;
 mod fronts;
 mod in_place;
 mod items;
@@ -24,7 +23,6 @@ mod observations;
 mod purges;
 mod questions;
 mod reclaims;
-mod replies;
 mod rows;
 mod tables;
 mod taken;

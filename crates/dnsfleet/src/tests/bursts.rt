@@ -51,22 +51,32 @@ fn handed_on<C: time::Clock, A: Allocator + Copy>(
     panic!(rt; "no end")
 }
 
-/// What waits is bounded: what comes beyond is dropped, of each kind by itself.
-#[test]
-fn keeps_what_has_room_and_no_more(rt: HostRuntime) {
-    let mut inbox = Inbox::new(rt.alloc());
-    let from = loopback(1);
-    let octets = [7u8; FRAME];
+/// Keeps as many frames as there is room for, and sees that there is none for another.
+fn fill(rt: &impl Abort, inbox: &mut Inbox, from: Addr, octets: &[u8]) {
     for _ in 0..4095u32 {
-        assert!(rt; matches!(inbox.keep(from, &octets), Ok(true)));
+        assert!(rt; matches!(inbox.keep(from, octets), Ok(true)));
     }
-    assert!(rt; matches!(inbox.keep(from, &octets), Ok(false)));
+    assert!(rt; matches!(inbox.keep(from, octets), Ok(false)));
+}
+
+/// A message has room beside them, and is handed on before them; one that is handed on leaves room
+/// for one.
+fn check_full(rt: &impl Abort, inbox: &mut Inbox, from: Addr, octets: &[u8]) {
     assert!(rt; matches!(inbox.keep(from, b"x"), Ok(true)));
     let mut buffer: Buffer = [0; FRAME + 1];
     assert_eq!(rt; inbox.hand_on(&mut buffer), Some((from, 1)));
     assert_eq!(rt; inbox.hand_on(&mut buffer), Some((from, FRAME)));
-    assert!(rt; matches!(inbox.keep(from, &octets), Ok(true)));
-    assert!(rt; matches!(inbox.keep(from, &octets), Ok(false)));
+    assert!(rt; matches!(inbox.keep(from, octets), Ok(true)));
+    assert!(rt; matches!(inbox.keep(from, octets), Ok(false)));
+}
+
+/// What waits is bounded: what comes beyond is dropped, of each kind by itself.
+#[test]
+fn keeps_what_has_room_and_no_more(rt: HostRuntime) {
+    let mut inbox = Inbox::new(rt.alloc());
+    let octets = [7u8; FRAME];
+    fill(&rt, &mut inbox, loopback(1), &octets);
+    check_full(&rt, &mut inbox, loopback(1), &octets);
 }
 
 /// The marks of a port to which three frames and a message come.
@@ -97,13 +107,18 @@ fn check_refused(stop: &impl Abort, rt: &HostRuntime, call: u64) -> bool {
     refusing.has_refused()
 }
 
-#[test]
-fn drops_a_datagram_that_has_no_memory(rt: HostRuntime) {
+/// Does so with each call refused in turn, until one is not made.
+fn refuse_each(stop: &impl Abort, rt: &HostRuntime) {
     for call in 1..100u64 {
-        if !check_refused(&rt, &rt, call) {
-            assert!(rt; call > 4);
+        if !check_refused(stop, rt, call) {
+            assert!(stop; call > 4);
             return;
         }
     }
-    panic!(rt; "no end");
+    panic!(stop; "no end");
+}
+
+#[test]
+fn drops_a_datagram_that_has_no_memory(rt: HostRuntime) {
+    refuse_each(&rt, &rt)
 }

@@ -54,6 +54,16 @@ pub fn receive(rt: &impl Abort, alloc: Global, socket: &UdpSocket) -> Vec<u8> {
     Vec::from_slice(alloc, &buffer[..len]).expect(rt, "memory")
 }
 
+/// A site with one upstream and one peer.
+fn site_with(rt: &impl Abort, alloc: Global, upstream: Addr, peer: Addr) -> Site {
+    let upstreams = Vec::from_slice(alloc, &[upstream]).expect(rt, "memory");
+    let peers = Vec::from_slice(alloc, &[peer]).expect(rt, "memory");
+    Site::new(
+        alloc,
+        Config::new(upstreams, peers).expect(rt, "a configuration"),
+    )
+}
+
 /// A site on a socket.
 #[derive(Drop)]
 struct Served<'a> {
@@ -61,24 +71,7 @@ struct Served<'a> {
     site: Site,
 }
 
-impl<'a> Served<'a> {
-    /// A site with one upstream and one peer.
-    fn new(
-        rt: &impl Abort,
-        alloc: Global,
-        port: UdpPort<'a, HostRuntime>,
-        upstream: Addr,
-        peer: Addr,
-    ) -> Served<'a> {
-        let upstreams = Vec::from_slice(alloc, &[upstream]).expect(rt, "memory");
-        let peers = Vec::from_slice(alloc, &[peer]).expect(rt, "memory");
-        let site = Site::new(
-            alloc,
-            Config::new(upstreams, peers).expect(rt, "a configuration"),
-        );
-        Served { port, site }
-    }
-
+impl Served<'_> {
     /// Serves two turns: the datagram that is there, and none. So many packets are sent.
     fn serve<R: Abort + time::Clock>(&mut self, rt: &R, sent: u64) {
         let mut clock = SystemClock::new(rt);
@@ -107,8 +100,14 @@ fn open_sites<'a>(
     let first = UdpPort::bind(rt, rt, rt.alloc(), loopback(0)).expect(stop, "a port");
     let second = UdpPort::bind(rt, rt, rt.alloc(), loopback(0)).expect(stop, "a port");
     let (here, there) = (first.address(), second.address());
-    let first = Served::new(stop, rt.alloc(), first, upstream, there);
-    let second = Served::new(stop, rt.alloc(), second, upstream, here);
+    let first = Served {
+        port: first,
+        site: site_with(stop, rt.alloc(), upstream, there),
+    };
+    let second = Served {
+        port: second,
+        site: site_with(stop, rt.alloc(), upstream, here),
+    };
     (first, second)
 }
 

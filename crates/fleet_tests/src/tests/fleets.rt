@@ -315,28 +315,15 @@ pub fn line_of<'a>(rt: &impl Abort, row: &'a str) -> &'a str {
 }
 
 /// Does what a row says, which needs memory that is there, and compares what it gives.
+///
+/// A row is an event with its site and its moment, and behind `=>` what `show_stepped` says of it;
+/// or `ask` with a site, a moment and a question, and the answer; `kept` with a number, and the
+/// frame; `site`, and what `show_site` says of it; `same`, and whether two sites hold the same.
 pub fn check_row<A: Allocator + Copy>(rt: &impl Abort, alloc: A, world: &mut World<A>, row: &str) {
     let mut output = String::new(alloc);
     let ended = show_line(rt, &mut output, world, line_of(rt, row));
     assert_eq!(rt; ended, Ended::Done, "{row}");
     check_output(rt, alloc, output.as_str(), row)
-}
-
-/// Does what rows say, one after the other, and compares what each gives.
-///
-/// A row is an event with its site and its moment, and behind `=>` what `show_stepped` says of it;
-/// or `ask` with a site, a moment and a question, and the answer; `kept` with a number, and the
-/// frame; `site`, and what `show_site` says of it; `same`, and whether two sites hold the same.
-pub fn check_rows(rt: &impl Abort, alloc: Global, world: &mut World, rows: &str) {
-    for row in rows.lines() {
-        check_row(rt, alloc, world, row);
-    }
-}
-
-/// The same, in a new world of this number of sites, without peers.
-pub fn check_new(rt: &impl Abort, alloc: Global, sites: usize, rows: &str) {
-    let mut world = fleet(rt, alloc, sites, &[]);
-    check_rows(rt, alloc, &mut world, rows)
 }
 
 /// The rows of a text.
@@ -380,15 +367,5 @@ pub fn check_all<A: Allocator + Copy>(
     assert_eq!(rt; all.len(), rows.len());
     for (stepped, row) in all.iter().zip(rows) {
         check_stepped(rt, alloc, stepped, row);
-    }
-}
-
-/// Runs the events of rows in one go, and compares what each did.
-pub fn check_run(rt: &impl Abort, alloc: Global, world: &mut World, text: &str) {
-    let rows = rows_of(rt, alloc, text);
-    let events = events_of(rt, alloc, &rows);
-    match world.run(&events) {
-        Ok(all) => check_all(rt, alloc, &all, &rows),
-        Err(halted) => panic!(rt; "{halted}"),
     }
 }

@@ -2,8 +2,8 @@
 
 ghost use Rattle.rand_core.specs.Steps.{stream_of, steps_u32};
 
-use crate::tests::octets::{octets, spelt_out};
-use crate::tests::sites::{addr, check_rows, moment, new_site, number, show_packet};
+use crate::tests::octets::octets;
+use crate::tests::sites::{addr, at, config, number};
 use fleet_name::Octets;
 use fleet_pending::Addr;
 use fleet_site::{ListClock, MemoryPort, Note, Port, Report, Site, serve};
@@ -42,50 +42,30 @@ impl Rng for OneWord {
 }
 
 /// A clock that gives these moments.
-fn clock(rt: &impl Abort, alloc: Global, seconds: &str) -> ListClock {
+fn clock(rt: &impl Abort, alloc: Global, seconds: &[u16]) -> ListClock {
     let mut moments = Vec::new(alloc);
-    for second in seconds.split(' ') {
-        moments.push(moment(rt, second)).expect(rt, "memory");
+    for second in seconds {
+        moments.push(at(rt, *second)).expect(rt, "memory");
     }
     ListClock::new(moments)
 }
 
-/// A port at which the octets of these names arrive from another port, and which fails at one call.
-fn port_with(
-    rt: &impl Abort,
-    alloc: Global,
-    from: u16,
-    names: &str,
-    fail_at: Option<u64>,
-) -> MemoryPort {
+/// A port at which a question arrives, and which fails at one call.
+fn port_with(rt: &impl Abort, alloc: Global, fail_at: Option<u64>) -> MemoryPort {
     let mut arrivals = Vec::new(alloc);
-    for name in names.split(' ') {
-        arrivals
-            .push(Some((addr(from), octets(rt, alloc, name))))
-            .expect(rt, "memory");
-    }
+    arrivals
+        .push(Some((addr(6001), octets(rt, alloc, "question"))))
+        .expect(rt, "memory");
     MemoryPort::new(alloc, arrivals, fail_at)
 }
 
-/// A number of turns of a site, whose clock gives these moments, with a sweep after these seconds.
-fn serve_turns(
-    rt: &impl Abort,
-    alloc: Global,
-    port: &mut MemoryPort,
-    site: &mut Site,
-    seconds: &str,
-    turns: u32,
-    sweep: u32,
-) -> Report {
-    let mut clock = clock(rt, alloc, seconds);
-    let mut words = OneWord(0xabcd_1234);
-    serve(port, &mut clock, &mut words, site, turns, sweep)
-}
-
-/// A number of turns from the moment 100 on, two seconds each, without sweeps.
+/// A number of turns from the moment 100 on, two seconds each, without sweeps, of a site that has
+/// two upstreams.
 fn run(rt: &impl Abort, alloc: Global, port: &mut MemoryPort, turns: u32) -> Report {
-    let mut site = new_site(rt, alloc, &[addr(5401), addr(5402)]);
-    serve_turns(rt, alloc, port, &mut site, "100 102 104", turns, 0)
+    let mut site = Site::new(alloc, config(rt, alloc, &[]));
+    let mut clock = clock(rt, alloc, &[100, 102, 104]);
+    let mut words = OneWord(0xabcd_1234);
+    serve(port, &mut clock, &mut words, &mut site, turns, 0)
 }
 
 /// Compares a report with its counts: turns, datagrams received, packets sent, packets lost,
@@ -106,84 +86,64 @@ fn check_report(rt: &impl Abort, alloc: Global, report: Report, counts: &str) {
     assert_eq!(rt; output.as_str(), counts);
 }
 
-/// Adds how a call of a port ended, with where a packet came from or went, and its octets.
-fn show_moved(rt: &impl Abort, output: &mut String, end: &str, addr: Addr, octets: &Octets) {
-    output.push_str(end).expect(rt, "memory");
-    show_packet(rt, output, addr, octets.as_slice())
+/// Whether a datagram has this other address, and these octets: a port and a name, as words.
+fn is_moved(rt: &impl Abort, alloc: Global, other: Addr, bytes: &Octets, words: &str) -> bool {
+    let (port, name) = words.split_once(' ').expect(rt, "a name");
+    other == addr(number(rt, port)) && bytes.as_slice() == octets(rt, alloc, name).as_slice()
 }
 
-/// Adds a call of a port, and how it ended.
-fn show_note(rt: &impl Abort, output: &mut String, note: &Note) {
+/// Whether a call of a port ended as words say: how, and of a datagram the port of its other
+/// address, and its octets by name.
+fn has_ended(rt: &impl Abort, alloc: Global, note: &Note, words: &str) -> bool {
+    let (end, moved) = words.split_once(' ').unwrap_or((words, ""));
     match note {
-        Note::Received(_, from, octets) => show_moved(rt, output, " received", *from, octets),
-        Note::NoDatagram(_) => output.push_str(" nothing").expect(rt, "memory"),
-        Note::Fault(_) => output.push_str(" fault").expect(rt, "memory"),
-        Note::Sent(to, octets) => show_moved(rt, output, " sent", *to, octets),
-        Note::Lost(to, octets) => show_moved(rt, output, " lost", *to, octets),
+        Note::Received(_, from, bytes) => {
+            end == "received" && is_moved(rt, alloc, *from, bytes, moved)
+        }
+        Note::NoDatagram(_) => end == "nothing",
+        Note::Fault(_) => end == "fault",
+        Note::Sent(to, bytes) => end == "sent" && is_moved(rt, alloc, *to, bytes, moved),
+        Note::Lost(to, bytes) => end == "lost" && is_moved(rt, alloc, *to, bytes, moved),
     }
 }
 
 /// Compares the first six calls of a port, and how they ended.
 fn check_notes(rt: &impl Abort, alloc: Global, port: &MemoryPort, wanted: &str) {
-    let mut output = String::new(alloc);
-    for note in port.notes().unwrap_or(&[]).iter().take(6) {
-        show_note(rt, &mut output, note);
+    let notes = port.notes().expect(rt, "a record");
+    let mut count = 0usize;
+    for words in wanted.split(", ") {
+        let note = notes.get(count).expect(rt, "a call");
+        assert!(rt; has_ended(rt, alloc, note, words), "{words}");
+        count = count.saturating_add(1);
     }
-    assert_eq!(rt; output.as_str(), spelt_out(rt, alloc, wanted).as_str());
+    assert_eq!(rt; count, notes.len().min(6));
 }
 
-/// A question goes to each upstream in a number of turns, and fails.
-fn check_turns(rt: &impl Abort, alloc: Global, port: &mut MemoryPort, turns: u32, counts: &str) {
-    check_report(rt, alloc, run(rt, alloc, port, turns), counts);
-    assert_eq!(rt; port.failures(), 0);
-    check_notes(
-        rt,
-        alloc,
-        port,
-        "received 6001 question sent 5301 query nothing sent 5302 query nothing sent 6001 failure",
-    )
-}
-
-/// The same, at a port of its own.
-fn check_port(rt: &impl Abort, alloc: Global, turns: u32, counts: &str) {
-    let mut port = port_with(rt, alloc, 6001, "question", None);
-    check_turns(rt, alloc, &mut port, turns, counts)
-}
-
-#[test]
-fn a_question_goes_to_each_upstream_and_fails(rt: HostRuntime) {
-    check_port(&rt, rt.alloc(), 3, "3 1 3 0 0 0 0");
-    check_port(&rt, rt.alloc(), 300, "300 1 3 0 0 0 0")
-}
-
-/// The call that fails, of three turns in which a question goes to each upstream, the counts of
-/// their report, and the record of the port.
+/// The call that fails, 0 for none, and how many turns there are in which a question goes to each
+/// upstream; the counts of their report; and the record of the port.
 const FAILURES: &str = "\
-1 => 3 1 2 0 1 0 0 : fault received 6001 question sent 5301 query nothing sent 5302 query
-2 => 3 1 2 1 0 0 0 : received 6001 question lost 5301 query nothing sent 5302 query nothing sent 6001 failure
-3 => 3 1 3 0 1 0 0 : received 6001 question sent 5301 query fault sent 5302 query nothing sent 6001 failure
-4 => 3 1 2 1 0 0 0 : received 6001 question sent 5301 query nothing lost 5302 query nothing sent 6001 failure
-5 => 3 1 3 0 1 0 0 : received 6001 question sent 5301 query nothing sent 5302 query fault sent 6001 failure
-6 => 3 1 2 1 0 0 0 : received 6001 question sent 5301 query nothing sent 5302 query nothing lost 6001 failure
-7 => 3 1 3 0 0 0 0 : received 6001 question sent 5301 query nothing sent 5302 query nothing sent 6001 failure
+0 3 => 3 1 3 0 0 0 0 : received 6001 question, sent 5301 query, nothing, sent 5302 query, nothing, sent 6001 failure
+0 300 => 300 1 3 0 0 0 0 : received 6001 question, sent 5301 query, nothing, sent 5302 query, nothing, sent 6001 failure
+1 3 => 3 1 2 0 1 0 0 : fault, received 6001 question, sent 5301 query, nothing, sent 5302 query
+2 3 => 3 1 2 1 0 0 0 : received 6001 question, lost 5301 query, nothing, sent 5302 query, nothing, sent 6001 failure
+3 3 => 3 1 3 0 1 0 0 : received 6001 question, sent 5301 query, fault, sent 5302 query, nothing, sent 6001 failure
+4 3 => 3 1 2 1 0 0 0 : received 6001 question, sent 5301 query, nothing, lost 5302 query, nothing, sent 6001 failure
+5 3 => 3 1 3 0 1 0 0 : received 6001 question, sent 5301 query, nothing, sent 5302 query, fault, sent 6001 failure
+6 3 => 3 1 2 1 0 0 0 : received 6001 question, sent 5301 query, nothing, sent 5302 query, nothing, lost 6001 failure
+7 3 => 3 1 3 0 0 0 0 : received 6001 question, sent 5301 query, nothing, sent 5302 query, nothing, sent 6001 failure
 ";
 
-/// Compares the report of three turns at a port, and its record.
-fn check_failed(rt: &impl Abort, alloc: Global, port: &mut MemoryPort, counts: &str, notes: &str) {
-    let report = run(rt, alloc, port, 3);
+/// Compares the report of turns where a call fails, and the record.
+fn check_failure(rt: &impl Abort, alloc: Global, row: &str) {
+    let (asked, row) = row.split_once(" => ").expect(rt, "counts");
+    let (counts, notes) = row.split_once(" : ").expect(rt, "a record");
+    let (fail_at, turns) = asked.split_once(' ').expect(rt, "turns");
+    let mut port = port_with(rt, alloc, Some(u64::from(number(rt, fail_at))));
+    let report = run(rt, alloc, &mut port, u32::from(number(rt, turns)));
     let failed = report.lost.saturating_add(report.faults);
     assert_eq!(rt; port.failures(), failed, "{counts}");
     check_report(rt, alloc, report, counts);
-    check_notes(rt, alloc, port, notes)
-}
-
-/// Compares the report of three turns where a call fails, and the record.
-fn check_failure(rt: &impl Abort, alloc: Global, row: &str) {
-    let (fail_at, row) = row.split_once(" => ").expect(rt, "counts");
-    let (counts, notes) = row.split_once(" : ").expect(rt, "a record");
-    let fail_at = u64::from(number(rt, fail_at));
-    let mut port = port_with(rt, alloc, 6001, "question", Some(fail_at));
-    check_failed(rt, alloc, &mut port, counts, notes)
+    check_notes(rt, alloc, &port, notes)
 }
 
 #[test]
@@ -193,57 +153,24 @@ fn a_call_that_fails_is_lost_or_a_fault(rt: HostRuntime) {
     }
 }
 
-/// The longest frame is taken, and a longer one refused.
-fn check_longest(rt: &impl Abort, alloc: Global, port: &mut MemoryPort, site: &mut Site) {
-    let report = serve_turns(rt, alloc, port, site, "100", 2, 0);
-    check_report(rt, alloc, report, "2 2 0 0 0 1 0");
-    assert_eq!(rt; site.cache().len(), 2);
-}
-
-#[test]
-fn the_longest_frame_is_taken_and_a_longer_one_refused(rt: HostRuntime) {
-    let mut port = port_with(&rt, rt.alloc(), 5401, "longest-frame two-octets-more", None);
-    let mut site = new_site(&rt, rt.alloc(), &[addr(5401)]);
-    check_longest(&rt, rt.alloc(), &mut port, &mut site)
-}
-
-/// Four turns of a site that holds the observation of a frame, with a sweep every 30 seconds.
+/// Turns of a site that holds the observation of a frame, with a sweep every 30 seconds.
 fn check_sweeps(rt: &impl Abort, alloc: Global, port: &mut MemoryPort, site: &mut Site) {
-    check_rows(rt, alloc, site, "100 frame frame-100 => taken 1");
-    let report = serve_turns(rt, alloc, port, site, "100 129 130 159", 4, 30);
+    let frame = octets(rt, alloc, "frame-100");
+    let outcome = site.frame(at(rt, 100), frame.as_slice());
+    assert_eq!(rt; outcome.expect(rt, "an outcome").taken, 1);
+    let mut clock = clock(rt, alloc, &[100, 129, 130, 159]);
+    let mut words = OneWord(0xabcd_1234);
+    let report = serve(port, &mut clock, &mut words, site, 4, 30);
     check_report(rt, alloc, report, "4 0 2 0 0 0 0");
-    check_notes(
-        rt,
-        alloc,
-        port,
-        "nothing nothing nothing sent 5401 frame-100 sent 5402 frame-100 nothing",
-    )
+    let notes = "nothing, nothing, nothing, sent 5401 frame-100, sent 5402 frame-100, nothing";
+    check_notes(rt, alloc, port, notes)
 }
 
 #[test]
 fn sweeps_go_to_each_peer_in_their_time(rt: HostRuntime) {
     let alloc = rt.alloc();
     let mut port = MemoryPort::new(alloc, Vec::new(alloc), None);
-    let mut site = new_site(&rt, alloc, &[addr(5401), addr(5402)]);
+    let peers = [addr(5401), addr(5402)];
+    let mut site = Site::new(alloc, config(&rt, alloc, &peers));
     check_sweeps(&rt, alloc, &mut port, &mut site)
-}
-
-/// A site that learnt the reply answers at once.
-fn check_hits(rt: &impl Abort, alloc: Global, port: &mut MemoryPort, site: &mut Site) {
-    check_rows(rt, alloc, site, "100 learn reply => taken 1");
-    let report = serve_turns(rt, alloc, port, site, "100 100", 2, 0);
-    check_report(rt, alloc, report, "2 2 2 0 0 0 0");
-    check_notes(
-        rt,
-        alloc,
-        port,
-        "received 6001 question sent 6001 relay received 6001 question-8 sent 6001 relay-8",
-    )
-}
-
-#[test]
-fn a_hit_is_sent(rt: HostRuntime) {
-    let mut port = port_with(&rt, rt.alloc(), 6001, "question question-8", None);
-    let mut site = new_site(&rt, rt.alloc(), &[addr(5401)]);
-    check_hits(&rt, rt.alloc(), &mut port, &mut site)
 }

@@ -3,9 +3,7 @@
 use crate::tests::in_place::written_twice;
 use crate::tests::rows::{Words, octets_of, push_octets};
 use crate::tests::tables::{check_rows, rows_of};
-use fleet_wire::{
-    Message, Outline, Question, ReadFault, Record, plain_rdata, read_query, read_reply, write_query,
-};
+use fleet_wire::{Message, Outline, ReadFault, Record, plain_rdata, read_reply};
 use std::alloc::Global;
 use std::process::Abort;
 
@@ -389,83 +387,6 @@ pub(crate) fn show_rewritten(
 fn reads_each_message(rt: HostRuntime) {
     assert_eq!(rt; rows_of(EXAMPLES), 56);
     check_rows(&rt, rt.alloc(), EXAMPLES);
-}
-
-/// Adds the records of a reply as an outline's, with 50 seconds left and 290.
-fn add_shorter<'a>(rt: &impl Abort, outline: &mut Outline<'a>, reply: &'a Message) {
-    for record in reply.answer() {
-        outline
-            .answer(&record.name, record.rtype, 50, record.rdata.as_slice())
-            .expect(rt, "a record");
-    }
-    for record in reply.authority() {
-        outline
-            .authority(&record.name, record.rtype, 290, record.rdata.as_slice())
-            .expect(rt, "a record");
-    }
-}
-
-/// Adds a reply of these records to a question.
-fn push_shorter(
-    rt: &impl Abort,
-    alloc: Global,
-    reply: &Message,
-    question: &Question,
-    output: &mut String,
-) {
-    let mut outline = Outline::new(alloc, 7, 0, true, 3, false, Some(question));
-    add_shorter(rt, &mut outline, reply);
-    let octets = written_twice(rt, alloc, &outline);
-    push_octets(rt, output, octets.as_slice());
-}
-
-/// A reply relayed with 50 and 290 seconds, as a name error with the identifier 7 and RD.
-pub(crate) fn show_relayed(
-    rt: &impl Abort,
-    alloc: Global,
-    mut words: Words<'_>,
-    output: &mut String,
-) {
-    let message = words.octets(rt, alloc);
-    let reply = read_reply(alloc, message.as_slice()).expect(rt, "a reply");
-    let question = reply.question().try_clone().expect(rt, "memory");
-    push_shorter(rt, alloc, &reply, &question, output);
-}
-
-#[test]
-fn relays_aliases(rt: HostRuntime) {
-    let rows = "\
-relayed <aliases-reply> => <aliases-relay>";
-    check_rows(&rt, rt.alloc(), rows);
-}
-
-/// Adds a question as it was spelled, and the query for it.
-fn push_question(rt: &impl Abort, alloc: Global, question: &Question, output: &mut String) {
-    push_octets(rt, output, question.spelled.as_slice());
-    output.push_str(" ").expect(rt, "memory");
-    let query = write_query(alloc, 0x1234, question).expect(rt, "a query");
-    push_octets(rt, output, query.as_slice());
-}
-
-/// The identifier of a question, its name as it is spelled, and the query for it under 0x1234.
-pub(crate) fn show_asked(
-    rt: &impl Abort,
-    alloc: Global,
-    mut words: Words<'_>,
-    output: &mut String,
-) {
-    let message = words.octets(rt, alloc);
-    let (header, question) = read_query(alloc, message.as_slice()).expect(rt, "a question");
-    write!(output, "{} ", header.id).expect(rt, "memory");
-    push_question(rt, alloc, &question, output);
-}
-
-#[test]
-fn queries_in_lower_case(rt: HostRuntime) {
-    let rows = "\
-# => id 4660 rd: www. IN AAAA
-asked <mixed-question> => 9 03'wWw'00 12340100000100000000000003'www'00001c0001";
-    check_rows(&rt, rt.alloc(), rows);
 }
 
 /// A reply with one record, by its type, the length of its RDATA and its RDATA, which begins at place 39;

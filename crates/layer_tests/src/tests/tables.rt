@@ -1,13 +1,12 @@
 //! Tables of calls on names, messages and replies, and their output.
 
-use crate::tests::captures::{show_asked, show_rdata, show_relayed, show_rewritten};
+use crate::tests::captures::{show_rdata, show_rewritten};
 use crate::tests::in_place::show_in_place;
 use crate::tests::made::{show_denial, show_flush, show_records};
 use crate::tests::names::{
     show_ancestor, show_lower, show_name, show_octets, show_pair, show_pushes, show_suffix,
     show_under,
 };
-use crate::tests::replies::{show_relay, show_seen};
 use crate::tests::rows::{Row, Words, check_output, is_row, read_row};
 use std::alloc::Global;
 use std::process::Abort;
@@ -25,14 +24,10 @@ fn show_result(rt: &impl Abort, alloc: Global, call: &str, words: Words<'_>, out
         "lower" => show_lower(rt, alloc, words, output),
         "place" => show_in_place(rt, alloc, words, output),
         "reply" => show_rewritten(rt, alloc, words, output),
-        "relayed" => show_relayed(rt, alloc, words, output),
-        "asked" => show_asked(rt, alloc, words, output),
         "rdata" => show_rdata(rt, alloc, words, output),
         "records" => show_records(rt, alloc, words, output),
         "denial" => show_denial(rt, alloc, words, output),
         "flush" => show_flush(rt, alloc, words, output),
-        "seen" => show_seen(rt, alloc, words, output),
-        "relay" => show_relay(rt, alloc, words, output),
         _ => panic!(rt; "no such call"),
     }
 }

@@ -1,15 +1,27 @@
 //! Frames that are taken into a cache, where there is memory and where none is left, and
 //! observations that are lent.
 
-use crate::tests::frames::{DENIED, ONE, TWO};
 use crate::tests::observations::moment_of;
 use crate::tests::rows::octets_of;
 use fleet_cache::Cache;
-use fleet_gossip::{FrameFault, TakeFault, decode, take_frame};
+use fleet_gossip::{FrameFault, TakeFault, decode, encode, take_frame};
 use fleet_observe::{LentObservation, Observation};
 use linked_list_allocator::LocalHeap;
 use std::alloc::{AllocError, Global};
 use std::process::Abort;
+
+/// The frame of one observation: 192.0.2.1 at example.com., rank 3, stamp 100, life 300.
+const ONE: &str = "<frame-100>";
+
+/// Two entries of example.com.: 192.0.2.1, then 192.0.2.2.
+const TWO: &str =
+    "@00020303{00*7}640000012c07'example'03'com'00000100010004c00002010303{00*7}640000012c07\
+    'example'03'com'00000100010004c0000202";
+
+/// An entry of example.com., then no name b.example., on the word of the SOA of example.
+const DENIED: &str =
+    "@00020303{00*7}640000012c07'example'03'com'00000100010004c00002010103{00*7}640000012c01\
+    'b'07'example'00000007'example'00001600000000000100000e1000000258000151800000012c";
 
 /// The frame of three observations of 4,000 octets each.
 const LARGE: &str = "@00030303{00*7}640000012c01'a'00001000010fa0{00*4000}\
@@ -134,4 +146,17 @@ fn what_is_lent_is_compared_in_place(rt: HostRuntime) {
     for observation in &decode(rt.alloc(), frame.as_slice()).expect(&rt, "a frame") {
         check_lent(&rt, rt.alloc(), observation);
     }
+}
+
+/// What a frame reads is written as it was, and what has no room in one is not.
+#[test]
+fn what_is_too_long_for_a_frame_is_not_written(rt: HostRuntime) {
+    let frame = octets_of(&rt, rt.alloc(), LARGE);
+    let mut all = decode(rt.alloc(), frame.as_slice()).expect(&rt, "a frame");
+    let read = encode(rt.alloc(), &all).expect(&rt, "a frame");
+    assert!(&rt; read.as_slice() == frame.as_slice());
+    for observation in decode(rt.alloc(), frame.as_slice()).expect(&rt, "a frame") {
+        all.push(observation).expect(&rt, "memory");
+    }
+    assert_eq!(&rt; encode(rt.alloc(), &all).err(), Some(FrameFault::TooLong));
 }

@@ -10,7 +10,7 @@ pub struct Example<'a> {
     pub sites: usize,
     /// How many rows are questions.
     pub questions: usize,
-    /// What is done, and what that gives, as `check_rows` reads it.
+    /// What is done, and what that gives, as `check_row` reads it.
     pub rows: &'a str,
 }
 

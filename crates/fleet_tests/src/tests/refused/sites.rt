@@ -10,7 +10,7 @@ use std::alloc::{Allocator, Global};
 use std::process::Abort;
 
 /// A site that asks one upstream.
-pub fn site<A: Allocator + Copy>(rt: &impl Abort, alloc: A, ample: A) -> Site<A> {
+fn site<A: Allocator + Copy>(rt: &impl Abort, alloc: A, ample: A) -> Site<A> {
     let host = 0x7f00_0001;
     let mut upstreams = Vec::new(ample);
     upstreams

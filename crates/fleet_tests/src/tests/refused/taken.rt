@@ -3,29 +3,17 @@
 
 use crate::tests::octets::octets;
 use crate::tests::refused::MANY;
-use crate::tests::refused::sites::site;
 use crate::tests::refusing::Refusing;
 use fleet_cache::{Cache, Stopped};
-use fleet_gossip::{FrameFault, TakeFault, decode, encode, take_frame};
-use fleet_observe::Moment;
+use fleet_gossip::{FrameFault, TakeFault, decode, take_frame};
 use std::alloc::{Allocator, Global};
 use std::process::Abort;
 
 /// How many observations the frame has: two aliases and a denial.
 const COUNT: usize = 3;
 
-/// The frame of a site that learned the reply.
-fn frame_of_aliases(rt: &impl Abort, alloc: Global) -> Vec<u8> {
-    let mut site = site(rt, alloc, alloc);
-    let now = Moment::new(100).expect(rt, "a moment");
-    let reply = octets(rt, alloc, "aliases-reply");
-    site.learn(now, reply.as_slice()).expect(rt, "memory");
-    let frames = site.sweep().expect(rt, "memory");
-    let mut frame = Vec::new(alloc);
-    let octets = frames.first().expect(rt, "a frame").as_slice();
-    frame.extend_from_slice(octets).expect(rt, "memory");
-    frame
-}
+/// The frame.
+const FRAME: &str = "444702 0003 alias-entry target-entry denial-entry";
 
 /// Decodes a frame whole, and then takes its observations.
 fn take_decoded<A: Allocator + Copy>(
@@ -65,7 +53,7 @@ fn take_refused(rt: &impl Abort, alloc: Global, frame: &[u8], call: u64) -> bool
 
 #[test]
 fn a_frame_is_made_before_it_is_taken(rt: HostRuntime) {
-    let frame = frame_of_aliases(&rt, rt.alloc());
+    let frame = octets(&rt, rt.alloc(), FRAME);
     for call in 1..MANY {
         if !take_refused(&rt, rt.alloc(), frame.as_slice(), call) {
             return;
@@ -74,12 +62,19 @@ fn a_frame_is_made_before_it_is_taken(rt: HostRuntime) {
     panic!(rt; "refused each time");
 }
 
-/// The frame without the entry at this place.
-fn without(rt: &impl Abort, alloc: Global, frame: &[u8], place: usize) -> Vec<u8> {
-    let mut observations = decode(alloc, frame).expect(rt, "a frame");
-    assert!(rt; place < observations.len());
-    observations.remove(place);
-    encode(alloc, observations.as_slice()).expect(rt, "a frame")
+/// The frame of each entry alone, and behind `:` that of the others.
+const SPLIT: &str = "\
+444702 0001 alias-entry : 444702 0002 target-entry denial-entry
+444702 0001 target-entry : 444702 0002 alias-entry denial-entry
+444702 0001 denial-entry : 444702 0002 alias-entry target-entry";
+
+/// The frame, its entry at a place alone, and the others.
+#[derive(Clone, Copy)]
+struct Split<'a> {
+    frame: &'a [u8],
+    place: usize,
+    alone: &'a [u8],
+    others: &'a [u8],
 }
 
 /// Whether the observations of a frame can't be made where a call is refused.
@@ -88,33 +83,19 @@ fn is_unmade(alloc: Global, frame: &[u8], call: u64) -> bool {
     decode(&refusing, frame).is_err()
 }
 
-/// Takes the observation at this place of a frame.
-fn hold<A: Allocator + Copy>(
-    rt: &impl Abort,
-    alloc: A,
-    cache: &mut Cache<A>,
-    frame: &[u8],
-    place: usize,
-) {
-    let mut observations = decode(alloc, frame).expect(rt, "a frame");
-    assert!(rt; place < observations.len());
-    cache.take(observations.remove(place)).expect(rt, "memory");
-}
-
 /// Takes a frame whose entry at this place is held, with a call refused, and then again; says how
 /// many were taken before it was.
 fn take_beside<A: Allocator + Copy>(
     rt: &impl Abort,
     refusing: &Refusing<Global>,
     alloc: A,
-    frame: &[u8],
-    place: usize,
+    split: Split<'_>,
     call: u64,
 ) -> Option<usize> {
     let mut cache = Cache::new(alloc);
-    hold(rt, alloc, &mut cache, frame, place);
+    assert_eq!(rt; take_frame(alloc, &mut cache, split.alone), Ok(1));
     refusing.refuse(call);
-    let taken = match take_frame(alloc, &mut cache, frame) {
+    let taken = match take_frame(alloc, &mut cache, split.frame) {
         Ok(count) => {
             assert_eq!(rt; count, COUNT);
             None
@@ -124,25 +105,23 @@ fn take_beside<A: Allocator + Copy>(
     };
     assert_eq!(rt; taken.is_some(), refusing.has_refused());
     let first = taken.unwrap_or(COUNT);
-    let held = if place < first {
+    let held = if split.place < first {
         first
     } else {
         first.saturating_add(1)
     };
     assert_eq!(rt; cache.len(), held);
     refusing.refuse(MANY);
-    assert_eq!(rt; take_frame(alloc, &mut cache, frame), Ok(COUNT));
+    assert_eq!(rt; take_frame(alloc, &mut cache, split.frame), Ok(COUNT));
     assert_eq!(rt; cache.len(), COUNT);
     taken
 }
 
 /// Does so with each call refused.
-fn check_beside(rt: &impl Abort, alloc: Global, frame: &[u8], place: usize) {
-    let others = without(rt, alloc, frame, place);
-    let refusing = Refusing::after(alloc, MANY);
+fn refuse_each(rt: &impl Abort, alloc: Global, refusing: &Refusing<Global>, split: Split<'_>) {
     for call in 1..MANY {
-        let taken = take_beside(rt, &refusing, &refusing, frame, place, call);
-        if is_unmade(alloc, others.as_slice(), call) {
+        let taken = take_beside(rt, refusing, refusing, split, call);
+        if is_unmade(alloc, split.others, call) {
             assert_eq!(rt; taken, Some(0));
         }
         if taken.is_none() {
@@ -152,10 +131,32 @@ fn check_beside(rt: &impl Abort, alloc: Global, frame: &[u8], place: usize) {
     panic!(rt; "refused each time");
 }
 
+/// The same, by an allocator of its own.
+fn check_beside(rt: &impl Abort, alloc: Global, split: Split<'_>) {
+    let refusing = Refusing::after(alloc, MANY);
+    refuse_each(rt, alloc, &refusing, split)
+}
+
+/// The same, of a row of `SPLIT`.
+fn check_split(rt: &impl Abort, alloc: Global, place: usize, row: &str) {
+    let (alone, others) = row.split_once(" : ").expect(rt, "the others");
+    let frame = octets(rt, alloc, FRAME);
+    let alone = octets(rt, alloc, alone);
+    let others = octets(rt, alloc, others);
+    let split = Split {
+        frame: frame.as_slice(),
+        place,
+        alone: alone.as_slice(),
+        others: others.as_slice(),
+    };
+    check_beside(rt, alloc, split)
+}
+
 #[test]
 fn what_is_not_held_is_made_before_it_is_taken(rt: HostRuntime) {
-    let frame = frame_of_aliases(&rt, rt.alloc());
-    for place in 0..COUNT {
-        check_beside(&rt, rt.alloc(), frame.as_slice(), place);
+    let mut place = 0usize;
+    for row in SPLIT.lines() {
+        check_split(&rt, rt.alloc(), place, row);
+        place = place.saturating_add(1);
     }
 }
