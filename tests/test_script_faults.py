@@ -8,7 +8,7 @@ what was printed before it.
 from support.checks import Case, add_cases, lines_of
 from support.program import Ended, failed, run_script
 
-ROWS = 50
+ROWS = 51
 
 
 def octets_of(text):
