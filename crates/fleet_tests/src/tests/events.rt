@@ -1,9 +1,15 @@
 //! A list of events that is halted.
 
-use crate::tests::fleets::{check_row, events_of, fleet, rows_of};
+use crate::tests::fleets::{events_of, fleet, rows_of};
 use fleet_world::World;
 use std::alloc::Global;
 use std::process::Abort;
+
+/// Events, of which the second one names a frame that was not kept.
+const HALTED: &str = "\
+tick 0 100
+deliver 0 200 0
+tick 1 300";
 
 /// Why a run of the events of rows was halted, and after how many.
 fn halt_of(rt: &impl Abort, alloc: Global, world: &mut World, rows: &str) -> String {
@@ -17,17 +23,9 @@ fn halt_of(rt: &impl Abort, alloc: Global, world: &mut World, rows: &str) -> Str
 #[test]
 fn a_run_halts_where_a_frame_is_not_there(rt: HostRuntime) {
     let mut world = fleet(&rt, rt.alloc(), 1, &[]);
-    let halt = halt_of(
-        &rt,
-        rt.alloc(),
-        &mut world,
-        "\
-tick 0 100 =>
-deliver 0 200 0 =>
-tick 1 300 =>
-",
-    );
+    let halt = halt_of(&rt, rt.alloc(), &mut world, HALTED);
     assert_eq!(rt; halt.as_str(), "event 1: no such frame");
-    let row = "site 0 => clock 100 floor 100 items 0";
-    check_row(&rt, rt.alloc(), &mut world, row)
+    let site = world.site(0).expect(&rt, "a site");
+    assert_eq!(rt; site.clock().value(), 100);
+    assert_eq!(rt; site.cache().floor().value(), 100);
 }

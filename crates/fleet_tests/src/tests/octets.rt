@@ -45,16 +45,6 @@ fn add_word<A: Allocator>(rt: &impl Abort, text: &mut String<A>, word: &str) {
     }
 }
 
-/// A text with a space before each word, and with digits in place of the names of octets.
-pub fn spelt_out<A: Allocator>(rt: &impl Abort, alloc: A, words: &str) -> String<A> {
-    let mut text = String::new(alloc);
-    for word in words.split_whitespace() {
-        text.push(' ').expect(rt, "memory");
-        add_word(rt, &mut text, word);
-    }
-    text
-}
-
 /// The octets of a name, or of parts.
 pub fn octets<A: Allocator + Copy>(rt: &impl Abort, alloc: A, words: &str) -> Octets<A> {
     let mut digits = String::new(alloc);
@@ -62,16 +52,4 @@ pub fn octets<A: Allocator + Copy>(rt: &impl Abort, alloc: A, words: &str) -> Oc
         add_word(rt, &mut digits, word);
     }
     Octets::new(hex::decode(alloc, digits.as_str()).expect(rt, "digits"))
-}
-
-/// Adds the digits of octets.
-pub fn add_octets<A: Allocator + Copy>(rt: &impl Abort, text: &mut String<A>, octets: &[u8]) {
-    let digits = hex::encode(*text.allocator(), octets).expect(rt, "memory");
-    text.push_str(digits.as_str()).expect(rt, "memory");
-}
-
-/// Adds octets as a word of digits behind a space.
-pub fn show_octets<A: Allocator + Copy>(rt: &impl Abort, output: &mut String<A>, octets: &[u8]) {
-    output.push(' ').expect(rt, "memory");
-    add_octets(rt, output, octets)
 }

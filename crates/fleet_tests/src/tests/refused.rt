@@ -11,50 +11,25 @@ mod sites;
 mod taken;
 mod worlds;
 
-use crate::tests::fleets::{Ended, check_output, check_row, configs, line_of, rows_of, show_line};
+use crate::tests::fleets::{Done, configs, do_row, fleet, rows_of, same_but_for_frames, same_done};
 use crate::tests::refusing::Refusing;
 use examples::{DENIAL, OTHERS, REFUSED, example_of};
-use fleet_world::World;
+use fleet_world::{Stepped, World, WorldFault};
 use parts::do_part;
 use std::alloc::{Allocator, Global};
 use std::process::Abort;
-use worlds::{check_same, has_same_sites, keeps_same_frames, without_frames, world_after};
+use worlds::{check_same, has_same_sites, keeps_same_frames, world_after};
 
 /// More allocations than any of the examples makes.
 const MANY: u64 = 65536;
 
-/// How often an allocation was refused at a row that then ran out of memory: after no observation,
+/// Whether an allocation was refused at a row that then ran out of memory: after no observation,
 /// after some, and when all was done but the keeping of frames.
-#[derive(Clone, Copy, Debug)]
+#[derive(Clone, Copy)]
 struct Met {
-    short: u64,
-    partly: u64,
-    lost: u64,
-}
-
-impl Met {
-    /// Nothing was refused yet.
-    fn new() -> Met {
-        Met {
-            short: 0,
-            partly: 0,
-            lost: 0,
-        }
-    }
-
-    /// Counts a row that was stopped after this number of observations.
-    fn count(&mut self, taken: usize) {
-        if taken == 0 {
-            self.short = self.short.saturating_add(1);
-        } else {
-            self.partly = self.partly.saturating_add(1);
-        }
-    }
-
-    /// Counts a row whose frames were not kept.
-    fn count_lost(&mut self) {
-        self.lost = self.lost.saturating_add(1);
-    }
+    short: bool,
+    partly: bool,
+    lost: bool,
 }
 
 /// With which allocators an example is run, and of how many sites.
@@ -120,70 +95,76 @@ fn check_part<A: Allocator + Copy>(
     check_same(rt, world, &part.world, rows.last().expect(rt, "a row"))
 }
 
-/// Checks a world after a row that was done, and whose frames were not kept: it gives this output,
-/// and `before` is a world that did the rows before it.
+/// Checks a world after an event that was done, and whose frames were not kept: it did what the same
+/// event did in `whole`, and keeps the frames of `before`, where it has not happened yet.
 fn check_lost<A: Allocator + Copy>(
     rt: &impl Abort,
-    alloc: A,
     world: &World<A>,
-    before: &mut World<A>,
-    row: &str,
-    output: &str,
+    before: &World<A>,
+    whole: &World<A>,
+    stepped: &Stepped<A>,
+    wanted: &Stepped<A>,
 ) {
-    let wanted = without_frames(rt, alloc, row);
-    check_output(rt, alloc, output, wanted.as_str());
-    assert!(rt; keeps_same_frames(world, before), "{row}");
-    check_row(rt, alloc, before, row);
-    assert!(rt; has_same_sites(world, before), "{row}");
+    assert!(rt; same_but_for_frames(stepped, wanted));
+    assert!(rt; stepped.frames.as_slice().is_empty());
+    assert!(rt; keeps_same_frames(world, before));
+    assert!(rt; has_same_sites(world, whole))
 }
 
-/// Checks what became of the last of these rows on a world that did the others, and leaves the
-/// world as if no call had been refused.
-fn check_last<A: Allocator + Copy>(
+/// Checks a world after the last of these rows, an event that was done, and whose frames were not
+/// kept, and does the rows anew, where nothing is refused. It gives `wanted` in `whole`.
+fn check_last_lost<A: Allocator + Copy>(
     rt: &impl Abort,
     trial: &Trial<'_, A>,
-    world: &mut World<A>,
+    fleets: (&mut World<A>, &World<A>),
     rows: &[&str],
-    output: &str,
-    ended: Ended,
-    known: &mut Option<Part<A>>,
-    met: &mut Met,
+    stepped: &Stepped<A>,
+    wanted: &Done<A>,
 ) {
-    let (row, others) = rows.split_last().expect(rt, "a row");
-    match ended {
-        Ended::Done => check_output(rt, trial.ample, output, row),
-        Ended::Short(taken) => {
-            met.count(taken);
-            check_part(rt, trial, world, rows, taken, known);
-            check_row(rt, trial.ample, world, row)
-        }
-        Ended::Lost => {
-            met.count_lost();
-            let mut before = world_after(rt, trial.ample, trial.sites, others);
-            check_lost(rt, trial.ample, world, &mut before, row, output);
-            *world = world_after(rt, trial.alloc, trial.sites, rows);
-        }
+    let (world, whole) = fleets;
+    let (_, others) = rows.split_last().expect(rt, "a row");
+    let before = world_after(rt, trial.ample, trial.sites, others);
+    match wanted {
+        Done::Stepped(wanted) => check_lost(rt, world, &before, whole, stepped, wanted),
+        Done::Looked(_) => panic!(rt; "a question has no frames"),
     }
+    *world = world_after(rt, trial.alloc, trial.sites, rows)
 }
 
 /// Does the last of these rows with the call of this number refused, where it makes as many, and
-/// says whether it does.
+/// says whether it does. Behind it the world is as `whole`, which did it with ample memory.
 fn run_last<A: Allocator + Copy>(
     rt: &impl Abort,
     trial: &Trial<'_, A>,
-    world: &mut World<A>,
+    fleets: (&mut World<A>, &mut World<A>),
     rows: &[&str],
     call: u64,
     known: &mut Option<Part<A>>,
     met: &mut Met,
 ) -> bool {
-    let line = line_of(rt, rows.last().expect(rt, "a row"));
-    let mut output = String::new(trial.ample);
+    let (world, whole) = fleets;
+    let row = rows.last().expect(rt, "a row");
     trial.refusing.refuse(call);
-    let ended = show_line(rt, &mut output, world, line);
+    let done = do_row(rt, trial.ample, world, row);
     let has_refused = trial.refusing.has_refused();
-    assert_eq!(rt; ended == Ended::Done, !has_refused, "{line}");
-    check_last(rt, trial, world, rows, output.as_str(), ended, known, met);
+    assert_eq!(rt; done.is_ok(), !has_refused, "{row}");
+    let wanted = do_row(rt, trial.ample, whole, row).expect(rt, "a row");
+    match done {
+        Ok(done) => assert!(rt; same_done(&done, &wanted), "{row}"),
+        Err(WorldFault::Memory { taken }) => {
+            met.short = met.short || taken == 0;
+            met.partly = met.partly || taken > 0;
+            check_part(rt, trial, world, rows, taken, known);
+            let again = do_row(rt, trial.ample, world, row).expect(rt, "a row");
+            assert!(rt; same_done(&again, &wanted), "{row}")
+        }
+        Err(WorldFault::FramesLost(stepped)) => {
+            met.lost = true;
+            check_last_lost(rt, trial, (&mut *world, &*whole), rows, &stepped, &wanted)
+        }
+        Err(fault) => panic!(rt; "{fault}"),
+    }
+    check_same(rt, world, whole, row);
     has_refused
 }
 
@@ -199,10 +180,12 @@ fn run_rows<A: Allocator + Copy>(
 ) -> bool {
     trial.refusing.refuse(call);
     let mut world = begin_refused(rt, trial);
+    let mut whole = fleet(rt, trial.ample, trial.sites, &[]);
     let mut has_refused = trial.refusing.has_refused();
     for place in 0..rows.len() {
         let known = parts.get_mut(place).expect(rt, "a row");
-        let refused = run_last(rt, trial, &mut world, &rows[..=place], call, known, met);
+        let fleets = (&mut world, &mut whole);
+        let refused = run_last(rt, trial, fleets, &rows[..=place], call, known, met);
         has_refused = has_refused || refused;
     }
     has_refused
@@ -273,13 +256,15 @@ fn refuse_denials(rt: &impl Abort, alloc: Global, met: &mut Met) {
 
 #[test]
 fn a_line_without_memory_is_done_again(rt: HostRuntime) {
-    let mut met = Met::new();
+    let mut met = Met {
+        short: false,
+        partly: false,
+        lost: false,
+    };
     for example in REFUSED.split("\n\n") {
         refuse_example(&rt, rt.alloc(), example, &mut met);
     }
     refuse_example(&rt, rt.alloc(), DENIAL, &mut met);
     refuse_denials(&rt, rt.alloc(), &mut met);
-    assert!(rt; met.short > 0, "{met:?}");
-    assert!(rt; met.partly > 0, "{met:?}");
-    assert!(rt; met.lost > 0, "{met:?}");
+    assert!(rt; met.short && met.partly && met.lost);
 }

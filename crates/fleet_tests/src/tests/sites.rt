@@ -1,15 +1,14 @@
-//! Sites, and what their rows name: addresses, moments, names, and answers.
+//! Sites, and what their rows name: addresses, moments and names.
 
-use crate::tests::octets::show_octets;
 use fleet_name::Name;
 use fleet_observe::Moment;
 use fleet_pending::Addr;
-use fleet_site::{Config, Looked};
+use fleet_site::Config;
 use std::alloc::Allocator;
 use std::process::Abort;
 
 /// 127.0.0.1, where all are.
-pub const HOST: u32 = 0x7f00_0001;
+const HOST: u32 = 0x7f00_0001;
 
 /// An address of 127.0.0.1.
 pub fn addr(port: u16) -> Addr {
@@ -40,20 +39,4 @@ pub fn name_of<A: Allocator>(rt: &impl Abort, alloc: A, labels: &str) -> Name<A>
         name.push(label.as_bytes()).expect(rt, "a label");
     }
     name
-}
-
-/// Adds what is answered.
-pub fn show_looked<A: Allocator + Copy>(
-    rt: &impl Abort,
-    output: &mut String<A>,
-    looked: &Looked<A>,
-) {
-    match looked {
-        Looked::Reply(octets) => {
-            output.push_str(" answer").expect(rt, "memory");
-            show_octets(rt, output, octets.as_slice())
-        }
-        Looked::Miss => output.push_str(" miss").expect(rt, "memory"),
-        Looked::Dropped => output.push_str(" dropped").expect(rt, "memory"),
-    }
 }

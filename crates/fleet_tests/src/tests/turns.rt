@@ -9,7 +9,7 @@ use fleet_pending::Addr;
 use fleet_site::{ListClock, MemoryPort, Note, Port, Report, Site, serve};
 use rand_core::utils::NextWord;
 use rand_core::{Rng, utils};
-use std::alloc::Global;
+use std::alloc::{Allocator, Global};
 use std::marker::Model;
 use std::process::Abort;
 
@@ -42,7 +42,7 @@ impl Rng for OneWord {
 }
 
 /// A clock that gives these moments.
-fn clock(rt: &impl Abort, alloc: Global, seconds: &[u16]) -> ListClock {
+pub fn clock<A: Allocator>(rt: &impl Abort, alloc: A, seconds: &[u16]) -> ListClock<A> {
     let mut moments = Vec::new(alloc);
     for second in seconds {
         moments.push(at(rt, *second)).expect(rt, "memory");
@@ -50,11 +50,16 @@ fn clock(rt: &impl Abort, alloc: Global, seconds: &[u16]) -> ListClock {
     ListClock::new(moments)
 }
 
-/// A port at which a question arrives, and which fails at one call.
-fn port_with(rt: &impl Abort, alloc: Global, fail_at: Option<u64>) -> MemoryPort {
-    let mut arrivals = Vec::new(alloc);
+/// A port at which a question arrives, and which fails at one call; its record is kept in `alloc`.
+pub fn port<A: Allocator + Copy>(
+    rt: &impl Abort,
+    alloc: A,
+    ample: A,
+    fail_at: Option<u64>,
+) -> MemoryPort<A> {
+    let mut arrivals = Vec::new(ample);
     arrivals
-        .push(Some((addr(6001), octets(rt, alloc, "question"))))
+        .push(Some((addr(6001), octets(rt, ample, "question"))))
         .expect(rt, "memory");
     MemoryPort::new(alloc, arrivals, fail_at)
 }
@@ -87,14 +92,25 @@ fn check_report(rt: &impl Abort, alloc: Global, report: Report, counts: &str) {
 }
 
 /// Whether a datagram has this other address, and these octets: a port and a name, as words.
-fn is_moved(rt: &impl Abort, alloc: Global, other: Addr, bytes: &Octets, words: &str) -> bool {
+fn is_moved<A: Allocator + Copy>(
+    rt: &impl Abort,
+    alloc: A,
+    other: Addr,
+    bytes: &Octets<A>,
+    words: &str,
+) -> bool {
     let (port, name) = words.split_once(' ').expect(rt, "a name");
     other == addr(number(rt, port)) && bytes.as_slice() == octets(rt, alloc, name).as_slice()
 }
 
 /// Whether a call of a port ended as words say: how, and of a datagram the port of its other
 /// address, and its octets by name.
-fn has_ended(rt: &impl Abort, alloc: Global, note: &Note, words: &str) -> bool {
+pub fn has_ended<A: Allocator + Copy>(
+    rt: &impl Abort,
+    alloc: A,
+    note: &Note<A>,
+    words: &str,
+) -> bool {
     let (end, moved) = words.split_once(' ').unwrap_or((words, ""));
     match note {
         Note::Received(_, from, bytes) => {
@@ -138,7 +154,7 @@ fn check_failure(rt: &impl Abort, alloc: Global, row: &str) {
     let (asked, row) = row.split_once(" => ").expect(rt, "counts");
     let (counts, notes) = row.split_once(" : ").expect(rt, "a record");
     let (fail_at, turns) = asked.split_once(' ').expect(rt, "turns");
-    let mut port = port_with(rt, alloc, Some(u64::from(number(rt, fail_at))));
+    let mut port = port(rt, alloc, alloc, Some(u64::from(number(rt, fail_at))));
     let report = run(rt, alloc, &mut port, u32::from(number(rt, turns)));
     let failed = report.lost.saturating_add(report.faults);
     assert_eq!(rt; port.failures(), failed, "{counts}");

@@ -1,4 +1,4 @@
-//! Examples: what is done in a new fleet, and what that gives.
+//! Examples: what is done in a new fleet.
 
 use crate::tests::fleets::first_place;
 use std::process::Abort;
@@ -10,7 +10,7 @@ pub struct Example<'a> {
     pub sites: usize,
     /// How many rows are questions.
     pub questions: usize,
-    /// What is done, and what that gives, as `check_row` reads it.
+    /// What is done, as `do_row` reads it.
     pub rows: &'a str,
 }
 
@@ -30,152 +30,135 @@ pub fn example_of<'a>(rt: &impl Abort, text: &'a str) -> Example<'a> {
 /// A reply with two aliases and a denial, and what is asked of them.
 pub const DENIAL: &str = "\
 1 4 a name error behind two aliases denies the last target, for each type but the alias itself
-learn 0 100 aliases-reply => taken 3
-ask 0 110 aliases => answer aliases-relay
-ask 0 110 aliases-aaaa => answer aliases-aaaa-relay
-ask 0 110 aliases-cname => answer aliases-cname-relay
-ask 0 160 aliases => miss";
+learn 0 100 aliases-reply
+ask 0 110 aliases
+ask 0 110 aliases-aaaa
+ask 0 110 aliases-cname
+ask 0 160 aliases";
 
 /// Rows that bring from one to four other observations.
 pub const OTHERS: &str = "\
-frame 0 100 one-other => taken 1
-frame 0 100 two-others => taken 2
-frame 0 100 three-others => taken 3
-frame 0 100 four-others => taken 4
+frame 0 100 one-other
+frame 0 100 two-others
+frame 0 100 three-others
+frame 0 100 four-others
 ";
 
 /// Other examples that are run with a call refused, an empty line between two.
 pub const REFUSED: &str = "\
 1 1 a reply is learnt, and answers ten seconds later with a TTL that is ten less
-learn 0 100 learnt => taken 1
-ask 0 110 question => answer relay-290
+learn 0 100 learnt
+ask 0 110 question
 
 3 0 sites that took in the same hold the same, whatever came twice or out of order, once both are purged
-frame 0 100 first-older => taken 1
-sweep 0 => frame 0
-kept 0 => older
-frame 0 200 first-newer => taken 1
-sweep 0 => frame 1
-kept 1 => both
-deliver 1 200 1 => taken 2
-deliver 1 200 0 => taken 1
-deliver 1 200 1 => taken 2
-sweep 1 => frame 2
-kept 2 => both
-deliver 2 200 2 => taken 2
-deliver 2 200 2 => taken 2
-same 0 1 => same
-same 0 2 => same
-tick 1 500 =>
-same 0 1 => different
-deliver 1 500 0 => taken 1
-site 1 => clock 500 floor 500 items 0
-tick 0 500 =>
-same 0 1 => same
+frame 0 100 first-older
+sweep 0
+frame 0 200 first-newer
+sweep 0
+deliver 1 200 1
+deliver 1 200 0
+deliver 1 200 1
+sweep 1
+deliver 2 200 2
+deliver 2 200 2
+tick 1 500
+deliver 1 500 0
+tick 0 500
 
 1 0 all who wait are answered, a question asked again counts once, and a reply from elsewhere matches nothing
-datagram 0 100 6001 4660 question => send 5301 query
-datagram 0 100 6002 9 question-8 =>
-datagram 0 100 6001 4660 question =>
-datagram 0 101 5302 0 reply => refused Unmatched
-datagram 0 101 5301 0 reply => send 6001 relay send 6002 relay-8 frame 0 taken 1
-kept 0 => frame-101
+datagram 0 100 6001 4660 question
+datagram 0 100 6002 9 question-8
+datagram 0 100 6001 4660 question
+datagram 0 101 5302 0 reply
+datagram 0 101 5301 0 reply
 
 1 0 a question goes to the next upstream after two seconds, and fails after the last
-datagram 0 100 6001 4660 question => send 5301 query
-tick 0 101 =>
-tick 0 102 => send 5302 query
-tick 0 104 => send 6001 failure
-datagram 0 104 5301 0 reply => refused Unmatched
-datagram 0 104 5302 0 reply => refused Unmatched
+datagram 0 100 6001 4660 question
+tick 0 101
+tick 0 102
+tick 0 104
+datagram 0 104 5301 0 reply
+datagram 0 104 5302 0 reply
 
 2 0 a site takes in all that another holds, and its floor
-frame 0 100 first-older => taken 1
-frame 1 100 first-newer => taken 1
-tick 1 150 =>
-merge 0 1 => taken 1
-merge 1 0 => taken 2
-same 0 1 => same
-merge 0 1 => taken 2
-same 0 1 => same
+frame 0 100 first-older
+frame 1 100 first-newer
+tick 1 150
+merge 0 1
+merge 1 0
+merge 0 1
 
 2 1 a flush withdraws what was stamped by then, whatever the order, and what comes later stays
-frame 0 100 first-100 => taken 1
-flush 0 120 com => frame 0 taken 1
-kept 0 => flush
-frame 0 150 first-after => taken 1
-ask 0 200 question => answer after-relay
-frame 1 200 first-after => taken 1
-deliver 1 200 0 => taken 1
-frame 1 200 first-100 => taken 1
-same 0 1 => same
-site 1 => clock 200 floor 0 items 2
-sweep 0 => frame 1
-kept 1 => withdrawn
-sweep 1 => frame 2
-kept 2 => withdrawn";
+frame 0 100 first-100
+flush 0 120 com
+frame 0 150 first-after
+ask 0 200 question
+frame 1 200 first-after
+deliver 1 200 0
+frame 1 200 first-100
+sweep 0
+sweep 1";
 
 /// Other examples with questions, an empty line between two.
 pub const LENT: &str = "\
 1 3 of two observations the higher rank answers while it lasts
-frame 0 200 first-100 => taken 1
-frame 0 200 first-200 => taken 1
-frame 0 200 first-200 => taken 1
-frame 0 200 first-100 => taken 1
-ask 0 250 question => answer relay-150
-ask 0 400 question => answer other-relay-100
-ask 0 500 question => miss
+frame 0 200 first-100
+frame 0 200 first-200
+frame 0 200 first-200
+frame 0 200 first-100
+ask 0 250 question
+ask 0 400 question
+ask 0 500 question
 
 1 3 the same in the other order
-frame 0 200 first-200 => taken 1
-frame 0 200 first-100 => taken 1
-frame 0 200 first-100 => taken 1
-frame 0 200 first-200 => taken 1
-ask 0 250 question => answer relay-150
-ask 0 400 question => answer other-relay-100
-ask 0 500 question => miss
+frame 0 200 first-200
+frame 0 200 first-100
+frame 0 200 first-100
+frame 0 200 first-200
+ask 0 250 question
+ask 0 400 question
+ask 0 500 question
 
 1 3 of the same rank the later answers, and the one that lasts longer after it
-frame 0 100 first-older => taken 1
-frame 0 100 first-newer => taken 1
-ask 0 150 question => answer other-relay-10
-ask 0 205 question => answer other-relay-5
-ask 0 210 question => answer relay-190
+frame 0 100 first-older
+frame 0 100 first-newer
+ask 0 150 question
+ask 0 205 question
+ask 0 210 question
 
 1 2 what is learnt is answered until its end
-learn 0 100 learnt-1 => taken 1
-ask 0 100 question => answer relay-1
-ask 0 101 question => miss
+learn 0 100 learnt-1
+ask 0 100 question
+ask 0 101 question
 
 1 3 a name error denies the names below it until data there is learnt later
-learn 0 100 no-name-reply => taken 1
-ask 0 110 below => answer below-denial
-learn 0 200 below-reply => taken 1
-ask 0 210 below => answer below-relay
-ask 0 210 no-name => answer no-name-relay-190
+learn 0 100 no-name-reply
+ask 0 110 below
+learn 0 200 below-reply
+ask 0 210 below
+ask 0 210 no-name
 
 1 1 eight aliases are followed
-frame 0 100 eight-aliases => taken 9
-ask 0 110 chain => answer eight-aliases-relay
+frame 0 100 eight-aliases
+ask 0 110 chain
 
 1 1 a ninth is a miss
-frame 0 100 nine-aliases => taken 10
-ask 0 110 chain => miss
+frame 0 100 nine-aliases
+ask 0 110 chain
 
 1 1 so are aliases of one another
-frame 0 100 alias-circle => taken 2
-ask 0 110 chain => miss
+frame 0 100 alias-circle
+ask 0 110 chain
 
 1 1 a denial holds for three hours at most, and is shown with the SOA of an ancestor
-learn 0 100 no-data-reply => taken 1
-ask 0 110 no-data => answer no-data-relay
+learn 0 100 no-data-reply
+ask 0 110 no-data
 
 1 1 no data behind an alias is shown with the alias and the SOA
-learn 0 100 alias-no-data-reply => taken 2
-site 0 => clock 100 floor 0 items 2
-ask 0 110 aliases => answer alias-no-data-relay
+learn 0 100 alias-no-data-reply
+ask 0 110 aliases
 
 1 2 an alias whose target is not known is a miss, and answers where it is asked for
-learn 0 100 alias-reply => taken 1
-ask 0 110 aliases => miss
-ask 0 110 aliases-cname => answer aliases-cname-relay";
+learn 0 100 alias-reply
+ask 0 110 aliases
+ask 0 110 aliases-cname";

@@ -2,10 +2,9 @@
 
 ghost use Rattle.std.specs.Prelude.{◌<◌};
 
-use crate::tests::fleets::{asked_of, check_output, check_row, fleet, line_of};
+use crate::tests::fleets::{asked_of, do_row, fleet, same_looked};
 use crate::tests::refused::examples::{DENIAL, LENT, REFUSED, example_of};
 use crate::tests::refusing::Refusing;
-use crate::tests::sites::show_looked;
 use fleet_cache::{Answer, Cache, Chain, Shown};
 use fleet_name::Octets;
 use fleet_observe::{Moment, Rows, add_rows, add_soa};
@@ -89,38 +88,38 @@ fn look_at<A: Allocator + Copy>(
     Looked::Reply(Octets::new(reply))
 }
 
-/// The reply to a question, looked up while every allocation is refused, as it is shown.
-fn show_answer<A: Allocator + Copy>(
+/// What a site makes of the answer to a question, looked up while every allocation is refused.
+fn look_up<A: Allocator + Copy>(
     rt: &impl Abort,
     alloc: A,
     refusing: &Refusing<Global>,
     cache: &Cache<A>,
     now: Moment,
     octets: &[u8],
-) -> String<A> {
+) -> Looked<A> {
     let (header, question) = read_query(alloc, octets).expect(rt, "a question");
     refusing.refuse_all(true);
     let answer = cache.answer(&question, now);
     refusing.refuse_all(false);
-    let looked = look_at(rt, alloc, header, &question, &answer);
-    let mut output = String::new(alloc);
-    show_looked(rt, &mut output, &looked);
-    output
+    look_at(rt, alloc, header, &question, &answer)
 }
 
-/// Asks the cache of a site what a row asks of the site, and compares what it gives.
+/// Asks the cache of a site what a row asks of the site, and compares what both give.
 fn check_lent<A: Allocator + Copy>(
     rt: &impl Abort,
     alloc: A,
     refusing: &Refusing<Global>,
-    world: &World<A>,
+    world: &mut World<A>,
     words: &str,
-    row: &str,
 ) {
     let (site, now, octets) = asked_of(rt, alloc, words);
     let cache = world.site(site).expect(rt, "a site").cache();
-    let output = show_answer(rt, alloc, refusing, cache, now, octets.as_slice());
-    check_output(rt, alloc, output.as_str(), row)
+    let looked = look_up(rt, alloc, refusing, cache, now, octets.as_slice());
+    let wanted = world.ask(site, now, octets.as_slice());
+    assert!(rt;
+        same_looked(&looked, &wanted.expect(rt, "an answer")),
+        "{words}"
+    );
 }
 
 /// Does what rows say, and says how many are questions.
@@ -133,12 +132,11 @@ fn count_lent<A: Allocator + Copy>(
 ) -> usize {
     let mut count = 0usize;
     for row in rows.lines() {
-        match row.strip_prefix("ask ") {
-            Some(words) => {
-                check_lent(rt, alloc, refusing, world, line_of(rt, words), row);
-                count = count.saturating_add(1);
-            }
-            None => check_row(rt, alloc, world, row),
+        if let Some(words) = row.strip_prefix("ask ") {
+            check_lent(rt, alloc, refusing, world, words);
+            count = count.saturating_add(1);
+        } else {
+            let _ = do_row(rt, alloc, world, row).expect(rt, "a row");
         }
     }
     count

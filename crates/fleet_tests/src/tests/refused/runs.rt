@@ -1,6 +1,6 @@
 //! Lists of events run at once, with one allocation refused.
 
-use crate::tests::fleets::{check_all, check_row, events_of, rows_of, show_stepped};
+use crate::tests::fleets::{events_of, fleet, rows_of, same_stepped};
 use crate::tests::refused::examples::{DENIAL, REFUSED, example_of};
 use crate::tests::refused::parts::do_part;
 use crate::tests::refused::worlds::{check_same, has_same_sites, world_after};
@@ -10,25 +10,42 @@ use fleet_world::{Halted, Stepped, World, WorldFault};
 use std::alloc::{Allocator, Global};
 use std::process::Abort;
 
-/// The rows that are events, and no looks at the fleet.
+/// The rows that are events, and no questions.
 fn steps_of<'a>(rt: &impl Abort, alloc: Global, rows: &[&'a str]) -> Vec<&'a str> {
     let mut steps = Vec::new(alloc);
     for row in rows {
-        let (kind, _) = row.split_once(' ').expect(rt, "an event");
-        if !matches!(kind, "ask" | "kept" | "site" | "same") {
+        if !row.starts_with("ask ") {
             steps.push(*row).expect(rt, "memory");
         }
     }
     steps
 }
 
-/// Checks all frames that were kept.
-fn check_kept<A: Allocator + Copy>(rt: &impl Abort, alloc: A, world: &mut World<A>, rows: &[&str]) {
-    for row in rows {
-        if row.starts_with("kept ") {
-            check_row(rt, alloc, world, row);
-        }
+/// Checks that events did the same as others.
+fn check_all<A: Allocator>(rt: &impl Abort, all: &[Stepped<A>], wanted: &[Stepped<A>]) {
+    assert_eq!(rt; all.len(), wanted.len());
+    for (stepped, wanted) in all.iter().zip(wanted) {
+        assert!(rt; same_stepped(stepped, wanted));
     }
+}
+
+/// A world that ran the events of rows with ample memory, and what they did.
+#[derive(Drop)]
+struct Whole<A: Allocator> {
+    world: World<A>,
+    did: Vec<Stepped<A>, A>,
+}
+
+/// Runs the events of rows with ample memory.
+fn run_whole<A: Allocator + Copy>(
+    rt: &impl Abort,
+    trial: &Trial<'_, A>,
+    steps: &[&str],
+) -> Whole<A> {
+    let mut world = fleet(rt, trial.ample, trial.sites, &[]);
+    let events = events_of(rt, trial.ample, steps);
+    let did = world.run(&events).expect(rt, "a run");
+    Whole { world, did }
 }
 
 /// Checks a world whose run was halted at a row that ran out of memory. It may not have begun: it
@@ -47,98 +64,64 @@ fn check_halted<A: Allocator + Copy>(
     check_same(rt, world, before, row)
 }
 
-/// Checks a world whose run was halted since the frames of a row were not kept.
-fn check_frames_lost<A: Allocator + Copy>(
-    rt: &impl Abort,
-    alloc: A,
-    world: &World<A>,
-    before: &mut World<A>,
-    row: &str,
-    stepped: &Stepped<A>,
-) {
-    let mut output = String::new(alloc);
-    show_stepped(rt, &mut output, stepped);
-    check_lost(rt, alloc, world, before, row, output.as_str())
-}
-
-/// Runs the events that are left.
-fn run_left<A: Allocator + Copy>(rt: &impl Abort, alloc: A, world: &mut World<A>, steps: &[&str]) {
-    let events = events_of(rt, alloc, steps);
-    let all = world.run(&events).expect(rt, "a run");
-    check_all(rt, alloc, &all, steps)
-}
-
-/// Checks a world whose run was halted by a fault at the first of these rows, and runs them, but
-/// where frames were not kept; says whether they were. `before` is a world that did the rows before
-/// them.
+/// Checks a world whose run was halted, and runs the events that are left, but where frames were not
+/// kept: then what the event did is compared.
 fn go_on<A: Allocator + Copy>(
     rt: &impl Abort,
-    alloc: A,
+    trial: &Trial<'_, A>,
     world: &mut World<A>,
-    before: &mut World<A>,
     steps: &[&str],
-    fault: WorldFault<A>,
-) -> bool {
-    let row = steps.first().expect(rt, "a row");
+    whole: &Whole<A>,
+    halted: Halted<A>,
+) {
+    let Halted { at, fault } = halted;
+    let (done, left) = steps.split_at_checked(at).expect(rt, "a row");
+    let (_, wanted) = whole.did.split_at_checked(at).expect(rt, "a row");
+    let row = left.first().expect(rt, "a row");
+    let mut before = world_after(rt, trial.ample, trial.sites, done);
     match fault {
         WorldFault::Memory { taken } => {
-            check_halted(rt, alloc, world, before, row, taken);
-            run_left(rt, alloc, world, steps);
-            true
+            check_halted(rt, trial.ample, world, &mut before, row, taken);
+            let events = events_of(rt, trial.ample, left);
+            let all = world.run(&events).expect(rt, "a run");
+            check_all(rt, &all, wanted);
+            check_same(rt, world, &whole.world, row)
         }
         WorldFault::FramesLost(stepped) => {
-            check_frames_lost(rt, alloc, world, before, row, &stepped);
-            false
+            let next = world_after(rt, trial.ample, trial.sites, &steps[..=at]);
+            let wanted = wanted.first().expect(rt, "a row");
+            check_lost(rt, world, &before, &next, &stepped, wanted)
         }
         fault => panic!(rt; "{fault}"),
     }
 }
 
-/// Checks a world whose run was halted, and goes on; says whether all frames were kept.
-fn go_on_after<A: Allocator + Copy>(
-    rt: &impl Abort,
-    trial: &Trial<'_, A>,
-    world: &mut World<A>,
-    steps: &[&str],
-    halted: Halted<A>,
-) -> bool {
-    let (done, left) = steps.split_at_checked(halted.at).expect(rt, "a row");
-    let mut before = world_after(rt, trial.ample, trial.sites, done);
-    go_on(rt, trial.ample, world, &mut before, left, halted.fault)
-}
-
-/// Runs events at once in a world whose allocations may be refused; says whether all frames were
-/// kept.
+/// Runs events at once in a world whose allocations may be refused.
 fn run_events<A: Allocator + Copy>(
     rt: &impl Abort,
     trial: &Trial<'_, A>,
     world: &mut World<A>,
     steps: &[&str],
-) -> bool {
+    whole: &Whole<A>,
+) {
     let events = events_of(rt, trial.ample, steps);
     let had_refused = trial.refusing.has_refused();
     let ran = world.run(&events);
     assert_eq!(rt; ran.is_ok(), trial.refusing.has_refused() == had_refused);
     match ran {
         Ok(all) => {
-            check_all(rt, trial.ample, &all, steps);
-            true
+            check_all(rt, &all, &whole.did);
+            check_same(rt, world, &whole.world, "all rows")
         }
-        Err(halted) => go_on_after(rt, trial, world, steps, halted),
+        Err(halted) => go_on(rt, trial, world, steps, whole, halted),
     }
 }
 
-/// Makes the sites of an example, and runs the events of its rows at once.
-fn run_steps<A: Allocator + Copy>(
-    rt: &impl Abort,
-    trial: &Trial<'_, A>,
-    rows: &[&str],
-    steps: &[&str],
-) {
+/// Makes the sites of an example, and runs its events at once.
+fn run_steps<A: Allocator + Copy>(rt: &impl Abort, trial: &Trial<'_, A>, steps: &[&str]) {
     let mut world = begin_refused(rt, trial);
-    if run_events(rt, trial, &mut world, steps) {
-        check_kept(rt, trial.ample, &mut world, rows);
-    }
+    let whole = run_whole(rt, trial, steps);
+    run_events(rt, trial, &mut world, steps, &whole)
 }
 
 /// Runs the events of rows at once with these allocators.
@@ -148,7 +131,6 @@ fn run_with<A: Allocator + Copy>(
     alloc: A,
     refusing: &Refusing<Global>,
     sites: usize,
-    rows: &[&str],
     steps: &[&str],
 ) {
     let trial = Trial {
@@ -157,7 +139,7 @@ fn run_with<A: Allocator + Copy>(
         refusing: &*refusing,
         sites,
     };
-    run_steps(rt, &trial, rows, steps)
+    run_steps(rt, &trial, steps)
 }
 
 /// Runs the events of rows at once with a call refused, and says whether that call was made.
@@ -165,7 +147,7 @@ fn run_at_once(rt: &impl Abort, alloc: Global, sites: usize, rows: &[&str], call
     let ample = Refusing::after(alloc, 0);
     let refusing = Refusing::after(alloc, call);
     let steps = steps_of(rt, alloc, rows);
-    run_with(rt, &ample, &refusing, &refusing, sites, rows, &steps);
+    run_with(rt, &ample, &refusing, &refusing, sites, &steps);
     refusing.has_refused()
 }
 

@@ -4,47 +4,14 @@ use crate::tests::octets::octets;
 use crate::tests::refused::MANY;
 use crate::tests::refusing::Refusing;
 use crate::tests::sites::{addr, config};
-use crate::tests::turns::OneWord;
+use crate::tests::turns::{OneWord, clock, has_ended, port};
 use fleet_observe::Moment;
-use fleet_pending::Addr;
-use fleet_site::{ListClock, MemoryPort, Note, Outcome, Port, Report, Site, serve};
+use fleet_site::{MemoryPort, Note, Outcome, Port, Report, Site, serve};
 use std::alloc::{Allocator, Global};
 use std::process::Abort;
 
-/// What is sent, in order: the port that it goes to, and the octets by name.
-fn sent_at(place: usize) -> Option<(u16, &'static str)> {
-    match place {
-        0 => Some((5301, "query")),
-        1 => Some((5302, "query")),
-        2 => Some((6001, "failure")),
-        _ => None,
-    }
-}
-
-/// A port at which the question arrives.
-fn port<A: Allocator + Copy>(rt: &impl Abort, alloc: A, ample: A) -> MemoryPort<A> {
-    let mut arrivals = Vec::new(ample);
-    arrivals
-        .push(Some((addr(6001), octets(rt, ample, "question"))))
-        .expect(rt, "memory");
-    MemoryPort::new(alloc, arrivals, None)
-}
-
-/// A site with two upstreams.
-fn site<A: Allocator + Copy>(rt: &impl Abort, alloc: A, ample: A) -> Site<A> {
-    Site::new(alloc, config(rt, ample, &[]))
-}
-
-/// A clock that gives the moments of three turns.
-fn clock<A: Allocator>(rt: &impl Abort, alloc: A) -> ListClock<A> {
-    let mut moments = Vec::new(alloc);
-    for second in [100, 102, 104] {
-        moments
-            .push(Moment::new(second).expect(rt, "a moment"))
-            .expect(rt, "memory");
-    }
-    ListClock::new(moments)
-}
+/// What is sent, in order.
+const SENT: &str = "sent 5301 query, sent 5302 query, sent 6001 failure";
 
 /// What three turns may count where the datagram came in.
 fn report_of(sent: u64, lost: u64, faults: u64, short: u64) -> Report {
@@ -71,26 +38,13 @@ fn short_reports() -> [Report; 5] {
     ]
 }
 
-/// Whether octets went to an address as the packet at a place.
-fn is_sent<A: Allocator + Copy>(
-    rt: &impl Abort,
-    ample: A,
-    place: usize,
-    to: Addr,
-    bytes: &[u8],
-) -> bool {
-    match sent_at(place) {
-        Some((port, name)) => to == addr(port) && bytes == octets(rt, ample, name).as_slice(),
-        None => false,
-    }
-}
-
 /// How many packets were sent, if these are the first ones.
 fn count_sent<A: Allocator + Copy>(rt: &impl Abort, ample: A, notes: &[Note<A>]) -> Option<usize> {
+    let mut wanted = SENT.split(", ");
     let mut sent = 0usize;
     for note in notes {
-        if let Note::Sent(to, bytes) = note {
-            if !is_sent(rt, ample, sent, *to, bytes.as_slice()) {
+        if matches!(note, Note::Sent(_, _)) {
+            if !has_ended(rt, ample, note, wanted.next().unwrap_or("")) {
                 return None;
             }
             sent = sent.saturating_add(1);
@@ -196,7 +150,7 @@ fn serve_turns<A: Allocator + Copy>(
     port: &mut MemoryPort<A>,
     site: &mut Site<A>,
 ) -> Report {
-    let mut clock = clock(rt, ample);
+    let mut clock = clock(rt, ample, &[100, 102, 104]);
     let mut words = OneWord(0xabcd_1234);
     serve(port, &mut clock, &mut words, site, 3, 0)
 }
@@ -225,13 +179,13 @@ fn serve_port<A: Allocator + Copy>(
     ample: A,
     port: &mut MemoryPort<A>,
 ) -> Report {
-    let mut site = site(rt, alloc, ample);
+    let mut site = Site::new(alloc, config(rt, ample, &[]));
     serve_site(rt, ample, port, &mut site)
 }
 
 /// The same, at a new port.
 fn serve_new<A: Allocator + Copy>(rt: &impl Abort, alloc: A, ample: A) -> Report {
-    let mut port = port(rt, alloc, ample);
+    let mut port = port(rt, alloc, ample, None);
     serve_port(rt, alloc, ample, &mut port)
 }
 

@@ -1,6 +1,6 @@
 //! Worlds after rows, and what two of them have in common.
 
-use crate::tests::fleets::{check_row, fleet};
+use crate::tests::fleets::{do_rows, fleet};
 use fleet_world::World;
 use std::alloc::Allocator;
 use std::process::Abort;
@@ -13,9 +13,7 @@ pub fn world_after<A: Allocator + Copy>(
     rows: &[&str],
 ) -> World<A> {
     let mut world = fleet(rt, alloc, sites, &[]);
-    for row in rows {
-        check_row(rt, alloc, &mut world, row);
-    }
+    do_rows(rt, alloc, &mut world, rows);
     world
 }
 
@@ -60,19 +58,4 @@ pub fn check_same<A: Allocator + Copy>(
 ) {
     assert!(rt; has_same_sites(one, other), "{row}");
     assert!(rt; keeps_same_frames(one, other), "{row}");
-}
-
-/// A row without the numbers of frames.
-pub fn without_frames<A: Allocator>(rt: &impl Abort, alloc: A, row: &str) -> String<A> {
-    let mut rest = String::new(alloc);
-    let mut pieces = row.split(" frame ");
-    rest.push_str(pieces.next().unwrap_or(""))
-        .expect(rt, "memory");
-    for piece in pieces {
-        if let Some((_, behind)) = piece.split_once(' ') {
-            rest.push(' ').expect(rt, "memory");
-            rest.push_str(behind).expect(rt, "memory");
-        }
-    }
-    rest
 }
