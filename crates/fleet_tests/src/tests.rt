@@ -2,11 +2,12 @@
 //!
 //! `messages` has messages and frames by their names, and `octets` reads them. `sites` reads what
 //! rows name, and `fleets` reads rows, does what they say and compares their output. Each other file
-//! has tests: of a hit without memory; of turns of a server over a port in memory; of events that are
+//! has tests: of the calls of a site; of a hit without memory; of turns of a server over a port in memory; of events that are
 //! halted. The tests below `refused` have an allocator that refuses a call (`refusing`).
 //!
 //! What a script shows of these is tried from outside, by `tests/run` at the top of the repository.
 
+mod calls;
 mod events;
 mod fleets;
 mod hits;

@@ -3,7 +3,7 @@
 //! `messages` has the octets that more than one row is about, by their names. `rows`, `tables`,
 //! `calls` and `observations` read rows, make their calls and compare their output. Each other file
 //! has tests: of names and octets; of lists of items; of messages that servers sent (`captures`) and
-//! that are read in place; of observations that are made (`bodies` has those behind other octets);
+//! that are read in place; of replies and queries; of observations that are made (`bodies` has those behind other octets);
 //! of fronts; of caches and the memory that purges give back; of frames that are taken; of open
 //! questions.
 //!
@@ -23,6 +23,7 @@ mod observations;
 mod purges;
 mod questions;
 mod reclaims;
+mod replies;
 mod rows;
 mod tables;
 mod taken;

@@ -6,7 +6,7 @@ use crate::tests::octets::octets;
 use crate::tests::sites::{addr, at, config, number};
 use fleet_name::Octets;
 use fleet_pending::Addr;
-use fleet_site::{ListClock, MemoryPort, Note, Port, Report, Site, serve};
+use fleet_site::{ListClock, MemoryPort, Note, Outcome, Port, Report, Site, serve};
 use rand_core::utils::NextWord;
 use rand_core::{Rng, utils};
 use std::alloc::{Allocator, Global};
@@ -38,6 +38,21 @@ impl Rng for OneWord {
 
     fn fill_bytes(&mut self, dst: &mut [u8]) {
         utils::fill_bytes_via_u32(self, dst)
+    }
+}
+
+/// Whether one packet goes out: to this port, with the octets of this name.
+pub fn is_sending<A: Allocator + Copy>(
+    rt: &impl Abort,
+    ample: A,
+    outcome: &Outcome<A>,
+    port: u16,
+    name: &str,
+) -> bool {
+    let wanted = octets(rt, ample, name);
+    match outcome.packets.as_slice() {
+        [packet] => packet.to == addr(port) && packet.bytes.as_slice() == wanted.as_slice(),
+        _ => false,
     }
 }
 

@@ -4,7 +4,7 @@
 use crate::tests::observations::moment_of;
 use crate::tests::rows::octets_of;
 use fleet_cache::Cache;
-use fleet_gossip::{FrameFault, TakeFault, decode, encode, take_frame};
+use fleet_gossip::{FrameFault, TakeFault, decode, encode, pack, sweep, take_frame};
 use fleet_observe::{LentObservation, Observation};
 use linked_list_allocator::LocalHeap;
 use std::alloc::{AllocError, Global};
@@ -148,7 +148,7 @@ fn what_is_lent_is_compared_in_place(rt: HostRuntime) {
     }
 }
 
-/// What a frame reads is written as it was, and what has no room in one is not.
+/// What a frame reads is written as it was, and what has no room in one is written in two.
 #[test]
 fn what_is_too_long_for_a_frame_is_not_written(rt: HostRuntime) {
     let frame = octets_of(&rt, rt.alloc(), LARGE);
@@ -159,4 +159,10 @@ fn what_is_too_long_for_a_frame_is_not_written(rt: HostRuntime) {
         all.push(observation).expect(&rt, "memory");
     }
     assert_eq!(&rt; encode(rt.alloc(), &all).err(), Some(FrameFault::TooLong));
+    let frames = pack(rt.alloc(), &all).expect(&rt, "frames");
+    assert_eq!(&rt; frames.as_slice().len(), 2);
+    let mut cache = Cache::new(rt.alloc());
+    cache.take_list(all).expect(&rt, "memory");
+    let frames = sweep(rt.alloc(), &cache).expect(&rt, "frames");
+    assert_eq!(&rt; frames.as_slice().len(), 1);
 }

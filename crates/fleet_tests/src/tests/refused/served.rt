@@ -4,9 +4,9 @@ use crate::tests::octets::octets;
 use crate::tests::refused::MANY;
 use crate::tests::refusing::Refusing;
 use crate::tests::sites::{addr, config};
-use crate::tests::turns::{OneWord, clock, has_ended, port};
+use crate::tests::turns::{OneWord, clock, has_ended, is_sending, port};
 use fleet_observe::Moment;
-use fleet_site::{MemoryPort, Note, Outcome, Port, Report, Site, serve};
+use fleet_site::{MemoryPort, Note, Port, Report, Site, serve};
 use std::alloc::{Allocator, Global};
 use std::process::Abort;
 
@@ -63,21 +63,6 @@ fn has_sent<A: Allocator + Copy>(
     match port.notes() {
         Some(notes) => count_sent(rt, ample, notes) == Some(count as usize),
         None => true,
-    }
-}
-
-/// Whether one packet goes out: to this port, with the octets of this name.
-fn is_sending<A: Allocator + Copy>(
-    rt: &impl Abort,
-    ample: A,
-    outcome: &Outcome<A>,
-    port: u16,
-    name: &str,
-) -> bool {
-    let wanted = octets(rt, ample, name);
-    match outcome.packets.as_slice() {
-        [packet] => packet.to == addr(port) && packet.bytes.as_slice() == wanted.as_slice(),
-        _ => false,
     }
 }
 

@@ -1,0 +1,47 @@
+//! What each call of a site answers, where there is memory, that can find none.
+
+use crate::tests::octets::octets;
+use crate::tests::sites::{addr, at, config, name_of};
+use crate::tests::turns::is_sending;
+use fleet_site::{Looked, Site};
+use std::alloc::Global;
+use std::process::Abort;
+
+/// A question is asked at one upstream, and at the next one two seconds later.
+fn check_asked(rt: &impl Abort, alloc: Global, site: &mut Site) {
+    let question = octets(rt, alloc, "question");
+    let asked = site.datagram(at(rt, 100), addr(6001), question.as_slice(), 0x1234);
+    let asked = asked.expect(rt, "an outcome");
+    assert!(rt; is_sending(rt, alloc, &asked, 5301, "query"));
+    let asked = site.tick(at(rt, 102)).expect(rt, "an outcome");
+    assert!(rt; is_sending(rt, alloc, &asked, 5302, "query"))
+}
+
+/// A reply is learnt and answers, a frame is taken, and a name is flushed.
+fn check_taken(rt: &impl Abort, alloc: Global, site: &mut Site) {
+    let reply = octets(rt, alloc, "reply");
+    let learnt = site.learn(at(rt, 100), reply.as_slice());
+    assert_eq!(rt; learnt.expect(rt, "an outcome").taken, 1);
+    let question = octets(rt, alloc, "question");
+    let looked = site
+        .ask(at(rt, 110), question.as_slice())
+        .expect(rt, "an answer");
+    let wanted = octets(rt, alloc, "relay-290");
+    assert!(rt; matches!(looked, Looked::Reply(octets) if octets.as_slice() == wanted.as_slice()));
+    let frame = octets(rt, alloc, "frame-100");
+    let taken = site.frame(at(rt, 110), frame.as_slice());
+    assert_eq!(rt; taken.expect(rt, "an outcome").taken, 1);
+    let flushed = site.flush(at(rt, 120), &name_of(rt, alloc, "com"));
+    assert_eq!(rt; flushed.expect(rt, "an outcome").taken, 1)
+}
+
+#[test]
+fn each_call_answers(rt: HostRuntime) {
+    let mut site = Site::new(rt.alloc(), config(&rt, rt.alloc(), &[]));
+    check_asked(&rt, rt.alloc(), &mut site);
+    site.restart();
+    check_taken(&rt, rt.alloc(), &mut site);
+    assert_eq!(&rt; site.sweep().expect(&rt, "frames").as_slice().len(), 1);
+    let mut other = Site::new(rt.alloc(), config(&rt, rt.alloc(), &[]));
+    assert_eq!(&rt; other.merge(&site).expect(&rt, "a count"), 1);
+}
