@@ -18,8 +18,8 @@ FILES = ("examples_questions.txt", "examples_datagrams.txt", "examples_frames.tx
 EXAMPLES = 58
 MOST_SITES = 9
 
-# Where the program's crate has the same texts, and runs them with each call for memory refused.
-SOURCES = TESTS.parent / "crates" / "dnsfleet" / "src" / "tests"
+# Where the program's crate has the same scripts, and runs them with each call for memory refused.
+SOURCE = TESTS.parent / "crates" / "dnsfleet" / "src" / "tests" / "scripts.rt"
 
 
 def parts_of_transcript(transcript):
@@ -96,17 +96,18 @@ class AllExamples(Case):
         self.check_equal(run_interrupted([script]), Ended(0, printed))
 
 
-def text_in(source):
-    """The text of a source file of the crate that has one constant of several lines."""
-    text = (SOURCES / source).read_text(encoding="utf-8").split(' = "\\\n', 1)[1].split('\n";', 1)[0]
-    return re.sub(r"\\(.)", r"\1", text) + "\n"
+def scripts_of_the_crate():
+    """What each script of the program's crate shows, and its lines."""
+    text = SOURCE.read_text(encoding="utf-8").split(' = "\\\n', 1)[1].split('\n";', 1)[0]
+    scripts = [script.split("\n") for script in text.split("\n\n")]
+    return [(shows.removeprefix("# "), [spelled(line) for line in lines]) for shows, *lines in scripts]
 
 
 class InTheCrate(Case):
-    """The texts of the program's crate, where the sources are at hand."""
+    """The scripts of the program's crate, where the sources are at hand."""
 
     def test_same(self):
-        """the examples of the program's crate are these"""
-        for name in FILES if SOURCES.is_dir() else ():
-            source = name.removeprefix("examples_").replace(".txt", ".rt")
-            self.check_equal(text_in(source), (CASES / name).read_text(encoding="utf-8"), name)
+        """the scripts of the program's crate are those of the examples"""
+        wanted = [(shows, script) for shows, script, _ in read_examples()]
+        if SOURCE.is_file():
+            self.check_equal(scripts_of_the_crate(), wanted)

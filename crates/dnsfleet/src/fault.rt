@@ -12,7 +12,7 @@ use thiserror::Error;
 
 /// What is wrong with a line. Faults are reported in this order, but those of words, `BadNumber` to
 /// `BadName`, word by word, and `OutOfMemory` at the allocation that failed.
-#[derive(Clone, Copy, Debug, PartialEq, Eq, Error)]
+#[derive(Clone, Copy, Debug, Error)]
 pub enum LineFault {
     /// The reader failed, or was called too often.
     #[error("read")]
@@ -88,7 +88,7 @@ impl<A: Allocator> From<WorldFault<A>> for LineFault {
 }
 
 /// The line, counted from 1, at which a script ended, and what is wrong with it.
-#[derive(Clone, Copy, Debug, PartialEq, Eq, Error)]
+#[derive(Clone, Copy, Debug, Error)]
 #[error("line {line}: {what}")]
 pub struct ScriptFault {
     /// The line, from 1.

@@ -78,7 +78,7 @@ pub fn options<'a>(alloc: Global, command: Command<'a>) -> Result<Command<'a>, A
 }
 
 /// Why a configuration gave no settings.
-#[derive(Clone, Copy, Debug, PartialEq, Eq, Error)]
+#[derive(Clone, Copy, Debug, Error)]
 pub enum ConfigurationFault {
     /// The file can't be read.
     #[error("not readable")]

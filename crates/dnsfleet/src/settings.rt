@@ -23,7 +23,7 @@ const USUAL_SWEEP: u32 = 30;
 const LONGEST_SWEEP: u32 = 3600;
 
 /// Why octets are no configuration: of several faults the first.
-#[derive(Clone, Copy, Debug, PartialEq, Eq, Error)]
+#[derive(Clone, Copy, Debug, Error)]
 pub enum SettingsFault {
     /// It has more than 65536 octets.
     #[error("too long")]

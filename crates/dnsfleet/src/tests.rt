@@ -5,11 +5,7 @@
 //! tried from outside, by `tests/run` at the top of the repository.
 
 mod bursts;
-mod datagrams;
-mod examples;
-mod frames;
 mod loopback;
-mod messages;
-mod questions;
 mod refused;
 mod refusing;
+mod scripts;

@@ -17,20 +17,11 @@ const FRAME: usize = 600;
 /// A buffer with room for a frame and one octet more.
 type Buffer = [u8; FRAME + 1];
 
-/// This number of octets, which begin with a mark.
-fn marked(rt: &impl Abort, alloc: Global, mark: u8, len: usize) -> Vec<u8> {
-    let mut octets = vec![in alloc; 0u8; len].expect(rt, "memory");
-    if let Some(first) = octets.first_mut() {
-        *first = mark;
-    }
-    octets
-}
-
-/// Sends a datagram for each mark: a frame for a digit, a message for anything else.
-fn send_marked(rt: &impl Abort, alloc: Global, socket: &UdpSocket, to: Addr, marks: &str) {
+/// Sends a datagram of each mark, again and again: a frame for a digit, a message for anything else.
+fn send_marked(rt: &impl Abort, socket: &UdpSocket, to: Addr, marks: &str) {
     for mark in marks.bytes() {
         let len = if mark.is_ascii_digit() { FRAME } else { 20 };
-        send(rt, socket, to, &marked(rt, alloc, mark, len));
+        send(rt, socket, to, &[mark; FRAME][..len]);
     }
 }
 
@@ -86,7 +77,7 @@ fn marks_at<A: Allocator + Copy>(
     port: &mut UdpPort<'_, HostRuntime, A>,
 ) -> String {
     let (client, _) = open(stop, rt);
-    send_marked(stop, rt.alloc(), &client, port.address(), "12a3");
+    send_marked(stop, &client, port.address(), "12a3");
     handed_on(stop, rt.alloc(), port)
 }
 

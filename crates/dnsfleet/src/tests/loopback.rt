@@ -1,6 +1,5 @@
 //! Sites over sockets of this machine, and the system's clock.
 
-use super::messages::{QUESTION, RELAY};
 use crate::{SystemClock, UdpPort};
 use fleet_observe::Moment;
 use fleet_pending::Addr;
@@ -15,8 +14,18 @@ use std::process::Abort;
 use std::time::Duration;
 use std::{io, time};
 
-/// The record of a reply behind the question: example.com. 300 IN A 192.0.2.1
-const RECORD: &[u8] = b"\xc0\x0c\x00\x01\x00\x01\x00\x00\x01\x2c\x00\x04\xc0\x00\x02\x01";
+/// id 7 rd: example.com. IN A
+const QUESTION: &[u8] =
+    b"\x00\x07\x01\x00\x00\x01\x00\x00\x00\x00\x00\x00\x07example\x03com\x00\x00\x01\x00\x01";
+
+/// id 7 qr rd ra NOERROR: example.com. IN A; answer example.com. 300 IN A 192.0.2.1
+const RELAY: &[u8] =
+    b"\x00\x07\x81\x80\x00\x01\x00\x01\x00\x00\x00\x00\x07example\x03com\x00\x00\x01\x00\x01\x07example\x03com\x00\x00\x01\x00\x01\x00\x00\x01\x2c\x00\x04\xc0\x00\x02\x01";
+
+/// What lies behind the id of qr rd ra NOERROR: example.com. IN A; answer example.com. 300 IN A
+/// 192.0.2.1
+const REPLY: &[u8] =
+    b"\x81\x80\x00\x01\x00\x01\x00\x00\x00\x00\x07example\x03com\x00\x00\x01\x00\x01\xc0\x0c\x00\x01\x00\x01\x00\x00\x01\x2c\x00\x04\xc0\x00\x02\x01";
 
 /// Where the last octet of the TTL is in the answer to it, which has the name in full.
 const SECONDS: usize = 49;
@@ -111,25 +120,13 @@ fn open_sites<'a>(
     (first, second)
 }
 
-/// The reply to a query: the same header with the bits of a reply and one record, the same
-/// question, and the record.
-fn reply_to(rt: &impl Abort, alloc: Global, query: &[u8]) -> Vec<u8> {
-    let (id, rest) = query.split_at_checked(2).expect(rt, "an id");
-    let (_, question) = rest.split_at_checked(10).expect(rt, "a header");
-    let mut reply = Vec::from_slice(alloc, id).expect(rt, "memory");
-    reply
-        .extend_from_slice(b"\x81\x80\x00\x01\x00\x01\x00\x00\x00\x00")
-        .expect(rt, "memory");
-    reply.extend_from_slice(question).expect(rt, "memory");
-    reply.extend_from_slice(RECORD).expect(rt, "memory");
-    reply
-}
-
 /// The upstream answers the one query that was sent to it.
 fn answer_query(rt: &impl Abort, alloc: Global, stub: &UdpSocket, site: Addr) {
     let query = receive(rt, alloc, stub);
     assert_eq!(rt; query.get(2..), QUESTION.get(2..));
-    let reply = reply_to(rt, alloc, &query);
+    let id = query.get(..2).expect(rt, "an id");
+    let mut reply = Vec::from_slice(alloc, id).expect(rt, "memory");
+    reply.extend_from_slice(REPLY).expect(rt, "memory");
     send(rt, stub, site, &reply);
 }
 
@@ -148,18 +145,12 @@ fn check_first<R: Abort + time::Clock>(
     assert_eq!(rt; receive(rt, alloc, client).as_slice(), RELAY);
 }
 
-/// An answer has the record, with a TTL that is hardly less.
+/// An answer has the record, with a TTL of 295 to 300 seconds, since a test may take some.
 fn check_answer(rt: &impl Abort, answer: &mut [u8]) {
-    assert!(rt; is_recent(seconds_in(answer)));
-    set_seconds(answer);
+    let seconds = answer.get_mut(SECONDS).expect(rt, "a TTL");
+    assert!(rt; 39 <= *seconds && *seconds <= 44);
+    *seconds = 44;
     assert_eq!(rt; &*answer, RELAY);
-}
-
-/// Nothing more comes to a socket.
-fn check_silence(rt: &impl Abort, stub: &UdpSocket) {
-    let mut buffer = [0u8; 600];
-    stub.set_nonblocking(true).expect(rt, "a setting");
-    assert!(rt; stub.recv_from(&mut buffer).is_err());
 }
 
 /// The peer takes in what it was sent, and answers from it; the upstream is sent nothing more.
@@ -174,7 +165,8 @@ fn check_second<R: Abort + time::Clock>(
     send(rt, client, second.port.address(), QUESTION);
     second.serve(rt, 1);
     check_answer(rt, receive(rt, alloc, client).as_mut_slice());
-    check_silence(rt, stub);
+    stub.set_nonblocking(true).expect(rt, "a setting");
+    assert!(rt; stub.recv_from(&mut [0u8; 600]).is_err());
 }
 
 /// One site after the other.
@@ -195,26 +187,6 @@ fn serves_what_a_peer_learnt(rt: HostRuntime) {
     let (stub, upstream) = open(&rt, &rt);
     let mut sites = open_sites(&rt, &rt, upstream);
     check_sites(&rt, rt.alloc(), &stub, &client, &mut sites);
-}
-
-/// The last octet of the TTL in the answer to the question.
-fn seconds_in(answer: &[u8]) -> Option<u8> {
-    answer.get(SECONDS).copied()
-}
-
-/// Whether the last octet of a TTL is that of 295 to 300 seconds, since a test may take some.
-fn is_recent(seconds: Option<u8>) -> bool {
-    match seconds {
-        Some(seconds) => 39 <= seconds && seconds <= 44,
-        None => false,
-    }
-}
-
-/// Sets the last octet of the TTL to that of 300 seconds.
-fn set_seconds(answer: &mut [u8]) {
-    if let Some(seconds) = answer.get_mut(SECONDS) {
-        *seconds = 44;
-    }
 }
 
 /// A send to no port fails and is counted; a receive that finds nothing is not.
