@@ -2,8 +2,8 @@
 
 use crate::tests::in_place::written_twice;
 use crate::tests::rows::{Words, octets_of, push_octets};
-use crate::tests::tables::{check_rows, rows_of};
-use fleet_wire::{Message, Outline, ReadFault, Record, plain_rdata, read_reply};
+use crate::tests::tables::check_rows;
+use fleet_wire::{Message, Outline, plain_rdata, read_reply};
 use std::alloc::Global;
 use std::process::Abort;
 
@@ -327,34 +327,19 @@ reply 12348180000100010000000007'example'03'com'0000010001c00c000100010000012c00
 reply <aliases-relay> => <aliases-relay>
 ";
 
-/// Adds why there is no message.
-fn push_fault(rt: &impl Abort, output: &mut String, fault: ReadFault) {
-    write!(output, "{fault:?}").expect(rt, "memory");
-}
-
-/// Adds a record to the answer section of an outline.
-fn add_answer<'a>(rt: &impl Abort, outline: &mut Outline<'a>, record: &'a Record) {
-    let rdata = record.rdata.as_slice();
-    outline
-        .answer(&record.name, record.rtype, record.ttl, rdata)
-        .expect(rt, "a record");
-}
-
-/// Adds a record to the authority section of an outline.
-fn add_authority<'a>(rt: &impl Abort, outline: &mut Outline<'a>, record: &'a Record) {
-    let rdata = record.rdata.as_slice();
-    outline
-        .authority(&record.name, record.rtype, record.ttl, rdata)
-        .expect(rt, "a record");
-}
-
 /// Adds the records of a reply as an outline's.
 fn add_records<'a>(rt: &impl Abort, outline: &mut Outline<'a>, reply: &'a Message) {
     for record in reply.answer() {
-        add_answer(rt, outline, record);
+        let rdata = record.rdata.as_slice();
+        outline
+            .answer(&record.name, record.rtype, record.ttl, rdata)
+            .expect(rt, "a record");
     }
     for record in reply.authority() {
-        add_authority(rt, outline, record);
+        let rdata = record.rdata.as_slice();
+        outline
+            .authority(&record.name, record.rtype, record.ttl, rdata)
+            .expect(rt, "a record");
     }
 }
 
@@ -376,17 +361,16 @@ pub(crate) fn show_rewritten(
     mut words: Words<'_>,
     output: &mut String,
 ) {
-    let message = words.octets(rt, alloc);
+    let message = octets_of(rt, alloc, words.word());
     match read_reply(alloc, message.as_slice()) {
         Ok(reply) => push_rewritten(rt, alloc, &reply, output),
-        Err(fault) => push_fault(rt, output, fault),
+        Err(fault) => write!(output, "{fault:?}").expect(rt, "memory"),
     }
 }
 
 #[test]
 fn reads_each_message(rt: HostRuntime) {
-    assert_eq!(rt; rows_of(EXAMPLES), 56);
-    check_rows(&rt, rt.alloc(), EXAMPLES);
+    assert_eq!(rt; check_rows(&rt, rt.alloc(), EXAMPLES), 56);
 }
 
 /// A reply with one record, by its type, the length of its RDATA and its RDATA, which begins at place 39;
@@ -398,18 +382,7 @@ fn reply_with(rt: &impl Abort, alloc: Global, rtype: &str, length: &str, rdata: 
     octets_of(rt, alloc, text.as_str())
 }
 
-/// Adds the RDATA of the first record of a message, or why it is none.
-fn push_rdata(rt: &impl Abort, alloc: Global, message: &[u8], output: &mut String) {
-    match read_reply(alloc, message) {
-        Ok(reply) => {
-            let record = reply.answer().first().expect(rt, "a record");
-            push_octets(rt, output, record.rdata.as_slice())
-        }
-        Err(fault) => push_fault(rt, output, fault),
-    }
-}
-
-/// What is read of RDATA: its type, its length and itself.
+/// What is read of RDATA, by its type, its length and itself, or why it is refused.
 pub(crate) fn show_rdata(
     rt: &impl Abort,
     alloc: Global,
@@ -419,7 +392,13 @@ pub(crate) fn show_rdata(
     let rtype = words.word();
     let length = words.word();
     let message = reply_with(rt, alloc, rtype, length, words.word());
-    push_rdata(rt, alloc, message.as_slice(), output);
+    match read_reply(alloc, message.as_slice()) {
+        Ok(reply) => {
+            let record = reply.answer().first().expect(rt, "a record");
+            push_octets(rt, output, record.rdata.as_slice())
+        }
+        Err(fault) => write!(output, "{fault:?}").expect(rt, "memory"),
+    }
 }
 
 /// The types with names in their RDATA (RFC 1035 3.3, RFC 2782), in hexadecimal digits as the length of
@@ -454,23 +433,18 @@ fn has_names(rt: &impl Abort, alloc: Global, rtype: u16) -> bool {
     }
 }
 
-/// How many of the 65536 types have names in their RDATA. A pointer alone is plain RDATA of each
-/// other one.
-fn count_shaped(rt: &impl Abort, alloc: Global) -> usize {
+/// As many of the 65536 types have names in their RDATA as there are rows. A pointer alone is plain
+/// RDATA of each other one.
+#[test]
+fn shapes_of_types(rt: HostRuntime) {
     let mut shaped = 0usize;
     for rtype in 0..=u16::MAX {
-        let has_names = has_names(rt, alloc, rtype);
-        assert!(rt;
+        let has_names = has_names(&rt, rt.alloc(), rtype);
+        assert!(&rt;
             plain_rdata(rtype, b"\xc0\x0c") != has_names,
             "type {rtype}"
         );
         shaped = shaped.saturating_add(usize::from(has_names));
     }
-    shaped
-}
-
-#[test]
-fn shapes_of_types(rt: HostRuntime) {
-    check_rows(&rt, rt.alloc(), SHAPES);
-    assert_eq!(rt; count_shaped(&rt, rt.alloc()), rows_of(SHAPES));
+    assert_eq!(rt; check_rows(&rt, rt.alloc(), SHAPES), shaped);
 }
