@@ -373,14 +373,9 @@ fn reads_each_message(rt: HostRuntime) {
     assert_eq!(rt; check_rows(&rt, rt.alloc(), EXAMPLES), 56);
 }
 
-/// A reply with one record, by its type, the length of its RDATA and its RDATA, which begins at place 39;
-/// its question is for a.example, whose name begins at place 12.
-fn reply_with(rt: &impl Abort, alloc: Global, rtype: &str, length: &str, rdata: &str) -> Vec<u8> {
-    let text = format!(in alloc;
-        "00018180000100010000000001'a'07'example'0000010001c00c{rtype}00010000012c{length}{rdata}"
-    ).expect(rt, "memory");
-    octets_of(rt, alloc, text.as_str())
-}
+/// A reply up to the type of its one record: its question is for a.example, whose name begins at place
+/// 12, and its record's RDATA begins at place 39.
+const UP_TO_TYPE: &str = "00018180000100010000000001'a'07'example'0000010001c00c";
 
 /// What is read of RDATA, by its type, its length and itself, or why it is refused.
 pub(crate) fn show_rdata(
@@ -389,9 +384,9 @@ pub(crate) fn show_rdata(
     mut words: Words<'_>,
     output: &mut String,
 ) {
-    let rtype = words.word();
-    let length = words.word();
-    let message = reply_with(rt, alloc, rtype, length, words.word());
+    let (rtype, length, rdata) = (words.word(), words.word(), words.word());
+    let text = format!(in alloc; "{UP_TO_TYPE}{rtype}00010000012c{length}{rdata}");
+    let message = octets_of(rt, alloc, text.expect(rt, "memory").as_str());
     match read_reply(alloc, message.as_slice()) {
         Ok(reply) => {
             let record = reply.answer().first().expect(rt, "a record");
@@ -419,15 +414,20 @@ rdata 000f 0004 {ff*2}c00c => {ff*2}01'a'07'example'00
 rdata 0021 0008 {ff*6}c00c => {ff*6}01'a'07'example'00
 ";
 
-/// Whether a type's RDATA has names: a pointer alone is then expanded or refused.
-fn has_names(rt: &impl Abort, alloc: Global, rtype: u16) -> bool {
-    let pointer = b"\xc0\x0c";
-    let digits = hex::encode(alloc, &rtype.to_be_bytes()).expect(rt, "memory");
-    let message = reply_with(rt, alloc, digits.as_str(), "0002", "c00c");
+/// Whether a type's RDATA has names: a pointer alone is then expanded or refused, behind the octets of
+/// `UP_TO_TYPE`.
+fn has_names(rt: &impl Abort, alloc: Global, up_to_type: &[u8], rtype: u16) -> bool {
+    let mut message = Vec::from_slice(alloc, up_to_type).expect(rt, "memory");
+    message
+        .extend_from_slice(&rtype.to_be_bytes())
+        .expect(rt, "memory");
+    message
+        .extend_from_slice(b"\0\x01\0\0\x01\x2c\0\x02\xc0\x0c")
+        .expect(rt, "memory");
     match read_reply(alloc, &message) {
         Ok(reply) => {
             let record = reply.answer().first().expect(rt, "a record");
-            record.rdata.as_slice() != pointer.as_slice()
+            record.rdata.as_slice() != b"\xc0\x0c".as_slice()
         }
         Err(_) => true,
     }
@@ -437,9 +437,10 @@ fn has_names(rt: &impl Abort, alloc: Global, rtype: u16) -> bool {
 /// RDATA of each other one.
 #[test]
 fn shapes_of_types(rt: HostRuntime) {
+    let up_to_type = octets_of(&rt, rt.alloc(), UP_TO_TYPE);
     let mut shaped = 0usize;
     for rtype in 0..=u16::MAX {
-        let has_names = has_names(&rt, rt.alloc(), rtype);
+        let has_names = has_names(&rt, rt.alloc(), &up_to_type, rtype);
         assert!(&rt;
             plain_rdata(rtype, b"\xc0\x0c") != has_names,
             "type {rtype}"
