@@ -18,19 +18,16 @@ fn check_asked(rt: &impl Abort, alloc: Global, site: &mut Site) {
     assert!(rt; is_sending(rt, alloc, &asked, 5302, "query"))
 }
 
-/// The answer ten seconds after the reply.
-fn relayed(rt: &impl Abort, alloc: Global) -> Looked {
-    Looked::Reply(octets(rt, alloc, "relay-290"))
-}
-
-/// A reply is learnt and answers, a frame is taken, and a name is flushed.
+/// A reply is learnt and answers, with a TTL that is ten less ten seconds later, a frame is taken, and
+/// a name is flushed.
 fn check_taken(rt: &impl Abort, alloc: Global, site: &mut Site) {
     let reply = octets(rt, alloc, "reply");
     let learnt = site.learn(at(rt, 100), reply.as_slice());
     assert_eq!(rt; learnt.expect(rt, "an outcome").taken, 1);
     let question = octets(rt, alloc, "question");
     let looked = site.ask(at(rt, 110), question.as_slice());
-    assert!(rt; same_looked(&looked.expect(rt, "an answer"), &relayed(rt, alloc)));
+    let relayed = Looked::Reply(octets(rt, alloc, "relay-290"));
+    assert!(rt; same_looked(&looked.expect(rt, "an answer"), &relayed));
     let frame = octets(rt, alloc, "frame-100");
     let taken = site.frame(at(rt, 110), frame.as_slice());
     assert_eq!(rt; taken.expect(rt, "an outcome").taken, 1);

@@ -1,9 +1,6 @@
 //! A list of events that is halted.
 
 use crate::tests::fleets::{events_of, fleet, rows_of};
-use fleet_world::World;
-use std::alloc::Global;
-use std::process::Abort;
 
 /// Events, of which the second one names a frame that was not kept.
 const HALTED: &str = "\
@@ -11,19 +8,14 @@ tick 0 100
 deliver 0 200 0
 tick 1 300";
 
-/// Why a run of the events of rows was halted, and after how many.
-fn halt_of(rt: &impl Abort, alloc: Global, world: &mut World, rows: &str) -> String {
-    let events = events_of(rt, alloc, &rows_of(rt, alloc, rows));
-    match world.run(&events) {
-        Ok(_) => panic!(rt; "not halted"),
-        Err(halted) => format!(in alloc; "{halted}").expect(rt, "memory"),
-    }
-}
-
 #[test]
 fn a_run_halts_where_a_frame_is_not_there(rt: HostRuntime) {
     let mut world = fleet(&rt, rt.alloc(), 1, &[]);
-    let halt = halt_of(&rt, rt.alloc(), &mut world, HALTED);
+    let events = events_of(&rt, rt.alloc(), &rows_of(&rt, rt.alloc(), HALTED));
+    let halt = match world.run(&events) {
+        Ok(_) => panic!(rt; "not halted"),
+        Err(halted) => format!(in rt.alloc(); "{halted}").expect(&rt, "memory"),
+    };
     assert_eq!(rt; halt.as_str(), "event 1: no such frame");
     let site = world.site(0).expect(&rt, "a site");
     assert_eq!(rt; site.clock().value(), 100);

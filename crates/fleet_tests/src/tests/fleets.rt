@@ -70,12 +70,6 @@ fn datagram<A: Allocator + Copy>(
     }
 }
 
-/// A kept frame comes to a site at a moment.
-fn deliver<A: Allocator>(rt: &impl Abort, site: usize, now: Moment, words: &str) -> Event<A> {
-    let (frame, _) = first_place(rt, words);
-    Event::Deliver { site, now, frame }
-}
-
 /// An event at a site at a moment.
 fn timed_event<A: Allocator + Copy>(
     rt: &impl Abort,
@@ -88,7 +82,11 @@ fn timed_event<A: Allocator + Copy>(
     let now = at(rt, now);
     match kind {
         "datagram" => datagram(rt, alloc, site, now, words),
-        "deliver" => deliver(rt, site, now, words),
+        "deliver" => Event::Deliver {
+            site,
+            now,
+            frame: first_place(rt, words).0,
+        },
         "tick" => Event::Tick { site, now },
         "frame" => Event::Frame {
             site,
@@ -162,18 +160,6 @@ pub fn do_row<A: Allocator + Copy>(
     match world.step(&event) {
         Ok(stepped) => Ok(Done::Stepped(stepped)),
         Err(fault) => Err(fault),
-    }
-}
-
-/// Does what rows say, where there is memory.
-pub fn do_rows<A: Allocator + Copy>(
-    rt: &impl Abort,
-    ample: A,
-    world: &mut World<A>,
-    rows: &[&str],
-) {
-    for row in rows {
-        let _ = do_row(rt, ample, world, row).expect(rt, "a row");
     }
 }
 

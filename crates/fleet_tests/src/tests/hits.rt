@@ -26,22 +26,6 @@ fn rest_of<'a>(
     all
 }
 
-/// A site over a heap.
-fn heap_site<'a>(rt: &impl Abort, heap: &'a LocalHeap) -> Site<&'a LocalHeap> {
-    let upstreams = Vec::from_slice(heap, &[addr(5301)]).expect(rt, "memory");
-    Site::new(
-        heap,
-        Config::new(upstreams, Vec::new(heap)).expect(rt, "a configuration"),
-    )
-}
-
-/// The site learns the reply at 100.
-fn learn(rt: &impl Abort, global: Global, site: &mut Site<&LocalHeap>) {
-    let now = at(rt, 100);
-    let reply = octets(rt, global, "reply");
-    let _ = site.learn(now, reply.as_slice()).expect(rt, "an outcome");
-}
-
 /// A hit goes into a buffer that has room, and not into one that has none; nor can it then be answered
 /// in another way. A miss finds no memory.
 fn check_full<'a>(
@@ -71,28 +55,22 @@ fn check_full<'a>(
     );
 }
 
-/// A site learns the reply, and then nothing is left of its heap.
-fn check_heap<'a>(
-    rt: &impl Abort,
-    global: Global,
-    heap: &'a LocalHeap,
-    site: &mut Site<&'a LocalHeap>,
-) {
-    learn(rt, global, site);
+/// A site over this heap learns the reply, and then nothing is left of the heap.
+fn check_heap(rt: &impl Abort, global: Global, heap: &LocalHeap) {
+    let upstreams = Vec::from_slice(heap, &[addr(5301)]).expect(rt, "memory");
+    let config = Config::new(upstreams, Vec::new(heap)).expect(rt, "a configuration");
+    let mut site = Site::new(heap, config);
+    let reply = octets(rt, global, "reply");
+    let learnt = site.learn(at(rt, 100), reply.as_slice());
+    let _ = learnt.expect(rt, "an outcome");
     let mut out = Vec::with_capacity(heap, LONGEST_MESSAGE).expect(rt, "memory");
     let rest = rest_of(rt, global, heap);
     assert!(rt; !rest.is_empty());
-    check_full(rt, global, heap, site, &mut out)
-}
-
-/// The same, of a site over this heap.
-fn check_site(rt: &impl Abort, global: Global, heap: &LocalHeap) {
-    let mut site = heap_site(rt, heap);
-    check_heap(rt, global, heap, &mut site)
+    check_full(rt, global, heap, &mut site, &mut out)
 }
 
 #[test]
 fn a_hit_takes_no_memory(rt: HostRuntime) {
     let heap = LocalHeap::new(rt.alloc(), 1 << 14).expect(&rt, "memory");
-    check_site(&rt, rt.alloc(), &heap)
+    check_heap(&rt, rt.alloc(), &heap)
 }

@@ -18,13 +18,6 @@ fn add_part<A: Allocator>(rt: &impl Abort, text: &mut String<A>, part: &str) {
     }
 }
 
-/// Adds the digits of all parts of octets.
-fn add_parts<A: Allocator>(rt: &impl Abort, text: &mut String<A>, parts: &str) {
-    for part in parts.split_whitespace() {
-        add_part(rt, text, part);
-    }
-}
-
 /// The parts of the octets that have this name.
 pub fn parts_of(name: &str) -> Option<&'static str> {
     for line in MESSAGES.lines() {
@@ -37,19 +30,13 @@ pub fn parts_of(name: &str) -> Option<&'static str> {
     None
 }
 
-/// Adds a word: the digits of the octets that it names, or of itself as a part.
-fn add_word<A: Allocator>(rt: &impl Abort, text: &mut String<A>, word: &str) {
-    match parts_of(word) {
-        Some(parts) => add_parts(rt, text, parts),
-        None => add_part(rt, text, word),
-    }
-}
-
-/// The octets of a name, or of parts.
+/// The octets of words, each of which is a name or a part.
 pub fn octets<A: Allocator + Copy>(rt: &impl Abort, alloc: A, words: &str) -> Octets<A> {
     let mut digits = String::new(alloc);
     for word in words.split_whitespace() {
-        add_word(rt, &mut digits, word);
+        for part in parts_of(word).unwrap_or(word).split_whitespace() {
+            add_part(rt, &mut digits, part);
+        }
     }
     Octets::new(hex::decode(alloc, digits.as_str()).expect(rt, "digits"))
 }

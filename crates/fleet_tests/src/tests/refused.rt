@@ -64,19 +64,6 @@ struct Part<A: Allocator> {
     world: World<A>,
 }
 
-/// What a world is like where the last of these rows ran out of memory after these observations.
-fn part_after<A: Allocator + Copy>(
-    rt: &impl Abort,
-    trial: &Trial<'_, A>,
-    rows: &[&str],
-    taken: usize,
-) -> Part<A> {
-    let (row, others) = rows.split_last().expect(rt, "a row");
-    let mut world = world_after(rt, trial.ample, trial.sites, others);
-    do_part(rt, trial.ample, &mut world, row, taken);
-    Part { taken, world }
-}
-
 /// Checks a world after the last of these rows, which ran out of memory after these observations.
 /// The world that it is compared with is kept for the next such row.
 fn check_part<A: Allocator + Copy>(
@@ -87,12 +74,17 @@ fn check_part<A: Allocator + Copy>(
     taken: usize,
     known: &mut Option<Part<A>>,
 ) {
-    let is_known = known.as_ref().is_some_and(|part| part.taken == taken);
-    if !is_known {
-        *known = Some(part_after(rt, trial, rows, taken));
+    let (row, others) = rows.split_last().expect(rt, "a row");
+    if !matches!(&*known, Some(part) if part.taken == taken) {
+        let mut wanted = world_after(rt, trial.ample, trial.sites, others);
+        do_part(rt, trial.ample, &mut wanted, row, taken);
+        *known = Some(Part {
+            taken,
+            world: wanted,
+        });
     }
     let part = known.as_ref().expect(rt, "a part");
-    check_same(rt, world, &part.world, rows.last().expect(rt, "a row"))
+    check_same(rt, world, &part.world, row)
 }
 
 /// Checks a world after an event that was done, and whose frames were not kept: it did what the same
@@ -211,47 +203,19 @@ fn refuse_rows<A: Allocator + Copy>(
     panic!(rt; "refused each time");
 }
 
-/// Does rows so, with these allocators.
-fn refuse_with<A: Allocator + Copy>(
-    rt: &impl Abort,
-    ample: A,
-    alloc: A,
-    refusing: &Refusing<Global>,
-    sites: usize,
-    rows: &[&str],
-    met: &mut Met,
-) {
-    let trial = Trial {
-        ample,
-        alloc,
-        refusing: &*refusing,
-        sites,
-    };
-    refuse_rows(rt, &trial, rows, met)
-}
-
-/// Does rows with each call of each refused in turn.
-fn refuse_each(rt: &impl Abort, alloc: Global, sites: usize, rows: &str, met: &mut Met) {
-    let rows = rows_of(rt, alloc, rows);
-    let ample = Refusing::after(alloc, 0);
-    let refusing = Refusing::after(alloc, MANY);
-    refuse_with(rt, &ample, &refusing, &refusing, sites, &rows, met)
-}
-
-/// Does the rows of an example so.
+/// Does the rows of an example with each call of each refused in turn.
 fn refuse_example(rt: &impl Abort, alloc: Global, text: &str, met: &mut Met) {
     let example = example_of(rt, text);
-    refuse_each(rt, alloc, example.sites, example.rows, met)
-}
-
-/// Does the rows of the denial so, behind each of the rows that bring other observations.
-fn refuse_denials(rt: &impl Abort, alloc: Global, met: &mut Met) {
-    let denial = example_of(rt, DENIAL);
-    for other in OTHERS.lines() {
-        let rows = denial.rows;
-        let text = format!(in alloc; "{other}\n{rows}").expect(rt, "memory");
-        refuse_each(rt, alloc, denial.sites, text.as_str(), met);
-    }
+    let rows = rows_of(rt, alloc, example.rows);
+    let ample = Refusing::after(alloc, 0);
+    let refusing = Refusing::after(alloc, MANY);
+    let trial = Trial {
+        ample: &ample,
+        alloc: &refusing,
+        refusing: &refusing,
+        sites: example.sites,
+    };
+    refuse_rows(rt, &trial, &rows, met)
 }
 
 #[test]
@@ -265,6 +229,10 @@ fn a_line_without_memory_is_done_again(rt: HostRuntime) {
         refuse_example(&rt, rt.alloc(), example, &mut met);
     }
     refuse_example(&rt, rt.alloc(), DENIAL, &mut met);
-    refuse_denials(&rt, rt.alloc(), &mut met);
+    let (head, rows) = DENIAL.split_once('\n').expect(&rt, "rows");
+    for other in OTHERS.lines() {
+        let text = format!(in rt.alloc(); "{head}\n{other}\n{rows}").expect(&rt, "memory");
+        refuse_example(&rt, rt.alloc(), text.as_str(), &mut met);
+    }
     assert!(rt; met.short && met.partly && met.lost);
 }

@@ -75,7 +75,7 @@ unsafe impl<A: Allocator> Allocator for Refusing<A> {
 }
 
 #[test]
-fn refuses_one_call_for_boxes(rt: HostRuntime) {
+fn refuses_calls_for_boxes(rt: HostRuntime) {
     for refused in 0..4u64 {
         let refusing = Refusing::after(rt.alloc(), refused);
         for call in 1..6u64 {
@@ -84,10 +84,6 @@ fn refuses_one_call_for_boxes(rt: HostRuntime) {
             assert_eq!(rt; refusing.has_refused(), 1 <= refused && refused <= call);
         }
     }
-}
-
-#[test]
-fn refuses_another_call_each_time(rt: HostRuntime) {
     let refusing = Refusing::after(rt.alloc(), 9);
     for refused in [3, 1, 9, 2] {
         refusing.refuse(refused);
@@ -96,6 +92,11 @@ fn refuses_another_call_each_time(rt: HostRuntime) {
             assert_eq!(rt; made.is_err(), call == refused);
             assert_eq!(rt; refusing.has_refused(), refused <= call);
         }
+    }
+    let refusing = Refusing::after(rt.alloc(), 0);
+    for refuses_all in [false, true, false, true] {
+        refusing.refuse_all(refuses_all);
+        assert_eq!(rt; Box::new(&refusing, 7u64).is_err(), refuses_all);
     }
 }
 
@@ -117,14 +118,5 @@ fn refuses_one_call_for_lists_and_maps(rt: HostRuntime) {
             }
         }
         assert_eq!(rt; (faults, list.len(), map.len()), (1, 99, 99));
-    }
-}
-
-#[test]
-fn refuses_all_calls_for_a_time(rt: HostRuntime) {
-    let refusing = Refusing::after(rt.alloc(), 0);
-    for refuses_all in [false, true, false, true] {
-        refusing.refuse_all(refuses_all);
-        assert_eq!(rt; Box::new(&refusing, 7u64).is_err(), refuses_all);
     }
 }

@@ -79,15 +79,6 @@ pub fn port<A: Allocator + Copy>(
     MemoryPort::new(alloc, arrivals, fail_at)
 }
 
-/// A number of turns from the moment 100 on, two seconds each, without sweeps, of a site that has
-/// two upstreams.
-fn run(rt: &impl Abort, alloc: Global, port: &mut MemoryPort, turns: u32) -> Report {
-    let mut site = Site::new(alloc, config(rt, alloc, &[]));
-    let mut clock = clock(rt, alloc, &[100, 102, 104]);
-    let mut words = OneWord(0xabcd_1234);
-    serve(port, &mut clock, &mut words, &mut site, turns, 0)
-}
-
 /// Compares a report with its counts: turns, datagrams received, packets sent, packets lost,
 /// receives that failed, refusals, and steps that ran out of memory.
 fn check_report(rt: &impl Abort, alloc: Global, report: Report, counts: &str) {
@@ -164,13 +155,18 @@ const FAILURES: &str = "\
 7 3 => 3 1 3 0 0 0 0 : received 6001 question, sent 5301 query, nothing, sent 5302 query, nothing, sent 6001 failure
 ";
 
-/// Compares the report of turns where a call fails, and the record.
+/// Compares the report of turns where a call fails, and the record: turns from the moment 100 on,
+/// two seconds each, without sweeps, of a site that has two upstreams.
 fn check_failure(rt: &impl Abort, alloc: Global, row: &str) {
     let (asked, row) = row.split_once(" => ").expect(rt, "counts");
     let (counts, notes) = row.split_once(" : ").expect(rt, "a record");
     let (fail_at, turns) = asked.split_once(' ').expect(rt, "turns");
     let mut port = port(rt, alloc, alloc, Some(u64::from(number(rt, fail_at))));
-    let report = run(rt, alloc, &mut port, u32::from(number(rt, turns)));
+    let mut site = Site::new(alloc, config(rt, alloc, &[]));
+    let mut clock = clock(rt, alloc, &[100, 102, 104]);
+    let mut words = OneWord(0xabcd_1234);
+    let turns = u32::from(number(rt, turns));
+    let report = serve(&mut port, &mut clock, &mut words, &mut site, turns, 0);
     let failed = report.lost.saturating_add(report.faults);
     assert_eq!(rt; port.failures(), failed, "{counts}");
     check_report(rt, alloc, report, counts);
@@ -185,23 +181,19 @@ fn a_call_that_fails_is_lost_or_a_fault(rt: HostRuntime) {
 }
 
 /// Turns of a site that holds the observation of a frame, with a sweep every 30 seconds.
-fn check_sweeps(rt: &impl Abort, alloc: Global, port: &mut MemoryPort, site: &mut Site) {
-    let frame = octets(rt, alloc, "frame-100");
-    let outcome = site.frame(at(rt, 100), frame.as_slice());
-    assert_eq!(rt; outcome.expect(rt, "an outcome").taken, 1);
-    let mut clock = clock(rt, alloc, &[100, 129, 130, 159]);
-    let mut words = OneWord(0xabcd_1234);
-    let report = serve(port, &mut clock, &mut words, site, 4, 30);
-    check_report(rt, alloc, report, "4 0 2 0 0 0 0");
-    let notes = "nothing, nothing, nothing, sent 5401 frame-100, sent 5402 frame-100, nothing";
-    check_notes(rt, alloc, port, notes)
-}
-
 #[test]
 fn sweeps_go_to_each_peer_in_their_time(rt: HostRuntime) {
     let alloc = rt.alloc();
     let mut port = MemoryPort::new(alloc, Vec::new(alloc), None);
     let peers = [addr(5401), addr(5402)];
     let mut site = Site::new(alloc, config(&rt, alloc, &peers));
-    check_sweeps(&rt, alloc, &mut port, &mut site)
+    let frame = octets(&rt, alloc, "frame-100");
+    let outcome = site.frame(at(&rt, 100), frame.as_slice());
+    assert_eq!(&rt; outcome.expect(&rt, "an outcome").taken, 1);
+    let mut clock = clock(&rt, alloc, &[100, 129, 130, 159]);
+    let mut words = OneWord(0xabcd_1234);
+    let report = serve(&mut port, &mut clock, &mut words, &mut site, 4, 30);
+    check_report(&rt, alloc, report, "4 0 2 0 0 0 0");
+    let notes = "nothing, nothing, nothing, sent 5401 frame-100, sent 5402 frame-100, nothing";
+    check_notes(&rt, alloc, &port, notes)
 }

@@ -1,13 +1,11 @@
 //! Answers are lent: a cache gives them while every allocation is refused.
 
-ghost use Rattle.std.specs.Prelude.{◌<◌};
-
 use crate::tests::fleets::{asked_of, do_row, fleet, same_looked};
 use crate::tests::refused::examples::{DENIAL, LENT, REFUSED, example_of};
 use crate::tests::refusing::Refusing;
-use fleet_cache::{Answer, Cache, Chain, Shown};
+use fleet_cache::{Answer, Shown};
 use fleet_name::Octets;
-use fleet_observe::{Moment, Rows, add_rows, add_soa};
+use fleet_observe::{Rows, add_rows, add_soa};
 use fleet_site::Looked;
 use fleet_wire::{Header, Outline, Question, read_query, write_reply};
 use fleet_world::World;
@@ -37,41 +35,8 @@ fn add_links<'a, A: Allocator + Copy>(
     }
 }
 
-/// The reply with links and the records that they lead to.
-fn found_reply<A: Allocator + Copy>(
-    rt: &impl Abort,
-    alloc: A,
-    header: Header,
-    question: &Question<A>,
-    chain: &Chain<'_, A>,
-    set: &Shown<'_, A>,
-) -> Vec<u8, A> {
-    let mut outline = Outline::new(alloc, header.id, 0, header.rd, 0, false, Some(question));
-    add_links(rt, &mut outline, chain.as_slice());
-    add_rows(&mut outline, rows_of(set)).expect(rt, "memory");
-    write_reply(alloc, &outline).expect(rt, "memory")
-}
-
-/// The reply with links and the denial that they lead to, with its SOA.
-fn denial_reply<A: Allocator + Copy>(
-    rt: &impl Abort,
-    alloc: A,
-    header: Header,
-    rcode: u8,
-    question: &Question<A>,
-    chain: &Chain<'_, A>,
-    soa: &Shown<'_, A>,
-) -> Vec<u8, A>
-    requires { rcode < 16 }
-{
-    let mut outline = Outline::new(alloc, header.id, 0, header.rd, rcode, false, Some(question));
-    add_links(rt, &mut outline, chain.as_slice());
-    let (owner, rdata) = soa.observation.soa().expect(rt, "an SOA");
-    add_soa(&mut outline, owner, soa.ttl, rdata).expect(rt, "memory");
-    write_reply(alloc, &outline).expect(rt, "memory")
-}
-
-/// What a site makes of an answer.
+/// What a site makes of an answer: the reply with links and the records that they lead to, or the
+/// denial with its SOA.
 fn look_at<A: Allocator + Copy>(
     rt: &impl Abort,
     alloc: A,
@@ -79,32 +44,29 @@ fn look_at<A: Allocator + Copy>(
     question: &Question<A>,
     answer: &Answer<'_, A>,
 ) -> Looked<A> {
-    let reply = match answer {
-        Answer::Found { chain, set } => found_reply(rt, alloc, header, question, chain, set),
-        Answer::NoData { chain, soa } => denial_reply(rt, alloc, header, 0, question, chain, soa),
-        Answer::NxDomain { chain, soa } => denial_reply(rt, alloc, header, 3, question, chain, soa),
-        Answer::Miss => return Looked::Miss,
+    let rcode = match answer {
+        Answer::NxDomain { .. } => 3,
+        _ => 0,
     };
+    let mut outline = Outline::new(alloc, header.id, 0, header.rd, rcode, false, Some(question));
+    match answer {
+        Answer::Found { chain, set } => {
+            add_links(rt, &mut outline, chain.as_slice());
+            add_rows(&mut outline, rows_of(set)).expect(rt, "memory");
+        }
+        Answer::NoData { chain, soa } | Answer::NxDomain { chain, soa } => {
+            add_links(rt, &mut outline, chain.as_slice());
+            let (owner, rdata) = soa.observation.soa().expect(rt, "an SOA");
+            add_soa(&mut outline, owner, soa.ttl, rdata).expect(rt, "memory");
+        }
+        Answer::Miss => return Looked::Miss,
+    }
+    let reply = write_reply(alloc, &outline).expect(rt, "memory");
     Looked::Reply(Octets::new(reply))
 }
 
-/// What a site makes of the answer to a question, looked up while every allocation is refused.
-fn look_up<A: Allocator + Copy>(
-    rt: &impl Abort,
-    alloc: A,
-    refusing: &Refusing<Global>,
-    cache: &Cache<A>,
-    now: Moment,
-    octets: &[u8],
-) -> Looked<A> {
-    let (header, question) = read_query(alloc, octets).expect(rt, "a question");
-    refusing.refuse_all(true);
-    let answer = cache.answer(&question, now);
-    refusing.refuse_all(false);
-    look_at(rt, alloc, header, &question, &answer)
-}
-
-/// Asks the cache of a site what a row asks of the site, and compares what both give.
+/// Asks the cache of a site what a row asks of the site, while every allocation is refused, and
+/// compares what both give.
 fn check_lent<A: Allocator + Copy>(
     rt: &impl Abort,
     alloc: A,
@@ -113,33 +75,17 @@ fn check_lent<A: Allocator + Copy>(
     words: &str,
 ) {
     let (site, now, octets) = asked_of(rt, alloc, words);
+    let (header, question) = read_query(alloc, octets.as_slice()).expect(rt, "a question");
     let cache = world.site(site).expect(rt, "a site").cache();
-    let looked = look_up(rt, alloc, refusing, cache, now, octets.as_slice());
+    refusing.refuse_all(true);
+    let answer = cache.answer(&question, now);
+    refusing.refuse_all(false);
+    let looked = look_at(rt, alloc, header, &question, &answer);
     let wanted = world.ask(site, now, octets.as_slice());
     assert!(rt;
         same_looked(&looked, &wanted.expect(rt, "an answer")),
         "{words}"
     );
-}
-
-/// Does what rows say, and says how many are questions.
-fn count_lent<A: Allocator + Copy>(
-    rt: &impl Abort,
-    alloc: A,
-    refusing: &Refusing<Global>,
-    world: &mut World<A>,
-    rows: &str,
-) -> usize {
-    let mut count = 0usize;
-    for row in rows.lines() {
-        if let Some(words) = row.strip_prefix("ask ") {
-            check_lent(rt, alloc, refusing, world, words);
-            count = count.saturating_add(1);
-        } else {
-            let _ = do_row(rt, alloc, world, row).expect(rt, "a row");
-        }
-    }
-    count
 }
 
 /// Does the rows of an example in a new world, which says how many are questions.
@@ -151,21 +97,24 @@ fn check_example<A: Allocator + Copy>(
 ) {
     let example = example_of(rt, text);
     let mut world = fleet(rt, alloc, example.sites, &[]);
-    let count = count_lent(rt, alloc, refusing, &mut world, example.rows);
-    assert_eq!(rt; count, example.questions, "{text}");
-}
-
-/// Does the rows of examples so.
-fn check_examples(rt: &impl Abort, alloc: Global, texts: &str) {
-    let refusing = Refusing::after(alloc, 0);
-    for text in texts.split("\n\n") {
-        check_example(rt, &refusing, &refusing, text);
+    let mut count = 0usize;
+    for row in example.rows.lines() {
+        if let Some(words) = row.strip_prefix("ask ") {
+            check_lent(rt, alloc, refusing, &mut world, words);
+            count = count.saturating_add(1);
+        } else {
+            let _ = do_row(rt, alloc, &mut world, row).expect(rt, "a row");
+        }
     }
+    assert_eq!(rt; count, example.questions, "{text}");
 }
 
 #[test]
 fn answers_are_lent_where_no_memory_is_left(rt: HostRuntime) {
-    check_examples(&rt, rt.alloc(), REFUSED);
-    check_examples(&rt, rt.alloc(), DENIAL);
-    check_examples(&rt, rt.alloc(), LENT);
+    let refusing = Refusing::after(rt.alloc(), 0);
+    for examples in [REFUSED, DENIAL, LENT] {
+        for text in examples.split("\n\n") {
+            check_example(&rt, &refusing, &refusing, text);
+        }
+    }
 }

@@ -23,17 +23,12 @@ const PARTS: &str = "\
 1 merge 0 1 => first-newer
 ";
 
-/// Whether a part is that of a row, with a number of observations.
-fn is_part_of(part: &str, row: &str, taken: usize) -> bool {
-    let (count, begin) = part.split_once(' ').unwrap_or((part, ""));
-    row.starts_with(begin) && count.parse() == Ok(taken)
-}
-
 /// A frame of the first observations that a row brings, a number of them, by its name.
 fn part_of(rt: &impl Abort, row: &str, taken: usize) -> &'static str {
     for line in PARTS.lines() {
         if let Some((part, frame)) = line.split_once(" => ") {
-            if is_part_of(part, row, taken) {
+            let (count, begin) = part.split_once(' ').unwrap_or((part, ""));
+            if row.starts_with(begin) && count.parse() == Ok(taken) {
                 return frame;
             }
         }
@@ -41,32 +36,9 @@ fn part_of(rt: &impl Abort, row: &str, taken: usize) -> &'static str {
     panic!(rt; "more than it brings")
 }
 
-/// What is done of a row that runs out of memory, if anything: a frame of the first observations
-/// comes to its site, at its moment. A tick has purged all the same, and a merge has no moment.
-fn event_of_part<A: Allocator + Copy>(
-    rt: &impl Abort,
-    alloc: A,
-    row: &str,
-    taken: usize,
-) -> Option<Event<A>> {
-    let bytes = octets(rt, alloc, part_of(rt, row, taken));
-    let (kind, words) = row.split_once(' ').expect(rt, "an event");
-    let (site, words) = first_place(rt, words);
-    if kind == "sweep" || kind == "restart" {
-        return None;
-    }
-    let now = if kind == "merge" {
-        at(rt, 0)
-    } else {
-        at(rt, first_number(rt, words).0)
-    };
-    if kind == "tick" {
-        return Some(Event::Tick { site, now });
-    }
-    Some(Event::Frame { site, now, bytes })
-}
-
-/// Does what is done of a row that runs out of memory after this number of observations.
+/// Does what is done of a row that runs out of memory after this number of observations, if
+/// anything: a frame of the first observations comes to its site, at its moment. A tick has purged
+/// all the same, and a merge has no moment.
 pub fn do_part<A: Allocator + Copy>(
     rt: &impl Abort,
     alloc: A,
@@ -74,7 +46,25 @@ pub fn do_part<A: Allocator + Copy>(
     row: &str,
     taken: usize,
 ) {
-    if let Some(event) = event_of_part(rt, alloc, row, taken) {
-        world.step(&event).expect(rt, "a step");
+    let frame = part_of(rt, row, taken);
+    let (kind, words) = row.split_once(' ').expect(rt, "an event");
+    let (site, words) = first_place(rt, words);
+    if kind == "sweep" || kind == "restart" {
+        return;
     }
+    let now = if kind == "merge" {
+        at(rt, 0)
+    } else {
+        at(rt, first_number(rt, words).0)
+    };
+    let event = if kind == "tick" {
+        Event::Tick { site, now }
+    } else {
+        Event::Frame {
+            site,
+            now,
+            bytes: octets(rt, alloc, frame),
+        }
+    };
+    world.step(&event).expect(rt, "a step");
 }

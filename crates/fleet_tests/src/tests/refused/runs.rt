@@ -29,63 +29,33 @@ fn check_all<A: Allocator>(rt: &impl Abort, all: &[Stepped<A>], wanted: &[Steppe
     }
 }
 
-/// A world that ran the events of rows with ample memory, and what they did.
-#[derive(Drop)]
-struct Whole<A: Allocator> {
-    world: World<A>,
-    did: Vec<Stepped<A>, A>,
-}
-
-/// Runs the events of rows with ample memory.
-fn run_whole<A: Allocator + Copy>(
-    rt: &impl Abort,
-    trial: &Trial<'_, A>,
-    steps: &[&str],
-) -> Whole<A> {
-    let mut world = fleet(rt, trial.ample, trial.sites, &[]);
-    let events = events_of(rt, trial.ample, steps);
-    let did = world.run(&events).expect(rt, "a run");
-    Whole { world, did }
-}
-
-/// Checks a world whose run was halted at a row that ran out of memory. It may not have begun: it
-/// took nothing, and no clock has risen.
-fn check_halted<A: Allocator + Copy>(
-    rt: &impl Abort,
-    alloc: A,
-    world: &World<A>,
-    before: &mut World<A>,
-    row: &str,
-    taken: usize,
-) {
-    if taken > 0 || !has_same_sites(world, before) {
-        do_part(rt, alloc, before, row, taken);
-    }
-    check_same(rt, world, before, row)
-}
-
 /// Checks a world whose run was halted, and runs the events that are left, but where frames were not
-/// kept: then what the event did is compared.
+/// kept: then what the event did is compared. With ample memory, `whole` did `did`. A row that ran
+/// out of memory may not have begun: it took nothing, and no clock has risen.
 fn go_on<A: Allocator + Copy>(
     rt: &impl Abort,
     trial: &Trial<'_, A>,
     world: &mut World<A>,
     steps: &[&str],
-    whole: &Whole<A>,
+    whole: &World<A>,
+    did: &[Stepped<A>],
     halted: Halted<A>,
 ) {
     let Halted { at, fault } = halted;
     let (done, left) = steps.split_at_checked(at).expect(rt, "a row");
-    let (_, wanted) = whole.did.split_at_checked(at).expect(rt, "a row");
+    let (_, wanted) = did.split_at_checked(at).expect(rt, "a row");
     let row = left.first().expect(rt, "a row");
     let mut before = world_after(rt, trial.ample, trial.sites, done);
     match fault {
         WorldFault::Memory { taken } => {
-            check_halted(rt, trial.ample, world, &mut before, row, taken);
+            if taken > 0 || !has_same_sites(world, &before) {
+                do_part(rt, trial.ample, &mut before, row, taken);
+            }
+            check_same(rt, world, &before, row);
             let events = events_of(rt, trial.ample, left);
             let all = world.run(&events).expect(rt, "a run");
             check_all(rt, &all, wanted);
-            check_same(rt, world, &whole.world, row)
+            check_same(rt, world, whole, row)
         }
         WorldFault::FramesLost(stepped) => {
             let next = world_after(rt, trial.ample, trial.sites, &steps[..=at]);
@@ -96,50 +66,22 @@ fn go_on<A: Allocator + Copy>(
     }
 }
 
-/// Runs events at once in a world whose allocations may be refused.
-fn run_events<A: Allocator + Copy>(
-    rt: &impl Abort,
-    trial: &Trial<'_, A>,
-    world: &mut World<A>,
-    steps: &[&str],
-    whole: &Whole<A>,
-) {
+/// Makes the sites of an example, and runs its events at once, as they run with ample memory.
+fn run_steps<A: Allocator + Copy>(rt: &impl Abort, trial: &Trial<'_, A>, steps: &[&str]) {
+    let mut world = begin_refused(rt, trial);
+    let mut whole = fleet(rt, trial.ample, trial.sites, &[]);
     let events = events_of(rt, trial.ample, steps);
+    let did = whole.run(&events).expect(rt, "a run");
     let had_refused = trial.refusing.has_refused();
     let ran = world.run(&events);
     assert_eq!(rt; ran.is_ok(), trial.refusing.has_refused() == had_refused);
     match ran {
         Ok(all) => {
-            check_all(rt, &all, &whole.did);
-            check_same(rt, world, &whole.world, "all rows")
+            check_all(rt, &all, &did);
+            check_same(rt, &world, &whole, "all rows")
         }
-        Err(halted) => go_on(rt, trial, world, steps, whole, halted),
+        Err(halted) => go_on(rt, trial, &mut world, steps, &whole, &did, halted),
     }
-}
-
-/// Makes the sites of an example, and runs its events at once.
-fn run_steps<A: Allocator + Copy>(rt: &impl Abort, trial: &Trial<'_, A>, steps: &[&str]) {
-    let mut world = begin_refused(rt, trial);
-    let whole = run_whole(rt, trial, steps);
-    run_events(rt, trial, &mut world, steps, &whole)
-}
-
-/// Runs the events of rows at once with these allocators.
-fn run_with<A: Allocator + Copy>(
-    rt: &impl Abort,
-    ample: A,
-    alloc: A,
-    refusing: &Refusing<Global>,
-    sites: usize,
-    steps: &[&str],
-) {
-    let trial = Trial {
-        ample,
-        alloc,
-        refusing: &*refusing,
-        sites,
-    };
-    run_steps(rt, &trial, steps)
 }
 
 /// Runs the events of rows at once with a call refused, and says whether that call was made.
@@ -147,7 +89,13 @@ fn run_at_once(rt: &impl Abort, alloc: Global, sites: usize, rows: &[&str], call
     let ample = Refusing::after(alloc, 0);
     let refusing = Refusing::after(alloc, call);
     let steps = steps_of(rt, alloc, rows);
-    run_with(rt, &ample, &refusing, &refusing, sites, &steps);
+    let trial = Trial {
+        ample: &ample,
+        alloc: &refusing,
+        refusing: &refusing,
+        sites,
+    };
+    run_steps(rt, &trial, &steps);
     refusing.has_refused()
 }
 

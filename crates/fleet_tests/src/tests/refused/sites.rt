@@ -3,24 +3,11 @@
 use crate::tests::octets::octets;
 use crate::tests::refused::MANY;
 use crate::tests::refusing::Refusing;
+use crate::tests::sites::addr;
 use fleet_observe::Moment;
-use fleet_pending::Addr;
 use fleet_site::{Config, Site, SiteFault};
 use std::alloc::{Allocator, Global};
 use std::process::Abort;
-
-/// A site that asks one upstream.
-fn site<A: Allocator + Copy>(rt: &impl Abort, alloc: A, ample: A) -> Site<A> {
-    let host = 0x7f00_0001;
-    let mut upstreams = Vec::new(ample);
-    upstreams
-        .push(Addr { host, port: 5301 })
-        .expect(rt, "memory");
-    Site::new(
-        alloc,
-        Config::new(upstreams, Vec::new(ample)).expect(rt, "a config"),
-    )
-}
 
 /// The site learns the reply with two aliases and a denial: how many observations it took, and
 /// whether that was all.
@@ -53,11 +40,13 @@ fn check_learning<A: Allocator + Copy>(
     true
 }
 
-/// A site learns the reply with a call refused; says whether that call was made.
+/// A site that asks one upstream learns the reply with a call refused; says whether that call was made.
 fn learn_refused(rt: &impl Abort, alloc: Global, reply: &[u8], call: u64) -> bool {
     let ample = Refusing::after(alloc, 0);
     let refusing = Refusing::after(alloc, call);
-    let mut site = site(rt, &refusing, &ample);
+    let upstreams = Vec::from_slice(&ample, &[addr(5301)]).expect(rt, "memory");
+    let config = Config::new(upstreams, Vec::new(&ample)).expect(rt, "a configuration");
+    let mut site = Site::new(&refusing, config);
     check_learning(rt, &refusing, &mut site, reply)
 }
 

@@ -33,20 +33,16 @@ fn take_decoded<A: Allocator + Copy>(
     }
 }
 
-/// Takes a frame into a new cache, and into another one decoded.
-fn check_new<A: Allocator + Copy>(rt: &impl Abort, alloc: A, other: A, frame: &[u8]) {
-    let mut cache = Cache::new(alloc);
-    let mut decoded = Cache::new(other);
-    let taken = take_frame(alloc, &mut cache, frame);
-    assert_eq!(rt; taken, take_decoded(other, &mut decoded, frame));
-    assert!(rt; cache.same(&decoded));
-}
-
-/// The same with a call refused, once for each; says whether that call was made.
+/// Takes a frame into a new cache, and into another one decoded, with a call refused, once for
+/// each; says whether that call was made.
 fn take_refused(rt: &impl Abort, alloc: Global, frame: &[u8], call: u64) -> bool {
     let refusing = Refusing::after(alloc, call);
     let other = Refusing::after(alloc, call);
-    check_new(rt, &refusing, &other, frame);
+    let mut cache = Cache::new(&refusing);
+    let mut decoded = Cache::new(&other);
+    let taken = take_frame(&refusing, &mut cache, frame);
+    assert_eq!(rt; taken, take_decoded(&other, &mut decoded, frame));
+    assert!(rt; cache.same(&decoded));
     assert_eq!(rt; refusing.has_refused(), other.has_refused());
     refusing.has_refused()
 }
@@ -131,13 +127,7 @@ fn refuse_each(rt: &impl Abort, alloc: Global, refusing: &Refusing<Global>, spli
     panic!(rt; "refused each time");
 }
 
-/// The same, by an allocator of its own.
-fn check_beside(rt: &impl Abort, alloc: Global, split: Split<'_>) {
-    let refusing = Refusing::after(alloc, MANY);
-    refuse_each(rt, alloc, &refusing, split)
-}
-
-/// The same, of a row of `SPLIT`.
+/// The same, of a row of `SPLIT`, by an allocator of its own.
 fn check_split(rt: &impl Abort, alloc: Global, place: usize, row: &str) {
     let (alone, others) = row.split_once(" : ").expect(rt, "the others");
     let frame = octets(rt, alloc, FRAME);
@@ -149,7 +139,8 @@ fn check_split(rt: &impl Abort, alloc: Global, place: usize, row: &str) {
         alone: alone.as_slice(),
         others: others.as_slice(),
     };
-    check_beside(rt, alloc, split)
+    let refusing = Refusing::after(alloc, MANY);
+    refuse_each(rt, alloc, &refusing, split)
 }
 
 #[test]

@@ -1,6 +1,6 @@
 //! Worlds after rows, and what two of them have in common.
 
-use crate::tests::fleets::{do_rows, fleet};
+use crate::tests::fleets::{do_row, fleet};
 use fleet_world::World;
 use std::alloc::Allocator;
 use std::process::Abort;
@@ -13,7 +13,9 @@ pub fn world_after<A: Allocator + Copy>(
     rows: &[&str],
 ) -> World<A> {
     let mut world = fleet(rt, alloc, sites, &[]);
-    do_rows(rt, alloc, &mut world, rows);
+    for row in rows {
+        let _ = do_row(rt, alloc, &mut world, row).expect(rt, "a row");
+    }
     world
 }
 
