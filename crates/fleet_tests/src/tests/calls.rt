@@ -35,13 +35,19 @@ fn check_taken(rt: &impl Abort, alloc: Global, site: &mut Site) {
     assert_eq!(rt; flushed.expect(rt, "an outcome").taken, 1)
 }
 
+/// What a site holds goes out as one frame, and another site takes it in.
+fn check_handed_on(rt: &impl Abort, site: &mut Site, other: &mut Site) {
+    let frames = site.sweep().expect(rt, "frames");
+    assert_eq!(rt; frames.as_slice().len(), 1);
+    assert_eq!(rt; other.merge(site).expect(rt, "a count"), 1)
+}
+
 #[test]
 fn each_call_answers(rt: HostRuntime) {
     let mut site = Site::new(rt.alloc(), config(&rt, rt.alloc(), &[]));
+    let mut other = Site::new(rt.alloc(), config(&rt, rt.alloc(), &[]));
     check_asked(&rt, rt.alloc(), &mut site);
     site.restart();
     check_taken(&rt, rt.alloc(), &mut site);
-    assert_eq!(&rt; site.sweep().expect(&rt, "frames").as_slice().len(), 1);
-    let mut other = Site::new(rt.alloc(), config(&rt, rt.alloc(), &[]));
-    assert_eq!(&rt; other.merge(&site).expect(&rt, "a count"), 1);
+    check_handed_on(&rt, &mut site, &mut other)
 }
