@@ -247,13 +247,15 @@ fn read_arrival<'a>(words: &[&'a str]) -> Result<Step<'a>, LineFault> {
 }
 
 /// The events, as a line begins with them.
-const EVENTS: &str =
-    "sites learn ask show datagram tick sweep frame deliver merge restart same flush";
+const EVENTS: [&str; 13] = [
+    "sites", "learn", "ask", "show", "datagram", "tick", "sweep", "frame", "deliver", "merge",
+    "restart", "same", "flush",
+];
 
 /// What is wrong with words that are no line: their number, or the first of them.
 fn word_fault(words: &[&str]) -> LineFault {
     match words.first() {
-        Some(first) if EVENTS.split(' ').any(|event| event == *first) => LineFault::WordCount,
+        Some(first) if EVENTS.contains(first) => LineFault::WordCount,
         _ => LineFault::UnknownEvent,
     }
 }

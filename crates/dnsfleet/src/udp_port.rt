@@ -178,7 +178,10 @@ impl<'a, C: time::Clock, A: Allocator + Copy> UdpPort<'a, C, A> {
         } }
     {
         match self.socket.recv_from(buffer) {
-            Ok((len, from)) => Ok(own_addr(from).map(|from| (from, len))),
+            Ok((len, from)) => match own_addr(from) {
+                Some(from) => Ok(Some((from, len))),
+                None => Ok(None),
+            },
             Err(error) if is_no_datagram(error.kind()) => Ok(None),
             Err(_) => Err(self.fail()),
         }

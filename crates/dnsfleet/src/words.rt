@@ -33,14 +33,14 @@ pub const MOST_SITES: usize = 9;
 fn are_digits(word: &[u8]) -> bool
     ensures { IsTrue result ↔ AllPass is_ascii_digit word.now }
 {
-    word.iter().all(|octet| octet.is_ascii_digit())
+    word.iter().all(u8::is_ascii_digit)
 }
 
 /// Whether each octet is a hexadecimal digit, of either case.
 fn are_hex_digits(word: &[u8]) -> bool
     ensures { IsTrue result ↔ AllPass is_hex_digit word.now }
 {
-    word.iter().all(|octet| octet.is_ascii_hexdigit())
+    word.iter().all(u8::is_ascii_hexdigit)
 }
 
 /// A whole number of 1 to 13 decimal digits.
