@@ -139,8 +139,12 @@ impl Plain {
         let Some(front) = self.fronts.get(&key_of(rt, alloc, observation)) else {
             return false;
         };
-        front.iter().any(|held| held.kind() == observation.kind()
-            && held.rtype() == observation.rtype())
+        for held in front {
+            if held.kind() == observation.kind() && held.rtype() == observation.rtype() {
+                return true;
+            }
+        }
+        false
     }
 }
 

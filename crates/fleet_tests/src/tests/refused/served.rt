@@ -136,10 +136,9 @@ fn a_server_counts_what_found_no_memory(rt: HostRuntime) {
             without_buffer = true;
             continue;
         }
-        let place = short_reports.iter().position(|short| *short == report);
-        assert!(rt; place.is_some(), "{report:?}");
-        if let Some(place) = place {
-            met[place] = true;
+        assert!(rt; short_reports.contains(&report), "{report:?}");
+        for (short, met) in short_reports.iter().zip(&mut met) {
+            *met = *met || *short == report;
         }
     }
     panic!(rt; "refused each time");
