@@ -91,11 +91,7 @@ pub fn word_of_16_bits(word: &str) -> Option<u16>
     ensures { SomeIff result (IsNumber word.now × (number_of word.now ≤ LARGEST_16_BITS))
         (number_of word.now) }
 {
-    let value = number(word)?;
-    if value > usize::from(u16::MAX) {
-        return None;
-    }
-    Some(value as u16)
+    u16::try_from(number(word)?).ok()
 }
 
 /// A port: 1 to 65535, without leading zeros.

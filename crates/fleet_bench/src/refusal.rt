@@ -9,8 +9,8 @@ pub fn refusal_number(refused: Option<Refusal>) -> u64 {
         Some(Refusal::Unmatched) => 1,
         Some(Refusal::Full) => 2,
         Some(Refusal::Dropped) => 3,
-        Some(Refusal::Read(fault)) => 10 + u64::from(fault as u8),
-        Some(Refusal::Digest(fault)) => 20 + u64::from(fault as u8),
-        Some(Refusal::Frame(fault)) => 30 + u64::from(fault as u8),
+        Some(Refusal::Read(fault)) => 10u64.wrapping_add(fault as u64),
+        Some(Refusal::Digest(fault)) => 20u64.wrapping_add(fault as u64),
+        Some(Refusal::Frame(fault)) => 30u64.wrapping_add(fault as u64),
     }
 }
