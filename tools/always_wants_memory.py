@@ -26,6 +26,7 @@ FAULTS = {
     "ReadFault": "ReadFault::OutOfMemory",
     "DigestFault": "DigestFault::OutOfMemory",
     "FrameFault": "FrameFault::OutOfMemory",
+    "TakeFault": "TakeFault::OutOfMemory { taken: 0 }",
     "Stopped": "Stopped { taken: 0 }",
     "Unasked": "Unasked { fault: PendingFault::OutOfMemory, waiter }",
     "SiteFault": "SiteFault::OutOfMemory { taken: 0 }",
