@@ -1,7 +1,7 @@
 //! What a reply says, what is relayed of it, and what is asked: each call where there is memory.
 
 use crate::tests::rows::octets_of;
-use fleet_observe::{Moment, digest, observations, relay};
+use fleet_observe::{Digest, Moment, digest, observations, relay};
 use fleet_wire::{read_query, read_reply, write_query};
 use std::alloc::Global;
 use std::process::Abort;
@@ -15,19 +15,28 @@ fn check_query(rt: &impl Abort, alloc: Global, asked: &[u8]) {
     assert_eq!(rt; query.as_slice(), wanted.as_slice())
 }
 
-/// A reply with two aliases and a denial has three observations, and is relayed with 60 and 300
-/// seconds as it came.
-fn check_reply(rt: &impl Abort, alloc: Global, message: &[u8], asked: &[u8]) {
-    let reply = read_reply(alloc, message).expect(rt, "a reply");
-    let digest = digest(alloc, &reply).expect(rt, "a digest");
+/// What a reply with two aliases and a denial says is three observations.
+fn check_observations(rt: &impl Abort, alloc: Global, digest: &Digest) {
     let stamp = Moment::new(100).expect(rt, "a moment");
-    let all = observations(alloc, &digest, stamp).expect(rt, "observations");
-    assert_eq!(rt; all.len(), 3);
+    let all = observations(alloc, digest, stamp).expect(rt, "observations");
+    assert_eq!(rt; all.len(), 3)
+}
+
+/// It is relayed with both aliases and the SOA.
+fn check_relay(rt: &impl Abort, alloc: Global, digest: &Digest, asked: &[u8]) {
     let (header, question) = read_query(alloc, asked).expect(rt, "a question");
-    let relayed = relay(alloc, &digest, &question, header.id, header.rd);
+    let relayed = relay(alloc, digest, &question, header.id, header.rd);
     let octets = relayed.expect(rt, "a reply");
     let again = read_reply(alloc, octets.as_slice()).expect(rt, "a reply");
     assert_eq!(rt; (again.answer().len(), again.authority().len()), (2, 1))
+}
+
+/// A reply is read, and what it says is told and relayed.
+fn check_reply(rt: &impl Abort, alloc: Global, message: &[u8], asked: &[u8]) {
+    let reply = read_reply(alloc, message).expect(rt, "a reply");
+    let digest = digest(alloc, &reply).expect(rt, "a digest");
+    check_observations(rt, alloc, &digest);
+    check_relay(rt, alloc, &digest, asked)
 }
 
 #[test]

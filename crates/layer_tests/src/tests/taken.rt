@@ -149,20 +149,36 @@ fn what_is_lent_is_compared_in_place(rt: HostRuntime) {
 }
 
 /// What a frame reads is written as it was, and what has no room in one is written in two.
+/// A frame is written as it was read.
+fn check_written(rt: &impl Abort, alloc: Global, frame: &[u8]) {
+    let all = decode(alloc, frame).expect(rt, "a frame");
+    let written = encode(alloc, &all).expect(rt, "a frame");
+    assert!(rt; written.as_slice() == frame)
+}
+
+/// Observations that are too long for one frame are packed into two.
+fn check_packed(rt: &impl Abort, alloc: Global, all: &[Observation]) {
+    assert_eq!(rt; encode(alloc, all).err(), Some(FrameFault::TooLong));
+    let frames = pack(alloc, all).expect(rt, "frames");
+    assert_eq!(rt; frames.as_slice().len(), 2)
+}
+
+/// A cache that took them, each twice, sweeps one.
+fn check_swept(rt: &impl Abort, alloc: Global, cache: &Cache) {
+    let frames = sweep(alloc, cache).expect(rt, "frames");
+    assert_eq!(rt; frames.as_slice().len(), 1)
+}
+
 #[test]
 fn what_is_too_long_for_a_frame_is_not_written(rt: HostRuntime) {
     let frame = octets_of(&rt, rt.alloc(), LARGE);
-    let mut all = decode(rt.alloc(), frame.as_slice()).expect(&rt, "a frame");
-    let read = encode(rt.alloc(), &all).expect(&rt, "a frame");
-    assert!(&rt; read.as_slice() == frame.as_slice());
-    for observation in decode(rt.alloc(), frame.as_slice()).expect(&rt, "a frame") {
+    check_written(&rt, rt.alloc(), &frame);
+    let mut all = decode(rt.alloc(), &frame).expect(&rt, "a frame");
+    for observation in decode(rt.alloc(), &frame).expect(&rt, "a frame") {
         all.push(observation).expect(&rt, "memory");
     }
-    assert_eq!(&rt; encode(rt.alloc(), &all).err(), Some(FrameFault::TooLong));
-    let frames = pack(rt.alloc(), &all).expect(&rt, "frames");
-    assert_eq!(&rt; frames.as_slice().len(), 2);
+    check_packed(&rt, rt.alloc(), &all);
     let mut cache = Cache::new(rt.alloc());
     cache.take_list(all).expect(&rt, "memory");
-    let frames = sweep(rt.alloc(), &cache).expect(&rt, "frames");
-    assert_eq!(&rt; frames.as_slice().len(), 1);
+    check_swept(&rt, rt.alloc(), &cache)
 }
