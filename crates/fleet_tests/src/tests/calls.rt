@@ -18,19 +18,30 @@ fn check_asked(rt: &impl Abort, alloc: Global, site: &mut Site) {
     assert!(rt; is_sending(rt, alloc, &asked, 5302, "query"))
 }
 
-/// A reply is learnt and answers, with a TTL that is ten less ten seconds later, a frame is taken, and
-/// a name is flushed.
-fn check_taken(rt: &impl Abort, alloc: Global, site: &mut Site) {
+/// A reply is learnt.
+fn check_learnt(rt: &impl Abort, alloc: Global, site: &mut Site) {
     let reply = octets(rt, alloc, "reply");
     let learnt = site.learn(at(rt, 100), reply.as_slice());
-    assert_eq!(rt; learnt.expect(rt, "an outcome").taken, 1);
+    assert_eq!(rt; learnt.expect(rt, "an outcome").taken, 1)
+}
+
+/// It answers, with a TTL that is ten less ten seconds later.
+fn check_answered(rt: &impl Abort, alloc: Global, site: &mut Site) {
     let question = octets(rt, alloc, "question");
     let looked = site.ask(at(rt, 110), question.as_slice());
     let relayed = Looked::Reply(octets(rt, alloc, "relay-290"));
-    assert!(rt; same_looked(&looked.expect(rt, "an answer"), &relayed));
+    assert!(rt; same_looked(&looked.expect(rt, "an answer"), &relayed))
+}
+
+/// A frame is taken.
+fn check_taken(rt: &impl Abort, alloc: Global, site: &mut Site) {
     let frame = octets(rt, alloc, "frame-100");
     let taken = site.frame(at(rt, 110), frame.as_slice());
-    assert_eq!(rt; taken.expect(rt, "an outcome").taken, 1);
+    assert_eq!(rt; taken.expect(rt, "an outcome").taken, 1)
+}
+
+/// A name is flushed.
+fn check_flushed(rt: &impl Abort, alloc: Global, site: &mut Site) {
     let flushed = site.flush(at(rt, 120), &name_of(rt, alloc, "com"));
     assert_eq!(rt; flushed.expect(rt, "an outcome").taken, 1)
 }
@@ -48,6 +59,9 @@ fn each_call_answers(rt: HostRuntime) {
     let mut other = Site::new(rt.alloc(), config(&rt, rt.alloc(), &[]));
     check_asked(&rt, rt.alloc(), &mut site);
     site.restart();
+    check_learnt(&rt, rt.alloc(), &mut site);
+    check_answered(&rt, rt.alloc(), &mut site);
     check_taken(&rt, rt.alloc(), &mut site);
+    check_flushed(&rt, rt.alloc(), &mut site);
     check_handed_on(&rt, &mut site, &mut other)
 }
