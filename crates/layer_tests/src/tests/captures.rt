@@ -2,8 +2,8 @@
 
 use crate::tests::in_place::written_twice;
 use crate::tests::rows::{Words, octets_of, push_octets};
-use crate::tests::tables::check_rows;
-use fleet_wire::{Message, Outline, plain_rdata, read_reply};
+use crate::tests::tables::{check_rows, rows_of};
+use fleet_wire::{Message, Outline, ReadFault, Record, plain_rdata, read_reply};
 use std::alloc::Global;
 use std::process::Abort;
 
@@ -327,19 +327,34 @@ reply 12348180000100010000000007'example'03'com'0000010001c00c000100010000012c00
 reply <aliases-relay> => <aliases-relay>
 ";
 
+/// Adds why there is no message.
+fn push_fault(rt: &impl Abort, output: &mut String, fault: ReadFault) {
+    write!(output, "{fault:?}").expect(rt, "memory");
+}
+
+/// Adds a record to the answer section of an outline.
+fn add_answer<'a>(rt: &impl Abort, outline: &mut Outline<'a>, record: &'a Record) {
+    let rdata = record.rdata.as_slice();
+    outline
+        .answer(&record.name, record.rtype, record.ttl, rdata)
+        .expect(rt, "a record");
+}
+
+/// Adds a record to the authority section of an outline.
+fn add_authority<'a>(rt: &impl Abort, outline: &mut Outline<'a>, record: &'a Record) {
+    let rdata = record.rdata.as_slice();
+    outline
+        .authority(&record.name, record.rtype, record.ttl, rdata)
+        .expect(rt, "a record");
+}
+
 /// Adds the records of a reply as an outline's.
 fn add_records<'a>(rt: &impl Abort, outline: &mut Outline<'a>, reply: &'a Message) {
     for record in reply.answer() {
-        let rdata = record.rdata.as_slice();
-        outline
-            .answer(&record.name, record.rtype, record.ttl, rdata)
-            .expect(rt, "a record");
+        add_answer(rt, outline, record);
     }
     for record in reply.authority() {
-        let rdata = record.rdata.as_slice();
-        outline
-            .authority(&record.name, record.rtype, record.ttl, rdata)
-            .expect(rt, "a record");
+        add_authority(rt, outline, record);
     }
 }
 
@@ -361,39 +376,50 @@ pub(crate) fn show_rewritten(
     mut words: Words<'_>,
     output: &mut String,
 ) {
-    let message = octets_of(rt, alloc, words.word());
+    let message = words.octets(rt, alloc);
     match read_reply(alloc, message.as_slice()) {
         Ok(reply) => push_rewritten(rt, alloc, &reply, output),
-        Err(fault) => write!(output, "{fault:?}").expect(rt, "memory"),
+        Err(fault) => push_fault(rt, output, fault),
     }
 }
 
 #[test]
 fn reads_each_message(rt: HostRuntime) {
-    assert_eq!(rt; check_rows(&rt, rt.alloc(), EXAMPLES), 56);
+    assert_eq!(rt; rows_of(EXAMPLES), 56);
+    check_rows(&rt, rt.alloc(), EXAMPLES);
 }
 
-/// A reply up to the type of its one record: its question is for a.example, whose name begins at place
-/// 12, and its record's RDATA begins at place 39.
-const UP_TO_TYPE: &str = "00018180000100010000000001'a'07'example'0000010001c00c";
+/// A reply with one record, by its type, the length of its RDATA and its RDATA, which begins at place 39;
+/// its question is for a.example, whose name begins at place 12.
+fn reply_with(rt: &impl Abort, alloc: Global, rtype: &str, length: &str, rdata: &str) -> Vec<u8> {
+    let text = format!(in alloc;
+        "00018180000100010000000001'a'07'example'0000010001c00c{rtype}00010000012c{length}{rdata}"
+    ).expect(rt, "memory");
+    octets_of(rt, alloc, text.as_str())
+}
 
-/// What is read of RDATA, by its type, its length and itself, or why it is refused.
+/// Adds the RDATA of the first record of a message, or why it is none.
+fn push_rdata(rt: &impl Abort, alloc: Global, message: &[u8], output: &mut String) {
+    match read_reply(alloc, message) {
+        Ok(reply) => {
+            let record = reply.answer().first().expect(rt, "a record");
+            push_octets(rt, output, record.rdata.as_slice())
+        }
+        Err(fault) => push_fault(rt, output, fault),
+    }
+}
+
+/// What is read of RDATA: its type, its length and itself.
 pub(crate) fn show_rdata(
     rt: &impl Abort,
     alloc: Global,
     mut words: Words<'_>,
     output: &mut String,
 ) {
-    let (rtype, length, rdata) = (words.word(), words.word(), words.word());
-    let text = format!(in alloc; "{UP_TO_TYPE}{rtype}00010000012c{length}{rdata}");
-    let message = octets_of(rt, alloc, text.expect(rt, "memory").as_str());
-    match read_reply(alloc, message.as_slice()) {
-        Ok(reply) => {
-            let record = reply.answer().first().expect(rt, "a record");
-            push_octets(rt, output, record.rdata.as_slice())
-        }
-        Err(fault) => write!(output, "{fault:?}").expect(rt, "memory"),
-    }
+    let rtype = words.word();
+    let length = words.word();
+    let message = reply_with(rt, alloc, rtype, length, words.word());
+    push_rdata(rt, alloc, message.as_slice(), output);
 }
 
 /// The types with names in their RDATA (RFC 1035 3.3, RFC 2782), in hexadecimal digits as the length of
@@ -414,38 +440,37 @@ rdata 000f 0004 {ff*2}c00c => {ff*2}01'a'07'example'00
 rdata 0021 0008 {ff*6}c00c => {ff*6}01'a'07'example'00
 ";
 
-/// Whether a type's RDATA has names: a pointer alone is then expanded or refused, behind the octets of
-/// `UP_TO_TYPE`.
-fn has_names(rt: &impl Abort, alloc: Global, up_to_type: &[u8], rtype: u16) -> bool {
-    let mut message = Vec::from_slice(alloc, up_to_type).expect(rt, "memory");
-    message
-        .extend_from_slice(&rtype.to_be_bytes())
-        .expect(rt, "memory");
-    message
-        .extend_from_slice(b"\0\x01\0\0\x01\x2c\0\x02\xc0\x0c")
-        .expect(rt, "memory");
+/// Whether a type's RDATA has names: a pointer alone is then expanded or refused.
+fn has_names(rt: &impl Abort, alloc: Global, rtype: u16) -> bool {
+    let pointer = b"\xc0\x0c";
+    let digits = hex::encode(alloc, &rtype.to_be_bytes()).expect(rt, "memory");
+    let message = reply_with(rt, alloc, digits.as_str(), "0002", "c00c");
     match read_reply(alloc, &message) {
         Ok(reply) => {
             let record = reply.answer().first().expect(rt, "a record");
-            record.rdata.as_slice() != b"\xc0\x0c".as_slice()
+            record.rdata.as_slice() != pointer.as_slice()
         }
         Err(_) => true,
     }
 }
 
-/// As many of the 65536 types have names in their RDATA as there are rows. A pointer alone is plain
-/// RDATA of each other one.
-#[test]
-fn shapes_of_types(rt: HostRuntime) {
-    let up_to_type = octets_of(&rt, rt.alloc(), UP_TO_TYPE);
+/// How many of the 65536 types have names in their RDATA. A pointer alone is plain RDATA of each
+/// other one.
+fn count_shaped(rt: &impl Abort, alloc: Global) -> usize {
     let mut shaped = 0usize;
     for rtype in 0..=u16::MAX {
-        let has_names = has_names(&rt, rt.alloc(), &up_to_type, rtype);
-        assert!(&rt;
+        let has_names = has_names(rt, alloc, rtype);
+        assert!(rt;
             plain_rdata(rtype, b"\xc0\x0c") != has_names,
             "type {rtype}"
         );
         shaped = shaped.saturating_add(usize::from(has_names));
     }
-    assert_eq!(rt; check_rows(&rt, rt.alloc(), SHAPES), shaped);
+    shaped
+}
+
+#[test]
+fn shapes_of_types(rt: HostRuntime) {
+    check_rows(&rt, rt.alloc(), SHAPES);
+    assert_eq!(rt; count_shaped(&rt, rt.alloc()), rows_of(SHAPES));
 }

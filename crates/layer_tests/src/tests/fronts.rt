@@ -1,7 +1,7 @@
 //! Observations of one key, some of them hidden or needless.
 
 use crate::tests::observations::{moment_of, record_in};
-use crate::tests::rows::{Words, check_output, is_row, read_row};
+use crate::tests::rows::{Row, Words, check_output, is_row, read_row};
 use fleet_cache::{Cut, Item};
 use fleet_front::Front;
 use std::alloc::Global;
@@ -15,6 +15,13 @@ fn push_rank(rt: &impl Abort, output: &mut String, item: Option<&Item>) {
     };
     let rank = item.observation().rank();
     write!(output, "{rank} ").expect(rt, "memory");
+}
+
+/// Adds the ranks of a front's observations.
+fn push_ranks(rt: &impl Abort, output: &mut String, front: &Front<Item>) {
+    for item in front.items() {
+        push_rank(rt, output, Some(item));
+    }
 }
 
 /// Makes a call, and writes its output.
@@ -37,16 +44,25 @@ fn show_result(
             output,
             front.first_shown(&Cut::at(moment_of(rt, words.word()))),
         ),
-        "drop" | "ranks" => {
-            if call == "drop" {
-                front.drop_hidden(&Cut::at(moment_of(rt, words.word())));
-            }
-            for item in front.items() {
-                push_rank(rt, output, Some(item));
-            }
+        "drop" => {
+            front.drop_hidden(&Cut::at(moment_of(rt, words.word())));
+            push_ranks(rt, output, front)
         }
+        "ranks" => push_ranks(rt, output, front),
         _ => panic!(rt; "no such call"),
     }
+}
+
+/// Checks one call.
+fn check_call(rt: &impl Abort, alloc: Global, front: &mut Front<Item>, row: &str) {
+    let Row {
+        call,
+        words,
+        wanted,
+    } = read_row(rt, row);
+    let mut output = String::new(alloc);
+    show_result(rt, alloc, front, call, words, &mut output);
+    check_output(rt, alloc, row, wanted, output.as_str().trim_end());
 }
 
 /// Checks calls of a new front.
@@ -54,10 +70,7 @@ fn check_calls(rt: &impl Abort, alloc: Global, rows: &str) {
     let mut front = Front::new(alloc);
     for row in rows.lines() {
         if is_row(row) {
-            let (call, words, wanted) = read_row(rt, row);
-            let mut output = String::new(alloc);
-            show_result(rt, alloc, &mut front, call, words, &mut output);
-            check_output(rt, alloc, row, wanted, output.as_str().trim_end());
+            check_call(rt, alloc, &mut front, row);
         }
     }
 }

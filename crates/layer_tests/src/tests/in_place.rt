@@ -1,8 +1,10 @@
 //! Questions that are read in place, and replies that are written into a buffer.
 
-use crate::tests::rows::{Words, octets_of, push_octets};
+use crate::tests::rows::{Words, push_octets};
 use crate::tests::tables::check_rows;
-use fleet_wire::{Outline, read_plain_query, write_reply, write_reply_into};
+use fleet_wire::{
+    LentQuestion, Outline, Question, read_plain_query, write_reply, write_reply_into,
+};
 use std::alloc::Global;
 use std::process::Abort;
 
@@ -18,6 +20,13 @@ pub(crate) fn written_twice(rt: &impl Abort, alloc: Global, outline: &Outline) -
     }
 }
 
+/// Whether a copy of a plain question is equal.
+fn is_copy(question: &LentQuestion<'_>, copy: &Question) -> bool {
+    copy.spelled.as_slice() == question.name()
+        && copy.name.octets() == question.name()
+        && (copy.rtype, copy.class) == (question.rtype(), question.class())
+}
+
 /// The identifier, the type, the class and the name of a question that is read in place, if it is.
 pub(crate) fn show_in_place(
     rt: &impl Abort,
@@ -25,15 +34,14 @@ pub(crate) fn show_in_place(
     mut words: Words<'_>,
     output: &mut String,
 ) {
-    let message = octets_of(rt, alloc, words.word());
+    let message = words.octets(rt, alloc);
     let Some((header, question)) = read_plain_query(message.as_slice()) else {
         output.push_str("none").expect(rt, "memory");
         return;
     };
-    let copy = question.try_copy(alloc).expect(rt, "memory");
-    assert!(rt; copy.spelled.as_slice() == question.name());
-    assert!(rt; copy.name.octets() == question.name());
-    assert!(rt; (copy.rtype, copy.class) == (question.rtype(), question.class()));
+    if !is_copy(&question, &question.try_copy(alloc).expect(rt, "memory")) {
+        panic!(rt; "another copy");
+    }
     write!(
         output,
         "{} {} {} ",

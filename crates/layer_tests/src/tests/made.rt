@@ -1,54 +1,50 @@
 //! Observations that are made, written and copied.
 
-use crate::tests::observations::{denial_in, flush_in, push_name, record_in};
-use crate::tests::rows::{Words, push_octets};
+use crate::tests::observations::{denial_in, flush_in, push_observation, record_in};
+use crate::tests::rows::Words;
 use crate::tests::tables::check_rows;
 use fleet_observe::Observation;
 use std::alloc::Global;
 use std::process::Abort;
 
-/// Adds what an observation says: its kind, name, type, rank, stamp, life and body.
-fn push_observation(
-    rt: &impl Abort,
-    alloc: Global,
-    output: &mut String,
-    observation: &Observation,
-) {
-    write!(output, "{:?} ", observation.kind()).expect(rt, "memory");
-    push_name(rt, alloc, output, observation.name());
-    write!(
-        output,
-        " {} {} {} {} ",
-        observation.rtype(),
-        observation.rank(),
-        observation.stamp().value(),
-        observation.life()
-    )
-    .expect(rt, "memory");
-    let body = observation.write_body(alloc).expect(rt, "memory");
-    push_octets(rt, output, body.as_slice());
-}
-
-/// What a copy of an observation says, and whether it is equal: of one record (`records`: its name,
-/// type, rank, stamp, life and RDATA), of a denial (`denial`: its name, type or 0, rank, stamp, life,
-/// and the owner, TTL and RDATA of its SOA) or of a flush (`flush`: its name and stamp).
-pub(crate) fn show_made(
-    rt: &impl Abort,
-    alloc: Global,
-    call: &str,
-    mut words: Words<'_>,
-    output: &mut String,
-) {
-    let made = match call {
-        "records" => record_in(rt, alloc, alloc, &mut words),
-        "denial" => denial_in(rt, alloc, alloc, &mut words),
-        _ => flush_in(rt, alloc, &mut words),
-    };
+/// Adds what a copy of an observation says, and whether it is equal.
+fn push_copy(rt: &impl Abort, alloc: Global, output: &mut String, made: &Observation) {
     let copy = made.try_clone().expect(rt, "memory");
     push_observation(rt, alloc, output, &copy);
     output
-        .push_str(if copy == made { ";equal" } else { ";another" })
+        .push_str(if copy == *made { "equal" } else { "another" })
         .expect(rt, "memory");
+}
+
+/// A copy of an observation of one record: its name, type, rank, stamp, life and RDATA.
+pub(crate) fn show_records(
+    rt: &impl Abort,
+    alloc: Global,
+    mut words: Words<'_>,
+    output: &mut String,
+) {
+    push_copy(rt, alloc, output, &record_in(rt, alloc, alloc, &mut words));
+}
+
+/// A copy of a flush: its name and stamp.
+pub(crate) fn show_flush(
+    rt: &impl Abort,
+    alloc: Global,
+    mut words: Words<'_>,
+    output: &mut String,
+) {
+    push_copy(rt, alloc, output, &flush_in(rt, alloc, &mut words));
+}
+
+/// A copy of a denial: its name, type or 0, rank, stamp, life, and the owner, TTL and RDATA of its
+/// SOA.
+pub(crate) fn show_denial(
+    rt: &impl Abort,
+    alloc: Global,
+    mut words: Words<'_>,
+    output: &mut String,
+) {
+    push_copy(rt, alloc, output, &denial_in(rt, alloc, alloc, &mut words));
 }
 
 #[test]

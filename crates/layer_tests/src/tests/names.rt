@@ -32,6 +32,12 @@ pub(crate) fn name_of(rt: &impl Abort, alloc: Global, word: &str) -> Name {
     name
 }
 
+/// A copy of a copy of the octets of a name.
+fn copy_of(rt: &impl Abort, alloc: Global, name: &Name) -> Name {
+    let copy = Name::copy_of(alloc, name.octets()).expect(rt, "memory");
+    copy.try_clone().expect(rt, "memory")
+}
+
 /// Adds how a name compares with another one.
 fn push_order(rt: &impl Abort, output: &mut String, one: &Name, other: &Name) {
     let order = one.cmp(other);
@@ -47,36 +53,35 @@ fn push_order(rt: &impl Abort, output: &mut String, one: &Name, other: &Name) {
         .expect(rt, "memory");
 }
 
-/// A name's octets, its text, how many labels a copy of a copy has, and how that compares with it.
+/// A name's octets, its text, how many labels a copy has, and how that compares with it.
 pub(crate) fn show_name(rt: &impl Abort, alloc: Global, mut words: Words<'_>, output: &mut String) {
     let name = name_of(rt, alloc, words.word());
     push_octets(rt, output, name.octets());
     output.push_str(" ").expect(rt, "memory");
     push_name(rt, alloc, output, &name);
-    let copy = Name::copy_of(alloc, name.octets())
-        .expect(rt, "memory")
-        .try_clone()
-        .expect(rt, "memory");
+    let copy = copy_of(rt, alloc, &name);
     let labels = copy.labels();
     write!(output, " {labels} ").expect(rt, "memory");
     push_order(rt, output, &copy, &name);
 }
 
-/// How a name compares with another one (`pair`), or whether it is that or below it (`under`).
-pub(crate) fn show_pair(
+/// How a name compares with another one.
+pub(crate) fn show_pair(rt: &impl Abort, alloc: Global, mut words: Words<'_>, output: &mut String) {
+    let one = name_of(rt, alloc, words.word());
+    let other = name_of(rt, alloc, words.word());
+    push_order(rt, output, &one, &other);
+}
+
+/// Whether a name is another one or below it.
+pub(crate) fn show_under(
     rt: &impl Abort,
     alloc: Global,
-    call: &str,
     mut words: Words<'_>,
     output: &mut String,
 ) {
     let one = name_of(rt, alloc, words.word());
     let other = name_of(rt, alloc, words.word());
-    if call == "under" {
-        write!(output, "{}", one.is_under(&other)).expect(rt, "memory");
-    } else {
-        push_order(rt, output, &one, &other);
-    }
+    write!(output, "{}", one.is_under(&other)).expect(rt, "memory");
 }
 
 /// How many octets a name has after each label is added, or why it is refused.
@@ -102,7 +107,7 @@ pub(crate) fn show_octets(
     mut words: Words<'_>,
     output: &mut String,
 ) {
-    let octets = octets_of(rt, alloc, words.word());
+    let octets = words.octets(rt, alloc);
     let copy = Octets::copy_of(alloc, octets.as_slice())
         .expect(rt, "memory")
         .try_clone()
@@ -119,25 +124,30 @@ fn push_suffix(rt: &impl Abort, output: &mut String, suffix: Option<&[u8]>) {
     }
 }
 
-/// What is left without their first labels, a number of them: of a name and of its octets
-/// (`ancestor`), or of octets (`suffix`).
-pub(crate) fn show_suffix(
+/// What is left of a name without its first labels, a number of them, and of its octets.
+pub(crate) fn show_ancestor(
     rt: &impl Abort,
     alloc: Global,
-    call: &str,
     mut words: Words<'_>,
     output: &mut String,
 ) {
     let count = words.word().parse().expect(rt, "a number");
-    if call == "ancestor" {
-        let name = name_of(rt, alloc, words.word());
-        push_suffix(rt, output, name.suffix(count));
-        output.push_str(" ").expect(rt, "memory");
-        push_suffix(rt, output, suffix_in(name.octets(), count));
-    } else {
-        let octets = octets_of(rt, alloc, words.word());
-        push_suffix(rt, output, suffix_in(octets.as_slice(), count));
-    }
+    let name = name_of(rt, alloc, words.word());
+    push_suffix(rt, output, name.suffix(count));
+    output.push_str(" ").expect(rt, "memory");
+    push_suffix(rt, output, suffix_in(name.octets(), count));
+}
+
+/// What is left of octets without their first labels, a number of them.
+pub(crate) fn show_suffix(
+    rt: &impl Abort,
+    alloc: Global,
+    mut words: Words<'_>,
+    output: &mut String,
+) {
+    let count = words.word().parse().expect(rt, "a number");
+    let octets = words.octets(rt, alloc);
+    push_suffix(rt, output, suffix_in(octets.as_slice(), count));
 }
 
 /// Whether octets are in lower case.
@@ -147,7 +157,7 @@ pub(crate) fn show_lower(
     mut words: Words<'_>,
     output: &mut String,
 ) {
-    let octets = octets_of(rt, alloc, words.word());
+    let octets = words.octets(rt, alloc);
     write!(output, "{}", is_lower(octets.as_slice())).expect(rt, "memory");
 }
 

@@ -18,9 +18,16 @@ struct Held<'a> {
 /// Takes an address, from second 100 on, of the name of a number of four digits.
 fn take(rt: &impl Abort, held: &mut Held<'_>, number: u16, life: u16) {
     let row = format!(in held.global; "{number} 1 3 100 {life} c0000201").expect(rt, "memory");
-    let mut words = Words { rest: row.as_str() };
+    let mut words = Words::new(row.as_str());
     let observation = record_in(rt, held.heap, held.global, &mut words);
     held.cache.take(observation).expect(rt, "memory");
+}
+
+/// Takes addresses of 5000 names. Every other one ends at 110, the rest at 400.
+fn take_all(rt: &impl Abort, held: &mut Held<'_>) {
+    for number in 1000..6000u16 {
+        take(rt, held, number, if number % 2 == 0 { 10 } else { 300 });
+    }
 }
 
 /// How much of the heap is in use after a purge.
@@ -30,7 +37,7 @@ fn used_after(rt: &impl Abort, held: &mut Held<'_>, moment: &str) -> usize {
 }
 
 /// How much of the heap is in use: by an empty cache, which keeps the room for a key; by 5000
-/// fronts; and after four purges. Every other front ends at 110, the rest at 400.
+/// fronts; and after four purges.
 fn go_round(rt: &impl Abort, global: Global, heap: &LocalHeap) -> [usize; 6] {
     let cache = Cache::new(heap);
     let mut held = Held {
@@ -40,10 +47,7 @@ fn go_round(rt: &impl Abort, global: Global, heap: &LocalHeap) -> [usize; 6] {
     };
     take(rt, &mut held, 1000, 5);
     let empty = used_after(rt, &mut held, "105");
-    for number in 1000..6000u16 {
-        let life = if number % 2 == 0 { 10 } else { 300 };
-        take(rt, &mut held, number, life);
-    }
+    take_all(rt, &mut held);
     let all = heap.used();
     let first = used_after(rt, &mut held, "110");
     assert_eq!(rt; held.cache.len(), 2500);

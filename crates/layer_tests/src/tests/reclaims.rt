@@ -139,12 +139,8 @@ impl Plain {
         let Some(front) = self.fronts.get(&key_of(rt, alloc, observation)) else {
             return false;
         };
-        for held in front {
-            if held.kind() == observation.kind() && held.rtype() == observation.rtype() {
-                return true;
-            }
-        }
-        false
+        front.iter().any(|held| held.kind() == observation.kind()
+            && held.rtype() == observation.rtype())
     }
 }
 
@@ -202,6 +198,13 @@ impl Pair {
         self.taken.push(observation).expect(rt, "memory");
     }
 
+    /// Takes a flush of a name from second 110 on.
+    fn flush(&mut self, rt: &impl Abort, alloc: Global, name: &str) {
+        let row = format!(in alloc; "{name} 110").expect(rt, "memory");
+        let flush = flush_in(rt, alloc, &mut Words::new(row.as_str()));
+        self.take(rt, alloc, flush);
+    }
+
     /// Purges to a moment, a second later than the last one at least, and compares.
     fn purge(&mut self, rt: &impl Abort, alloc: Global, moment: u64) {
         let next = self.plain.floor.value().saturating_add(1);
@@ -217,8 +220,15 @@ impl Pair {
 /// As many zeros as a label has octets at most.
 const ZEROS: &str = "000000000000000000000000000000000000000000000000000000000000000";
 
-/// The name of a number of four digits, of 8, 31, 32, 33, 66, 249 or 255 octets: labels of the
-/// number behind zeros, and then one or two that names share.
+/// Adds labels of these lengths, each a number of four digits behind zeros.
+fn add_labels(rt: &impl Abort, name: &mut String, number: u16, lengths: &[usize]) {
+    for length in lengths {
+        let zeros = ZEROS.get(4..*length).expect(rt, "a length");
+        write!(name, "{zeros}{number}.").expect(rt, "memory");
+    }
+}
+
+/// The name of a number of four digits, of 8, 31, 32, 33, 66, 249 or 255 octets.
 fn name_of(rt: &impl Abort, alloc: Global, number: u16) -> String {
     let (lengths, end): (&[usize], &str) = match number % 7 {
         0 => (&[4], "a"),
@@ -230,10 +240,7 @@ fn name_of(rt: &impl Abort, alloc: Global, number: u16) -> String {
         _ => (&[62, 60, 63, 63], "b"),
     };
     let mut name = String::new(alloc);
-    for length in lengths {
-        let zeros = ZEROS.get(4..*length).expect(rt, "a length");
-        write!(name, "{zeros}{number}.").expect(rt, "memory");
-    }
+    add_labels(rt, &mut name, number, lengths);
     name.push_str(end).expect(rt, "memory");
     name
 }
@@ -245,7 +252,7 @@ fn made(rt: &impl Abort, alloc: Global, words: &mut Pcg32, number: u16, rtype: u
     let stamp = 100 + words.next_word() % 20;
     let life = 1 + words.next_word() % 40;
     let row = format!(in alloc; "{name} {rtype} 3 {stamp} {life} c0000201").expect(rt, "memory");
-    record_in(rt, alloc, alloc, &mut Words { rest: row.as_str() })
+    record_in(rt, alloc, alloc, &mut Words::new(row.as_str()))
 }
 
 /// Takes records of three of four of the names of the numbers from 1000 on, of a type, and purges twice;
@@ -261,9 +268,8 @@ fn check_seed(rt: &impl Abort, alloc: Global, seed: u32, names: u16, types: u16)
             }
         }
         if seed % 2 == 1 && round == 1 {
-            for rest in ["1001.a 110", "b 110"] {
-                pair.take(rt, alloc, flush_in(rt, alloc, &mut Words { rest }));
-            }
+            pair.flush(rt, alloc, "1001.a");
+            pair.flush(rt, alloc, "b");
         }
         for _ in 0..2u8 {
             let later = u64::from(words.next_word() % 10);

@@ -4,29 +4,62 @@ use crate::tests::messages::MESSAGES;
 use std::alloc::Global;
 use std::process::Abort;
 
+/// The first word of a text, and what comes behind it.
+fn first_of(text: &str) -> (&str, &str) {
+    text.split_once(' ').unwrap_or((text, ""))
+}
+
 /// The words of a row that have not been read yet.
 #[derive(Clone, Copy)]
 pub(crate) struct Words<'a> {
-    /// These words, with a space between two.
-    pub(crate) rest: &'a str,
+    rest: &'a str,
 }
 
 impl<'a> Words<'a> {
+    /// These words.
+    pub(crate) fn new(rest: &'a str) -> Words<'a> {
+        Words { rest }
+    }
+
+    /// Whether there are no more.
+    pub(crate) fn is_empty(&self) -> bool {
+        self.rest.is_empty()
+    }
+
     /// The next word, which has no letters where there is none.
     pub(crate) fn word(&mut self) -> &'a str {
-        let words = self.rest;
-        let (word, rest) = words.split_once(' ').unwrap_or((words, ""));
+        let (word, rest) = first_of(self.rest);
         self.rest = rest;
         word
     }
+
+    /// The octets of the next word.
+    pub(crate) fn octets(&mut self, rt: &impl Abort, alloc: Global) -> Vec<u8> {
+        octets_of(rt, alloc, self.word())
+    }
 }
 
-/// Reads a row: its call, the words of that, and behind ` => ` its output.
-pub(crate) fn read_row<'a>(rt: &impl Abort, row: &'a str) -> (&'a str, Words<'a>, &'a str) {
-    let (rest, wanted) = row.split_once(" => ").expect(rt, "what a row wants");
-    let mut words = Words { rest };
-    let call = words.word();
-    (call, words, wanted)
+/// A row: a call, its words, and behind ` => ` its output.
+#[derive(Clone, Copy)]
+pub(crate) struct Row<'a> {
+    /// The call.
+    pub(crate) call: &'a str,
+    /// Its words.
+    pub(crate) words: Words<'a>,
+    /// Its output.
+    pub(crate) wanted: &'a str,
+}
+
+/// Reads a row.
+pub(crate) fn read_row<'a>(rt: &impl Abort, row: &'a str) -> Row<'a> {
+    let (asked, wanted) = row.split_once(" => ").expect(rt, "what a row wants");
+    let (call, rest) = asked.split_once(' ').unwrap_or((asked, ""));
+    let words = Words::new(rest);
+    Row {
+        call,
+        words,
+        wanted,
+    }
 }
 
 /// Whether a line of a table is a row of it: it is not empty, and does not begin with `#`.
@@ -107,14 +140,19 @@ fn push_repeated(rt: &impl Abort, digits: &mut String, text: &str) {
     for piece in text.split('{') {
         match piece.split_once('}') {
             Some((repeated, rest)) => {
-                let (octets, count) = repeated.split_once('*').expect(rt, "a count");
-                for _ in 0..count.parse::<u16>().expect(rt, "a number") {
-                    digits.push_str(octets).expect(rt, "memory");
-                }
+                push_times(rt, digits, repeated);
                 push_openings(rt, digits, rest);
             }
             None => push_openings(rt, digits, piece),
         }
+    }
+}
+
+/// Adds digits as often as is said behind them.
+fn push_times(rt: &impl Abort, digits: &mut String, repeated: &str) {
+    let (octets, count) = repeated.split_once('*').expect(rt, "a count");
+    for _ in 0..count.parse::<u16>().expect(rt, "a number") {
+        digits.push_str(octets).expect(rt, "memory");
     }
 }
 
