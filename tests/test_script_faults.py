@@ -26,7 +26,7 @@ def read_rows():
 
 
 class LineFaults(Case):
-    """Each row of the table, and an octet that is none of UTF-8."""
+    """Each row of the table, an octet that is none of UTF-8, and lines far down."""
 
     def check(self, script, report, before):
         self.check_equal(run_script(script), failed(report, before))
@@ -38,6 +38,11 @@ class LineFaults(Case):
     def test_not_utf_8(self):
         """an octet that begins no character"""
         self.check(b"\n\xff\n", "line 2: not ASCII", b"")
+
+    def test_far_down(self):
+        """a line at fault behind 9 others, and behind 99999"""
+        for others in (9, 99_999):
+            self.check(b"#\n" * others + b"show x\n", f"line {others + 1}: bad number", b"")
 
 
 add_cases(LineFaults, read_rows())
