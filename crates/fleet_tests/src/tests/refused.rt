@@ -123,6 +123,48 @@ fn check_last_lost<A: Allocator + Copy>(
     *world = world_after(rt, trial.alloc, trial.sites, rows)
 }
 
+/// Does the last of these rows again, with ample memory. It does what `wanted` says.
+fn do_again<A: Allocator + Copy>(
+    rt: &impl Abort,
+    trial: &Trial<'_, A>,
+    world: &mut World<A>,
+    row: &str,
+    wanted: &Done<A>,
+) {
+    let again = do_row(rt, trial.ample, world, row).expect(rt, "a row");
+    assert!(rt; same_done(&again, wanted), "{row}")
+}
+
+/// Checks what became of the last of these rows, and does it again where it ran out of memory: in
+/// the end it did what `wanted` says, as it did in `whole`.
+fn check_done<A: Allocator + Copy>(
+    rt: &impl Abort,
+    trial: &Trial<'_, A>,
+    fleets: (&mut World<A>, &World<A>),
+    rows: &[&str],
+    ends: (&Result<Done<A>, WorldFault<A>>, &Done<A>),
+    known: &mut Option<Part<A>>,
+    met: &mut Met,
+) {
+    let (world, whole) = fleets;
+    let (done, wanted) = ends;
+    let row = rows.last().expect(rt, "a row");
+    match done {
+        Ok(done) => assert!(rt; same_done(done, wanted), "{row}"),
+        Err(WorldFault::Memory { taken }) => {
+            met.short = met.short || *taken == 0;
+            met.partly = met.partly || *taken > 0;
+            check_part(rt, trial, world, rows, *taken, known);
+            do_again(rt, trial, world, row, wanted)
+        }
+        Err(WorldFault::FramesLost(stepped)) => {
+            met.lost = true;
+            check_last_lost(rt, trial, (world, whole), rows, stepped, wanted)
+        }
+        Err(fault) => panic!(rt; "{fault}"),
+    }
+}
+
 /// Does the last of these rows with the call of this number refused, where it makes as many, and
 /// says whether it does. Behind it the world is as `whole`, which did it with ample memory.
 fn run_last<A: Allocator + Copy>(
@@ -141,21 +183,8 @@ fn run_last<A: Allocator + Copy>(
     let has_refused = trial.refusing.has_refused();
     assert_eq!(rt; done.is_ok(), !has_refused, "{row}");
     let wanted = do_row(rt, trial.ample, whole, row).expect(rt, "a row");
-    match done {
-        Ok(done) => assert!(rt; same_done(&done, &wanted), "{row}"),
-        Err(WorldFault::Memory { taken }) => {
-            met.short = met.short || taken == 0;
-            met.partly = met.partly || taken > 0;
-            check_part(rt, trial, world, rows, taken, known);
-            let again = do_row(rt, trial.ample, world, row).expect(rt, "a row");
-            assert!(rt; same_done(&again, &wanted), "{row}")
-        }
-        Err(WorldFault::FramesLost(stepped)) => {
-            met.lost = true;
-            check_last_lost(rt, trial, (&mut *world, &*whole), rows, &stepped, &wanted)
-        }
-        Err(fault) => panic!(rt; "{fault}"),
-    }
+    let ends = (&done, &wanted);
+    check_done(rt, trial, (&mut *world, &*whole), rows, ends, known, met);
     check_same(rt, world, whole, row);
     has_refused
 }

@@ -29,9 +29,38 @@ fn check_all<A: Allocator>(rt: &impl Abort, all: &[Stepped<A>], wanted: &[Steppe
     }
 }
 
+/// Checks a world whose run ran out of memory at the first of these rows: it is as `before`, but for
+/// the first observations of the row. A row may not have begun: it took nothing, and no clock has
+/// risen.
+fn check_short<A: Allocator + Copy>(
+    rt: &impl Abort,
+    trial: &Trial<'_, A>,
+    world: &World<A>,
+    before: &mut World<A>,
+    row: &str,
+    taken: usize,
+) {
+    if taken > 0 || !has_same_sites(world, before) {
+        do_part(rt, trial.ample, before, row, taken);
+    }
+    check_same(rt, world, before, row)
+}
+
+/// Runs the events of the rows that are left, with ample memory. They do as `wanted` says.
+fn run_left<A: Allocator + Copy>(
+    rt: &impl Abort,
+    trial: &Trial<'_, A>,
+    world: &mut World<A>,
+    left: &[&str],
+    wanted: &[Stepped<A>],
+) {
+    let events = events_of(rt, trial.ample, left);
+    let all = world.run(&events).expect(rt, "a run");
+    check_all(rt, &all, wanted)
+}
+
 /// Checks a world whose run was halted, and runs the events that are left, but where frames were not
-/// kept: then what the event did is compared. With ample memory, `whole` did `did`. A row that ran
-/// out of memory may not have begun: it took nothing, and no clock has risen.
+/// kept: then what the event did is compared. With ample memory, `whole` did `did`.
 fn go_on<A: Allocator + Copy>(
     rt: &impl Abort,
     trial: &Trial<'_, A>,
@@ -39,28 +68,22 @@ fn go_on<A: Allocator + Copy>(
     steps: &[&str],
     whole: &World<A>,
     did: &[Stepped<A>],
-    halted: Halted<A>,
+    halted: &Halted<A>,
 ) {
-    let Halted { at, fault } = halted;
-    let (done, left) = steps.split_at_checked(at).expect(rt, "a row");
-    let (_, wanted) = did.split_at_checked(at).expect(rt, "a row");
+    let (done, left) = steps.split_at_checked(halted.at).expect(rt, "a row");
+    let (_, wanted) = did.split_at_checked(halted.at).expect(rt, "a row");
     let row = left.first().expect(rt, "a row");
     let mut before = world_after(rt, trial.ample, trial.sites, done);
-    match fault {
+    match &halted.fault {
         WorldFault::Memory { taken } => {
-            if taken > 0 || !has_same_sites(world, &before) {
-                do_part(rt, trial.ample, &mut before, row, taken);
-            }
-            check_same(rt, world, &before, row);
-            let events = events_of(rt, trial.ample, left);
-            let all = world.run(&events).expect(rt, "a run");
-            check_all(rt, &all, wanted);
+            check_short(rt, trial, world, &mut before, row, *taken);
+            run_left(rt, trial, world, left, wanted);
             check_same(rt, world, whole, row)
         }
         WorldFault::FramesLost(stepped) => {
-            let next = world_after(rt, trial.ample, trial.sites, &steps[..=at]);
+            let next = world_after(rt, trial.ample, trial.sites, &steps[..=halted.at]);
             let wanted = wanted.first().expect(rt, "a row");
-            check_lost(rt, world, &before, &next, &stepped, wanted)
+            check_lost(rt, world, &before, &next, stepped, wanted)
         }
         fault => panic!(rt; "{fault}"),
     }
@@ -80,7 +103,7 @@ fn run_steps<A: Allocator + Copy>(rt: &impl Abort, trial: &Trial<'_, A>, steps: 
             check_all(rt, &all, &did);
             check_same(rt, &world, &whole, "all rows")
         }
-        Err(halted) => go_on(rt, trial, &mut world, steps, &whole, &did, halted),
+        Err(halted) => go_on(rt, trial, &mut world, steps, &whole, &did, &halted),
     }
 }
 

@@ -79,6 +79,34 @@ fn is_unmade(alloc: Global, frame: &[u8], call: u64) -> bool {
     decode(&refusing, frame).is_err()
 }
 
+/// Takes the frame; says how many were taken before a call was refused, if one was.
+fn take_short<A: Allocator + Copy>(
+    rt: &impl Abort,
+    alloc: A,
+    cache: &mut Cache<A>,
+    frame: &[u8],
+) -> Option<usize> {
+    match take_frame(alloc, cache, frame) {
+        Ok(count) => {
+            assert_eq!(rt; count, COUNT);
+            None
+        }
+        Err(TakeFault::OutOfMemory { taken }) => Some(taken),
+        Err(TakeFault::Refused(_)) => panic!(rt; "refused"),
+    }
+}
+
+/// How many observations a cache holds that held the one at this place, behind so many that were
+/// taken; behind the whole frame, if none was refused.
+fn held_behind(place: usize, taken: Option<usize>) -> usize {
+    let first = taken.unwrap_or(COUNT);
+    if place < first {
+        first
+    } else {
+        first.saturating_add(1)
+    }
+}
+
 /// Takes a frame whose entry at this place is held, with a call refused, and then again; says how
 /// many were taken before it was.
 fn take_beside<A: Allocator + Copy>(
@@ -91,22 +119,9 @@ fn take_beside<A: Allocator + Copy>(
     let mut cache = Cache::new(alloc);
     assert_eq!(rt; take_frame(alloc, &mut cache, split.alone), Ok(1));
     refusing.refuse(call);
-    let taken = match take_frame(alloc, &mut cache, split.frame) {
-        Ok(count) => {
-            assert_eq!(rt; count, COUNT);
-            None
-        }
-        Err(TakeFault::OutOfMemory { taken }) => Some(taken),
-        Err(TakeFault::Refused(_)) => panic!(rt; "refused"),
-    };
+    let taken = take_short(rt, alloc, &mut cache, split.frame);
     assert_eq!(rt; taken.is_some(), refusing.has_refused());
-    let first = taken.unwrap_or(COUNT);
-    let held = if split.place < first {
-        first
-    } else {
-        first.saturating_add(1)
-    };
-    assert_eq!(rt; cache.len(), held);
+    assert_eq!(rt; cache.len(), held_behind(split.place, taken));
     refusing.refuse(MANY);
     assert_eq!(rt; take_frame(alloc, &mut cache, split.frame), Ok(COUNT));
     assert_eq!(rt; cache.len(), COUNT);
