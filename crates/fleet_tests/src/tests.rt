@@ -2,8 +2,9 @@
 //!
 //! `messages` has messages and frames by their names, and `octets` reads them. `sites` reads what
 //! rows name, and `fleets` reads rows, does what they say and compares their output. Each other file
-//! has tests: of the calls of a site; of a hit without memory; of turns of a server over a port in memory; of events that are
-//! halted. The tests below `refused` have an allocator that refuses a call (`refusing`).
+//! has tests: of the calls of a site; of a hit without memory; of turns of a server over a port in
+//! memory; of events that are halted. The tests below `refused` have an allocator that refuses a call
+//! (`refusing`), and those below `layers` are of the libraries below a site.
 //!
 //! What a script shows of these is tried from outside, by `tests/run` at the top of the repository.
 
@@ -11,6 +12,7 @@ mod calls;
 mod events;
 mod fleets;
 mod hits;
+mod layers;
 mod messages;
 mod octets;
 mod refused;

@@ -1,5 +1,5 @@
-//! The messages and frames of the tests, written by hand, each by a name. The tests of other crates
-//! have messages of their own, since a crate does not see the tests of another.
+//! The messages and frames of the tests of sites and fleets, written by hand, each by a name. Those
+//! of the layers below have their own.
 
 /// Each name, and its octets in hexadecimal digits: those of a field are one word, `example.com`
 /// and `example.org` are these names in full, and `61*63` is 63 times `61`. The line above says

@@ -1,6 +1,6 @@
 //! What a reply says, what is relayed of it, and what is asked: each call where there is memory.
 
-use crate::tests::rows::octets_of;
+use crate::tests::layers::rows::octets_of;
 use fleet_observe::{Digest, Moment, digest, observations, relay};
 use fleet_wire::{read_query, read_reply, write_query};
 use std::alloc::Global;

@@ -3,8 +3,8 @@
 //! A question is spelled by its name and its class, and is for type 1 (A). One who asks is at
 //! 127.0.0.1, and is spelled by a port and an identifier.
 
-use crate::tests::observations::{moment_of, push_name, question_of};
-use crate::tests::rows::{Row, Words, check_output, is_row, read_row};
+use crate::tests::layers::observations::{moment_of, push_name, question_of};
+use crate::tests::layers::rows::{Row, Words, check_output, is_row, read_row};
 use fleet_observe::Moment;
 use fleet_pending::{Addr, Asked, Due, Entry, Pending, PendingFault, Waiter, Waiters};
 use fleet_wire::Question;

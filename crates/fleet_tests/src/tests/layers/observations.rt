@@ -1,6 +1,6 @@
 //! Observations as rows spell them.
 
-use crate::tests::rows::{Words, octets_of, push_octets};
+use crate::tests::layers::rows::{Words, octets_of, push_octets};
 use fleet_name::{Name, Octets};
 use fleet_observe::{Moment, Observation, Soa};
 use fleet_wire::{Question, read_query};

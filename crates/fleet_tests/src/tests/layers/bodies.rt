@@ -1,7 +1,7 @@
 //! Bodies behind other octets.
 
-use crate::tests::observations::record_in;
-use crate::tests::rows::Words;
+use crate::tests::layers::observations::record_in;
+use crate::tests::layers::rows::Words;
 
 #[test]
 fn a_body_is_added_behind_octets(rt: HostRuntime) {

@@ -1,5 +1,4 @@
-//! The messages and frames that more than one row is about, each by a name. The tests of other
-//! crates have messages of their own, since a crate does not see the tests of another.
+//! The messages and frames that more than one row is about, each by a name.
 
 /// Each name, and behind it the octets as `spelled` reads them. The line above says what they are:
 /// of a message the id, the flags, the code, the question and the records of each section; of a

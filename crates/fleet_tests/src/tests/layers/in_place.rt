@@ -1,7 +1,7 @@
 //! Questions that are read in place, and replies that are written into a buffer.
 
-use crate::tests::rows::{Words, push_octets};
-use crate::tests::tables::check_rows;
+use crate::tests::layers::rows::{Words, push_octets};
+use crate::tests::layers::tables::check_rows;
 use fleet_wire::{
     LentQuestion, Outline, Question, read_plain_query, write_reply, write_reply_into,
 };

@@ -7,8 +7,8 @@
 //! longest that the cache's first map has, and two whose keys have the most words. The moments are those
 //! around the ends of what is held.
 
-use crate::tests::observations::{flush_in, moment_of, record_in};
-use crate::tests::rows::Words;
+use crate::tests::layers::observations::{flush_in, moment_of, record_in};
+use crate::tests::layers::rows::Words;
 use fleet_cache::Cache;
 use fleet_observe::{Kind, LentObservation, Moment, Observation};
 use rand_core::utils::NextWord;

@@ -1,7 +1,7 @@
 //! The memory that purges give back.
 
-use crate::tests::observations::{moment_of, record_in};
-use crate::tests::rows::Words;
+use crate::tests::layers::observations::{moment_of, record_in};
+use crate::tests::layers::rows::Words;
 use fleet_cache::Cache;
 use linked_list_allocator::LocalHeap;
 use std::alloc::Global;

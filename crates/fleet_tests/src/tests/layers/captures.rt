@@ -1,8 +1,8 @@
 //! Messages of servers, and one of each kind that is read or refused.
 
-use crate::tests::in_place::written_twice;
-use crate::tests::rows::{Words, octets_of, push_octets};
-use crate::tests::tables::{check_rows, rows_of};
+use crate::tests::layers::in_place::written_twice;
+use crate::tests::layers::rows::{Words, octets_of, push_octets};
+use crate::tests::layers::tables::{check_rows, rows_of};
 use fleet_wire::{Message, Outline, ReadFault, Record, plain_rdata, read_reply};
 use std::alloc::Global;
 use std::process::Abort;

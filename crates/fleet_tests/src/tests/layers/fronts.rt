@@ -1,7 +1,7 @@
 //! Observations of one key, some of them hidden or needless.
 
-use crate::tests::observations::{moment_of, record_in};
-use crate::tests::rows::{Row, Words, check_output, is_row, read_row};
+use crate::tests::layers::observations::{moment_of, record_in};
+use crate::tests::layers::rows::{Row, Words, check_output, is_row, read_row};
 use fleet_cache::{Cut, Item};
 use fleet_front::Front;
 use std::alloc::Global;

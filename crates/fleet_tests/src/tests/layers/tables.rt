@@ -1,13 +1,13 @@
 //! Tables of calls on names, messages and replies, and their output.
 
-use crate::tests::captures::{show_rdata, show_rewritten};
-use crate::tests::in_place::show_in_place;
-use crate::tests::made::{show_denial, show_flush, show_records};
-use crate::tests::names::{
+use crate::tests::layers::captures::{show_rdata, show_rewritten};
+use crate::tests::layers::in_place::show_in_place;
+use crate::tests::layers::made::{show_denial, show_flush, show_records};
+use crate::tests::layers::names::{
     show_ancestor, show_lower, show_name, show_octets, show_pair, show_pushes, show_suffix,
     show_under,
 };
-use crate::tests::rows::{Row, Words, check_output, is_row, read_row};
+use crate::tests::layers::rows::{Row, Words, check_output, is_row, read_row};
 use std::alloc::Global;
 use std::process::Abort;
 

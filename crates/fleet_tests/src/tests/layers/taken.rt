@@ -1,8 +1,8 @@
 //! Frames that are taken into a cache, where there is memory and where none is left, and
 //! observations that are lent.
 
-use crate::tests::observations::moment_of;
-use crate::tests::rows::octets_of;
+use crate::tests::layers::observations::moment_of;
+use crate::tests::layers::rows::octets_of;
 use fleet_cache::Cache;
 use fleet_gossip::{FrameFault, TakeFault, decode, encode, pack, sweep, take_frame};
 use fleet_observe::{LentObservation, Observation};

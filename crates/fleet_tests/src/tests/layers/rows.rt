@@ -1,6 +1,6 @@
 //! Rows of tables: a call of the libraries, ` => `, and its output.
 
-use crate::tests::messages::MESSAGES;
+use crate::tests::layers::messages::MESSAGES;
 use std::alloc::Global;
 use std::process::Abort;
 

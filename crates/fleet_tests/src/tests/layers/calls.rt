@@ -1,7 +1,7 @@
 //! Calls of caches, a row each.
 
-use crate::tests::observations::{denial_in, flush_in, moment_of, record_in};
-use crate::tests::rows::{Row, Words, check_output, is_row, read_row};
+use crate::tests::layers::observations::{denial_in, flush_in, moment_of, record_in};
+use crate::tests::layers::rows::{Row, Words, check_output, is_row, read_row};
 use fleet_cache::Cache;
 use fleet_observe::Observation;
 use linked_list_allocator::LocalHeap;

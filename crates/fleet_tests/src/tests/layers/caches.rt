@@ -4,7 +4,7 @@
 //! the owner of the SOA. The output of a cache is how many items it holds, and the rank and the life
 //! of each. What caches answer is tried from outside, by `tests/test_caches.py`.
 
-use crate::tests::calls::check_calls;
+use crate::tests::layers::calls::check_calls;
 
 #[test]
 fn caches_take_and_merge(rt: HostRuntime) {

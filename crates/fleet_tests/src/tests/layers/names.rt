@@ -1,8 +1,8 @@
 //! Names and octets made with ample memory.
 
-use crate::tests::observations::push_name;
-use crate::tests::rows::{Words, octets_of, push_octets};
-use crate::tests::tables::check_rows;
+use crate::tests::layers::observations::push_name;
+use crate::tests::layers::rows::{Words, octets_of, push_octets};
+use crate::tests::layers::tables::check_rows;
 use fleet_name::{Name, NameFault, Octets, is_lower, suffix_in};
 use std::alloc::Global;
 use std::process::Abort;

@@ -1,8 +1,8 @@
 //! Observations that are made, written and copied.
 
-use crate::tests::observations::{denial_in, flush_in, push_observation, record_in};
-use crate::tests::rows::Words;
-use crate::tests::tables::check_rows;
+use crate::tests::layers::observations::{denial_in, flush_in, push_observation, record_in};
+use crate::tests::layers::rows::Words;
+use crate::tests::layers::tables::check_rows;
 use fleet_observe::Observation;
 use std::alloc::Global;
 use std::process::Abort;
