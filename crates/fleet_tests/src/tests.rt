@@ -1,8 +1,8 @@
 //! Rows of text over the public calls of a site, of its server and of a fleet.
 //!
 //! `messages` has messages and frames by their names, and `octets` reads them. `sites` reads what
-//! rows name, and `fleets` reads rows, does what they say and compares their output. Each other file
-//! has tests: of the calls of a site; of a hit without memory; of turns of a server over a port in
+//! rows name, and `fleets` reads rows, does what they say and compares their output. `heaps` fills a
+//! heap. Each other file has tests: of the calls of a site; of a hit without memory; of turns of a server over a port in
 //! memory; of events that are halted. The tests below `refused` have an allocator that refuses a call
 //! (`refusing`), and those below `layers` are of the libraries below a site.
 //!
@@ -11,6 +11,7 @@
 mod calls;
 mod events;
 mod fleets;
+mod heaps;
 mod hits;
 mod layers;
 mod messages;

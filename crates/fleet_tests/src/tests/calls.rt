@@ -8,12 +8,15 @@ use fleet_site::{Looked, Site};
 use std::alloc::Global;
 use std::process::Abort;
 
-/// A question is asked at one upstream, and at the next one two seconds later.
+/// A question is asked at one upstream.
 fn check_asked(rt: &impl Abort, alloc: Global, site: &mut Site) {
     let question = octets(rt, alloc, "question");
     let asked = site.datagram(at(rt, 100), addr(6001), question.as_slice(), 0x1234);
-    let asked = asked.expect(rt, "an outcome");
-    assert!(rt; is_sending(rt, alloc, &asked, 5301, "query"));
+    assert!(rt; is_sending(rt, alloc, &asked.expect(rt, "an outcome"), 5301, "query"))
+}
+
+/// It is asked at the next one two seconds later.
+fn check_retried(rt: &impl Abort, alloc: Global, site: &mut Site) {
     let asked = site.tick(at(rt, 102)).expect(rt, "an outcome");
     assert!(rt; is_sending(rt, alloc, &asked, 5302, "query"))
 }
@@ -53,15 +56,21 @@ fn check_handed_on(rt: &impl Abort, site: &mut Site, other: &mut Site) {
     assert_eq!(rt; other.merge(site).expect(rt, "a count"), 1)
 }
 
+/// Each call of a site, one after the other.
+fn check_calls(rt: &impl Abort, alloc: Global, site: &mut Site, other: &mut Site) {
+    check_asked(rt, alloc, site);
+    check_retried(rt, alloc, site);
+    site.restart();
+    check_learnt(rt, alloc, site);
+    check_answered(rt, alloc, site);
+    check_taken(rt, alloc, site);
+    check_flushed(rt, alloc, site);
+    check_handed_on(rt, site, other)
+}
+
 #[test]
 fn each_call_answers(rt: HostRuntime) {
     let mut site = Site::new(rt.alloc(), config(&rt, rt.alloc(), &[]));
     let mut other = Site::new(rt.alloc(), config(&rt, rt.alloc(), &[]));
-    check_asked(&rt, rt.alloc(), &mut site);
-    site.restart();
-    check_learnt(&rt, rt.alloc(), &mut site);
-    check_answered(&rt, rt.alloc(), &mut site);
-    check_taken(&rt, rt.alloc(), &mut site);
-    check_flushed(&rt, rt.alloc(), &mut site);
-    check_handed_on(&rt, &mut site, &mut other)
+    check_calls(&rt, rt.alloc(), &mut site, &mut other)
 }

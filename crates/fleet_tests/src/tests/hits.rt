@@ -1,30 +1,13 @@
 //! A hit at a site that has no memory left.
 
+use crate::tests::heaps::rest_of;
 use crate::tests::octets::octets;
 use crate::tests::sites::{addr, at};
 use fleet_site::{Config, Handled, Site};
 use fleet_wire::bounds::LONGEST_MESSAGE;
 use linked_list_allocator::LocalHeap;
-use std::alloc::{AllocError, Global};
+use std::alloc::Global;
 use std::process::Abort;
-
-/// All that is left of a heap.
-fn rest_of<'a>(
-    rt: &impl Abort,
-    global: Global,
-    heap: &'a LocalHeap,
-) -> Vec<Vec<u8, &'a LocalHeap>> {
-    let mut all = Vec::new(global);
-    for size in [4096, 256, 16, 1] {
-        for _ in 0..64u8 {
-            let part: Result<Vec<u8, &LocalHeap>, AllocError> = Vec::with_capacity(heap, size);
-            if let Ok(part) = part {
-                all.push(part).expect(rt, "memory");
-            }
-        }
-    }
-    all
-}
 
 /// A site over a heap.
 fn heap_site<'a>(rt: &impl Abort, heap: &'a LocalHeap) -> Site<&'a LocalHeap> {

@@ -155,22 +155,31 @@ const FAILURES: &str = "\
 7 3 => 3 1 3 0 0 0 0 : received 6001 question, sent 5301 query, nothing, sent 5302 query, nothing, sent 6001 failure
 ";
 
-/// Compares the report of turns where a call fails, and the record: turns from the moment 100 on,
-/// two seconds each, without sweeps, of a site that has two upstreams.
-fn check_failure(rt: &impl Abort, alloc: Global, row: &str) {
-    let (asked, row) = row.split_once(" => ").expect(rt, "counts");
-    let (counts, notes) = row.split_once(" : ").expect(rt, "a record");
-    let (fail_at, turns) = asked.split_once(' ').expect(rt, "turns");
-    let mut port = port(rt, alloc, alloc, Some(u64::from(number(rt, fail_at))));
+/// Serves turns at a port: from the moment 100 on, two seconds each, without sweeps, of a site that has
+/// two upstreams.
+fn serve_turns(rt: &impl Abort, alloc: Global, port: &mut MemoryPort, turns: u16) -> Report {
     let mut site = Site::new(alloc, config(rt, alloc, &[]));
     let mut clock = clock(rt, alloc, &[100, 102, 104]);
     let mut words = OneWord(0xabcd_1234);
-    let turns = u32::from(number(rt, turns));
-    let report = serve(&mut port, &mut clock, &mut words, &mut site, turns, 0);
+    serve(port, &mut clock, &mut words, &mut site, u32::from(turns), 0)
+}
+
+/// Compares the report of turns where a call of their port fails, and the record.
+fn check_turns(rt: &impl Abort, alloc: Global, port: &mut MemoryPort, turns: u16, row: &str) {
+    let (counts, notes) = row.split_once(" : ").expect(rt, "a record");
+    let report = serve_turns(rt, alloc, port, turns);
     let failed = report.lost.saturating_add(report.faults);
     assert_eq!(rt; port.failures(), failed, "{counts}");
     check_report(rt, alloc, report, counts);
-    check_notes(rt, alloc, &port, notes)
+    check_notes(rt, alloc, port, notes)
+}
+
+/// The same, of a row.
+fn check_failure(rt: &impl Abort, alloc: Global, row: &str) {
+    let (asked, row) = row.split_once(" => ").expect(rt, "counts");
+    let (fail_at, turns) = asked.split_once(' ').expect(rt, "turns");
+    let mut port = port(rt, alloc, alloc, Some(u64::from(number(rt, fail_at))));
+    check_turns(rt, alloc, &mut port, number(rt, turns), row)
 }
 
 #[test]

@@ -115,6 +115,18 @@ fn show_used(rt: &impl Abort, caches: &mut Caches<'_>, call: &str, output: &mut 
     write!(output, "{order:?}").expect(rt, "memory");
 }
 
+/// What the other cache holds, which is at hand from now on.
+fn show_other(rt: &impl Abort, caches: &mut Caches<'_>, output: &mut String) {
+    swap(&mut caches.ours, &mut caches.theirs);
+    show_items(rt, caches, output);
+}
+
+/// What the cache holds that has taken in all that the other one holds.
+fn show_merged(rt: &impl Abort, caches: &mut Caches<'_>, output: &mut String) {
+    caches.ours.merge(&caches.theirs).expect(rt, "memory");
+    show_items(rt, caches, output);
+}
+
 /// Makes a call, and writes its output.
 fn show_result(
     rt: &impl Abort,
@@ -131,14 +143,8 @@ fn show_result(
         "purge" => purge(rt, caches, words, output),
         "items" => show_items(rt, caches, output),
         "mark" | "used" => show_used(rt, caches, call, output),
-        "other" => {
-            swap(&mut caches.ours, &mut caches.theirs);
-            show_items(rt, caches, output)
-        }
-        "merge" => {
-            caches.ours.merge(&caches.theirs).expect(rt, "memory");
-            show_items(rt, caches, output)
-        }
+        "other" => show_other(rt, caches, output),
+        "merge" => show_merged(rt, caches, output),
         _ => panic!(rt; "no such call"),
     }
 }
@@ -155,6 +161,15 @@ fn check_call(rt: &impl Abort, caches: &mut Caches<'_>, row: &str) {
     check_output(rt, caches.global, row, wanted, output.as_str());
 }
 
+/// Checks calls.
+fn check_rows(rt: &impl Abort, caches: &mut Caches<'_>, rows: &str) {
+    for row in rows.lines() {
+        if is_row(row) {
+            check_call(rt, caches, row);
+        }
+    }
+}
+
 /// Checks calls of two new caches.
 pub(crate) fn check_calls(rt: &impl Abort, global: Global, rows: &str) {
     let heap = LocalHeap::new(global, 1 << 20).expect(rt, "memory");
@@ -165,9 +180,5 @@ pub(crate) fn check_calls(rt: &impl Abort, global: Global, rows: &str) {
         ours: Cache::new(&heap),
         theirs: Cache::new(&heap),
     };
-    for row in rows.lines() {
-        if is_row(row) {
-            check_call(rt, &mut caches, row);
-        }
-    }
+    check_rows(rt, &mut caches, rows);
 }

@@ -36,26 +36,36 @@ fn used_after(rt: &impl Abort, held: &mut Held<'_>, moment: &str) -> usize {
     held.heap.used()
 }
 
-/// How much of the heap is in use: by an empty cache, which keeps the room for a key; by 5000
-/// fronts; and after four purges.
-fn go_round(rt: &impl Abort, global: Global, heap: &LocalHeap) -> [usize; 6] {
+/// How much of the heap is in use by an empty cache, which keeps the room for a key, and by 5000
+/// fronts.
+fn fill(rt: &impl Abort, held: &mut Held<'_>) -> [usize; 2] {
+    take(rt, held, 1000, 5);
+    let empty = used_after(rt, held, "105");
+    take_all(rt, held);
+    [empty, held.heap.used()]
+}
+
+/// How much of the heap is in use after each of four purges.
+fn purge_all(rt: &impl Abort, held: &mut Held<'_>) -> [usize; 4] {
+    let first = used_after(rt, held, "110");
+    assert_eq!(rt; held.cache.len(), 2500);
+    let second = used_after(rt, held, "111");
+    let third = used_after(rt, held, "112");
+    let last = used_after(rt, held, "400");
+    assert!(rt; held.cache.is_empty());
+    [first, second, third, last]
+}
+
+/// How much of the heap is in use: by an empty cache, by 5000 fronts, and after each of four purges.
+fn go_round(rt: &impl Abort, global: Global, heap: &LocalHeap) -> ([usize; 2], [usize; 4]) {
     let cache = Cache::new(heap);
     let mut held = Held {
         global,
         heap,
         cache,
     };
-    take(rt, &mut held, 1000, 5);
-    let empty = used_after(rt, &mut held, "105");
-    take_all(rt, &mut held);
-    let all = heap.used();
-    let first = used_after(rt, &mut held, "110");
-    assert_eq!(rt; held.cache.len(), 2500);
-    let second = used_after(rt, &mut held, "111");
-    let third = used_after(rt, &mut held, "112");
-    let last = used_after(rt, &mut held, "400");
-    assert!(rt; held.cache.is_empty());
-    [empty, all, first, second, third, last]
+    let before = fill(rt, &mut held);
+    (before, purge_all(rt, &mut held))
 }
 
 /// A purge reclaims from 4096 fronts, so that the first one drops 2048 of the 2500 that ended, 81.92 of
@@ -63,7 +73,7 @@ fn go_round(rt: &impl Abort, global: Global, heap: &LocalHeap) -> [usize; 6] {
 #[test]
 fn purges_go_round(rt: HostRuntime) {
     let heap = LocalHeap::new(rt.alloc(), 1 << 23).expect(&rt, "memory");
-    let [empty, all, first, second, third, last] = go_round(&rt, rt.alloc(), &heap);
+    let ([empty, all], [first, second, third, last]) = go_round(&rt, rt.alloc(), &heap);
     let dropped = all.saturating_sub(first).saturating_mul(100);
     let ended = all.saturating_sub(second);
     assert!(rt; dropped > ended.saturating_mul(81) && dropped < ended.saturating_mul(83));

@@ -1,13 +1,14 @@
 //! Frames that are taken into a cache, where there is memory and where none is left, and
 //! observations that are lent.
 
+use crate::tests::heaps::rest_of;
 use crate::tests::layers::observations::moment_of;
 use crate::tests::layers::rows::octets_of;
 use fleet_cache::Cache;
 use fleet_gossip::{FrameFault, TakeFault, decode, encode, pack, sweep, take_frame};
 use fleet_observe::{LentObservation, Observation};
 use linked_list_allocator::LocalHeap;
-use std::alloc::{AllocError, Global};
+use std::alloc::Global;
 use std::process::Abort;
 
 /// The frame of one observation: 192.0.2.1 at example.com., rank 3, stamp 100, life 300.
@@ -45,24 +46,6 @@ fn take<'a>(
 ) -> Result<usize, TakeFault> {
     let octets = octets_of(rt, global, word);
     take_frame(heap, cache, octets.as_slice())
-}
-
-/// All that is left of a heap.
-fn rest_of<'a>(
-    rt: &impl Abort,
-    global: Global,
-    heap: &'a LocalHeap,
-) -> Vec<Vec<u8, &'a LocalHeap>> {
-    let mut all = Vec::new(global);
-    for size in [4096, 256, 16, 1] {
-        for _ in 0..64u8 {
-            let part: Result<Vec<u8, &LocalHeap>, AllocError> = Vec::with_capacity(heap, size);
-            if let Ok(part) = part {
-                all.push(part).expect(rt, "memory");
-            }
-        }
-    }
-    all
 }
 
 /// What is held is taken again where nothing is left of the heap, and of a frame with something else
@@ -105,14 +88,24 @@ fn what_is_held_is_taken_without_memory(rt: HostRuntime) {
     check_heap(&rt, rt.alloc(), &heap)
 }
 
+/// A cache takes the large ones, and then both them and the small ones.
+fn check_behind<'a>(
+    rt: &impl Abort,
+    global: Global,
+    heap: &'a LocalHeap,
+    cache: &mut Cache<&'a LocalHeap>,
+) {
+    assert_eq!(rt; take(rt, global, heap, cache, LARGE), Ok(3));
+    assert_eq!(rt; take(rt, global, heap, cache, BEHIND), Ok(5));
+    assert_eq!(rt; cache.len(), 5);
+}
+
 #[test]
 fn what_is_held_is_looked_for_behind_what_is_not(rt: HostRuntime) {
     // With three of them held there is room for a copy of one, and not for copies of all.
     let heap = LocalHeap::new(rt.alloc(), 22_000).expect(&rt, "memory");
     let mut cache = Cache::new(&heap);
-    assert_eq!(&rt; take(&rt, rt.alloc(), &heap, &mut cache, LARGE), Ok(3));
-    assert_eq!(&rt; take(&rt, rt.alloc(), &heap, &mut cache, BEHIND), Ok(5));
-    assert_eq!(&rt; cache.len(), 5);
+    check_behind(&rt, rt.alloc(), &heap, &mut cache);
 }
 
 /// Whether an observation is what it lends, and a cache of it alone holds this; and that neither is so
@@ -148,7 +141,6 @@ fn what_is_lent_is_compared_in_place(rt: HostRuntime) {
     }
 }
 
-/// What a frame reads is written as it was, and what has no room in one is written in two.
 /// A frame is written as it was read.
 fn check_written(rt: &impl Abort, alloc: Global, frame: &[u8]) {
     let all = decode(alloc, frame).expect(rt, "a frame");

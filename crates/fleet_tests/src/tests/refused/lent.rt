@@ -88,6 +88,22 @@ fn check_lent<A: Allocator + Copy>(
     );
 }
 
+/// Does a row in a world. How many questions it is.
+fn check_row<A: Allocator + Copy>(
+    rt: &impl Abort,
+    alloc: A,
+    refusing: &Refusing<Global>,
+    world: &mut World<A>,
+    row: &str,
+) -> usize {
+    if let Some(words) = row.strip_prefix("ask ") {
+        check_lent(rt, alloc, refusing, world, words);
+        return 1;
+    }
+    let _ = do_row(rt, alloc, world, row).expect(rt, "a row");
+    0
+}
+
 /// Does the rows of an example in a new world, which says how many are questions.
 fn check_example<A: Allocator + Copy>(
     rt: &impl Abort,
@@ -99,12 +115,8 @@ fn check_example<A: Allocator + Copy>(
     let mut world = fleet(rt, alloc, example.sites, &[]);
     let mut count = 0usize;
     for row in example.rows.lines() {
-        if let Some(words) = row.strip_prefix("ask ") {
-            check_lent(rt, alloc, refusing, &mut world, words);
-            count = count.saturating_add(1);
-        } else {
-            let _ = do_row(rt, alloc, &mut world, row).expect(rt, "a row");
-        }
+        let more = check_row(rt, alloc, refusing, &mut world, row);
+        count = count.saturating_add(more);
     }
     assert_eq!(rt; count, example.questions, "{text}");
 }

@@ -29,21 +29,39 @@ fn check_all<A: Allocator>(rt: &impl Abort, all: &[Stepped<A>], wanted: &[Steppe
     }
 }
 
-/// Checks a world whose run ran out of memory at the first of these rows: it is as `before`, but for
-/// the first observations of the row. A row may not have begun: it took nothing, and no clock has
-/// risen.
+/// Checks a world whose run ran out of memory at the first of the rows that are left: it is as after
+/// those that were done, but for the first observations of the row. A row may not have begun: it took
+/// nothing, and no clock has risen.
 fn check_short<A: Allocator + Copy>(
     rt: &impl Abort,
     trial: &Trial<'_, A>,
     world: &World<A>,
-    before: &mut World<A>,
-    row: &str,
+    done: &[&str],
+    left: &[&str],
     taken: usize,
 ) {
-    if taken > 0 || !has_same_sites(world, before) {
-        do_part(rt, trial.ample, before, row, taken);
+    let row = left.first().expect(rt, "a row");
+    let mut before = world_after(rt, trial.ample, trial.sites, done);
+    if taken > 0 || !has_same_sites(world, &before) {
+        do_part(rt, trial.ample, &mut before, row, taken);
     }
-    check_same(rt, world, before, row)
+    check_same(rt, world, &before, row)
+}
+
+/// Checks a world whose run was halted where frames were not kept: behind rows that were done, at the
+/// last of others. The event did the first of what is wanted.
+fn check_frames_lost<A: Allocator + Copy>(
+    rt: &impl Abort,
+    trial: &Trial<'_, A>,
+    world: &World<A>,
+    (done, to): (&[&str], &[&str]),
+    stepped: &Stepped<A>,
+    wanted: &[Stepped<A>],
+) {
+    let before = world_after(rt, trial.ample, trial.sites, done);
+    let next = world_after(rt, trial.ample, trial.sites, to);
+    let wanted = wanted.first().expect(rt, "a row");
+    check_lost(rt, world, &before, &next, stepped, wanted)
 }
 
 /// Runs the events of the rows that are left, with ample memory. They do as `wanted` says.
@@ -72,18 +90,15 @@ fn go_on<A: Allocator + Copy>(
 ) {
     let (done, left) = steps.split_at_checked(halted.at).expect(rt, "a row");
     let (_, wanted) = did.split_at_checked(halted.at).expect(rt, "a row");
-    let row = left.first().expect(rt, "a row");
-    let mut before = world_after(rt, trial.ample, trial.sites, done);
     match &halted.fault {
         WorldFault::Memory { taken } => {
-            check_short(rt, trial, world, &mut before, row, *taken);
+            check_short(rt, trial, world, done, left, *taken);
             run_left(rt, trial, world, left, wanted);
-            check_same(rt, world, whole, row)
+            check_same(rt, world, whole, "all rows")
         }
         WorldFault::FramesLost(stepped) => {
-            let next = world_after(rt, trial.ample, trial.sites, &steps[..=halted.at]);
-            let wanted = wanted.first().expect(rt, "a row");
-            check_lost(rt, world, &before, &next, stepped, wanted)
+            let to = &steps[..=halted.at];
+            check_frames_lost(rt, trial, world, (done, to), stepped, wanted)
         }
         fault => panic!(rt; "{fault}"),
     }

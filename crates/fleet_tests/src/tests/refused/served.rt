@@ -3,9 +3,8 @@
 use crate::tests::octets::octets;
 use crate::tests::refused::MANY;
 use crate::tests::refusing::Refusing;
-use crate::tests::sites::{addr, config};
+use crate::tests::sites::{addr, at, config};
 use crate::tests::turns::{OneWord, clock, has_ended, is_sending, port};
-use fleet_observe::Moment;
 use fleet_site::{MemoryPort, Note, Port, Report, Site, serve};
 use std::alloc::{Allocator, Global};
 use std::process::Abort;
@@ -62,21 +61,23 @@ fn check_turns<A: Allocator + Copy>(
     assert_eq!(rt; site.clock().value(), 104);
 }
 
-/// Checks the table of a site after its turns: it has one failure that is due, or none, and then
-/// the question is as new. Where a query went out and its failure did not, that failure is due at
-/// 106.
-fn check_table<A: Allocator + Copy>(rt: &impl Abort, ample: A, site: &mut Site<A>, sent: u64) {
-    let late = Moment::new(106).expect(rt, "a moment");
-    let outcome = site.tick(late).expect(rt, "memory");
+/// Checks what a site has due after its turns: where a query went out and its failure did not, that
+/// failure at 106, and else nothing.
+fn check_due<A: Allocator + Copy>(rt: &impl Abort, ample: A, site: &mut Site<A>, sent: u64) {
+    let outcome = site.tick(at(rt, 106)).expect(rt, "memory");
     assert!(rt; !outcome.more);
     if sent == 2 {
         assert!(rt; is_sending(rt, ample, &outcome, 6001, "failure"));
     } else {
         assert!(rt; outcome.packets.as_slice().is_empty());
     }
+}
+
+/// Checks that the question is as new to a site.
+fn check_new<A: Allocator + Copy>(rt: &impl Abort, ample: A, site: &mut Site<A>) {
     let question = octets(rt, ample, "question");
     let outcome = site
-        .datagram(late, addr(6001), question.as_slice(), 0x1234)
+        .datagram(at(rt, 106), addr(6001), question.as_slice(), 0x1234)
         .expect(rt, "memory");
     assert!(rt; is_sending(rt, ample, &outcome, 5301, "query"));
 }
@@ -93,7 +94,8 @@ fn serve_site<A: Allocator + Copy>(
     let report = serve(port, &mut clock, &mut words, site, 3, 0);
     check_turns(rt, ample, port, site, &report);
     if report.short > 0 {
-        check_table(rt, ample, site, report.sent);
+        check_due(rt, ample, site, report.sent);
+        check_new(rt, ample, site);
     }
     report
 }

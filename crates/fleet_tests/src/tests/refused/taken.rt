@@ -33,6 +33,19 @@ fn take_decoded<A: Allocator + Copy>(
     }
 }
 
+/// A cache takes a frame, and another one takes it decoded; each has the allocator beside it. Both
+/// end alike.
+fn check_both<A: Allocator + Copy>(
+    rt: &impl Abort,
+    (alloc, cache): (A, &mut Cache<A>),
+    (other, decoded): (A, &mut Cache<A>),
+    frame: &[u8],
+) {
+    let taken = take_frame(alloc, cache, frame);
+    assert_eq!(rt; taken, take_decoded(other, decoded, frame));
+    assert!(rt; cache.same(decoded));
+}
+
 /// Takes a frame into a new cache, and into another one decoded, with a call refused, once for
 /// each; says whether that call was made.
 fn take_refused(rt: &impl Abort, alloc: Global, frame: &[u8], call: u64) -> bool {
@@ -40,9 +53,7 @@ fn take_refused(rt: &impl Abort, alloc: Global, frame: &[u8], call: u64) -> bool
     let other = Refusing::after(alloc, call);
     let mut cache = Cache::new(&refusing);
     let mut decoded = Cache::new(&other);
-    let taken = take_frame(&refusing, &mut cache, frame);
-    assert_eq!(rt; taken, take_decoded(&other, &mut decoded, frame));
-    assert!(rt; cache.same(&decoded));
+    check_both(rt, (&refusing, &mut cache), (&other, &mut decoded), frame);
     assert_eq!(rt; refusing.has_refused(), other.has_refused());
     refusing.has_refused()
 }
