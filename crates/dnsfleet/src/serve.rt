@@ -52,11 +52,14 @@ impl<'a> Words<'a> {
     }
 }
 
+/// An option that takes one value.
+fn option<'a>(alloc: Global, name: &'a str, value: &'a str) -> Arg<'a> {
+    Arg::new(alloc, name).long(name).value_name(value)
+}
+
 /// An option that is required, and takes one value.
 fn required<'a>(alloc: Global, name: &'a str, value: &'a str, help: &'a str) -> Arg<'a> {
-    Arg::new(alloc, name)
-        .long(name)
-        .value_name(value)
+    option(alloc, name, value)
         .help(help)
         .required(true)
         .action(ArgAction::Set)

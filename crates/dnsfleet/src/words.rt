@@ -76,14 +76,10 @@ pub fn site_count(word: &str) -> Option<SiteCount>
         ↔ (IsNumber word.now × (1 ≤ number_of word.now) × (number_of word.now ≤ MOST_SITES)) }
     ensures value { IfSome result (λ count. count.value ≡ number_of word.now) }
 {
-    let value = number(word)?;
-    if value == 0 {
-        return None;
+    match number(word)? {
+        value @ 1..=MOST_SITES => Some(SiteCount { value }),
+        _ => None,
     }
-    if value > MOST_SITES {
-        return None;
-    }
-    Some(SiteCount { value })
 }
 
 /// A number of 16 bits: 0 to 65535.
