@@ -165,6 +165,25 @@ fn check_done<A: Allocator + Copy>(
     }
 }
 
+/// Does the last of these rows in `whole`, with ample memory, and checks what became of it in `world`,
+/// which in the end is as `whole`.
+fn check_last<A: Allocator + Copy>(
+    rt: &impl Abort,
+    trial: &Trial<'_, A>,
+    fleets: (&mut World<A>, &mut World<A>),
+    rows: &[&str],
+    done: &Result<Done<A>, WorldFault<A>>,
+    known: &mut Option<Part<A>>,
+    met: &mut Met,
+) {
+    let (world, whole) = fleets;
+    let row = rows.last().expect(rt, "a row");
+    let wanted = do_row(rt, trial.ample, whole, row).expect(rt, "a row");
+    let ends = (done, &wanted);
+    check_done(rt, trial, (&mut *world, &*whole), rows, ends, known, met);
+    check_same(rt, world, whole, row)
+}
+
 /// Does the last of these rows with the call of this number refused, where it makes as many, and
 /// says whether it does. Behind it the world is as `whole`, which did it with ample memory.
 fn run_last<A: Allocator + Copy>(
@@ -182,10 +201,7 @@ fn run_last<A: Allocator + Copy>(
     let done = do_row(rt, trial.ample, world, row);
     let has_refused = trial.refusing.has_refused();
     assert_eq!(rt; done.is_ok(), !has_refused, "{row}");
-    let wanted = do_row(rt, trial.ample, whole, row).expect(rt, "a row");
-    let ends = (&done, &wanted);
-    check_done(rt, trial, (&mut *world, &*whole), rows, ends, known, met);
-    check_same(rt, world, whole, row);
+    check_last(rt, trial, (world, whole), rows, &done, known, met);
     has_refused
 }
 

@@ -1,8 +1,9 @@
 //! An allocator that refuses one call, or all of them for a time.
 
-use std::alloc::{AllocError, Allocator};
+use std::alloc::{AllocError, Allocator, Global};
 use std::cell::Cell;
 use std::collections::BTreeMap;
+use std::process::Abort;
 
 /// Calls, one of them refused, or all for a time.
 #[derive(Drop)]
@@ -74,25 +75,29 @@ unsafe impl<A: Allocator> Allocator for Refusing<A> {
     }
 }
 
+/// Makes boxes: the call of this number is refused, where there is one, and no other.
+fn check_boxes(rt: &impl Abort, refusing: &Refusing<Global>, refused: u64) {
+    for call in 1..12u64 {
+        let made = Box::new(refusing, call);
+        assert_eq!(rt; made.is_err(), call == refused);
+        assert_eq!(rt; refusing.has_refused(), 1 <= refused && refused <= call);
+    }
+}
+
 #[test]
 fn refuses_calls_for_boxes(rt: HostRuntime) {
     for refused in 0..4u64 {
-        let refusing = Refusing::after(rt.alloc(), refused);
-        for call in 1..6u64 {
-            let made = Box::new(&refusing, call);
-            assert_eq!(rt; made.is_err(), call == refused);
-            assert_eq!(rt; refusing.has_refused(), 1 <= refused && refused <= call);
-        }
+        check_boxes(&rt, &Refusing::after(rt.alloc(), refused), refused);
     }
     let refusing = Refusing::after(rt.alloc(), 9);
     for refused in [3, 1, 9, 2] {
         refusing.refuse(refused);
-        for call in 1..12u64 {
-            let made = Box::new(&refusing, call);
-            assert_eq!(rt; made.is_err(), call == refused);
-            assert_eq!(rt; refusing.has_refused(), refused <= call);
-        }
+        check_boxes(&rt, &refusing, refused);
     }
+}
+
+#[test]
+fn refuses_all_calls_for_a_time(rt: HostRuntime) {
     let refusing = Refusing::after(rt.alloc(), 0);
     for refuses_all in [false, true, false, true] {
         refusing.refuse_all(refuses_all);

@@ -189,20 +189,29 @@ fn a_call_that_fails_is_lost_or_a_fault(rt: HostRuntime) {
     }
 }
 
-/// Turns of a site that holds the observation of a frame, with a sweep every 30 seconds.
+/// A site takes the observation of a frame.
+fn take(rt: &impl Abort, alloc: Global, site: &mut Site) {
+    let frame = octets(rt, alloc, "frame-100");
+    let outcome = site.frame(at(rt, 100), frame.as_slice());
+    assert_eq!(rt; outcome.expect(rt, "an outcome").taken, 1);
+}
+
+/// Serves turns of a site with a sweep every 30 seconds.
+fn check_sweeps(rt: &impl Abort, alloc: Global, port: &mut MemoryPort, site: &mut Site) {
+    let mut clock = clock(rt, alloc, &[100, 129, 130, 159]);
+    let mut words = OneWord(0xabcd_1234);
+    let report = serve(port, &mut clock, &mut words, site, 4, 30);
+    check_report(rt, alloc, report, "4 0 2 0 0 0 0");
+    let notes = "nothing, nothing, nothing, sent 5401 frame-100, sent 5402 frame-100, nothing";
+    check_notes(rt, alloc, port, notes)
+}
+
+/// Turns of a site that holds an observation.
 #[test]
 fn sweeps_go_to_each_peer_in_their_time(rt: HostRuntime) {
-    let alloc = rt.alloc();
-    let mut port = MemoryPort::new(alloc, Vec::new(alloc), None);
+    let mut port = MemoryPort::new(rt.alloc(), Vec::new(rt.alloc()), None);
     let peers = [addr(5401), addr(5402)];
-    let mut site = Site::new(alloc, config(&rt, alloc, &peers));
-    let frame = octets(&rt, alloc, "frame-100");
-    let outcome = site.frame(at(&rt, 100), frame.as_slice());
-    assert_eq!(&rt; outcome.expect(&rt, "an outcome").taken, 1);
-    let mut clock = clock(&rt, alloc, &[100, 129, 130, 159]);
-    let mut words = OneWord(0xabcd_1234);
-    let report = serve(&mut port, &mut clock, &mut words, &mut site, 4, 30);
-    check_report(&rt, alloc, report, "4 0 2 0 0 0 0");
-    let notes = "nothing, nothing, nothing, sent 5401 frame-100, sent 5402 frame-100, nothing";
-    check_notes(&rt, alloc, &port, notes)
+    let mut site = Site::new(rt.alloc(), config(&rt, rt.alloc(), &peers));
+    take(&rt, rt.alloc(), &mut site);
+    check_sweeps(&rt, rt.alloc(), &mut port, &mut site)
 }

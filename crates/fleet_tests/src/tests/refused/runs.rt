@@ -6,7 +6,7 @@ use crate::tests::refused::parts::do_part;
 use crate::tests::refused::worlds::{check_same, has_same_sites, world_after};
 use crate::tests::refused::{MANY, Trial, begin_refused, check_lost};
 use crate::tests::refusing::Refusing;
-use fleet_world::{Halted, Stepped, World, WorldFault};
+use fleet_world::{Event, Halted, Stepped, World, WorldFault};
 use std::alloc::{Allocator, Global};
 use std::process::Abort;
 
@@ -97,29 +97,52 @@ fn go_on<A: Allocator + Copy>(
             check_same(rt, world, whole, "all rows")
         }
         WorldFault::FramesLost(stepped) => {
-            let to = &steps[..=halted.at];
+            let count = halted.at.saturating_add(1);
+            let (to, _) = steps.split_at_checked(count).expect(rt, "a row");
             check_frames_lost(rt, trial, world, (done, to), stepped, wanted)
         }
         fault => panic!(rt; "{fault}"),
     }
 }
 
+/// Runs these events at once, as they ran in `whole`, which did `did` with ample memory.
+fn run_beside<A: Allocator + Copy>(
+    rt: &impl Abort,
+    trial: &Trial<'_, A>,
+    world: &mut World<A>,
+    (steps, events): (&[&str], &[Event<A>]),
+    whole: &World<A>,
+    did: &[Stepped<A>],
+) {
+    let had_refused = trial.refusing.has_refused();
+    let ran = world.run(events);
+    assert_eq!(rt; ran.is_ok(), trial.refusing.has_refused() == had_refused);
+    match &ran {
+        Ok(all) => {
+            check_all(rt, all, did);
+            check_same(rt, world, whole, "all rows")
+        }
+        Err(halted) => go_on(rt, trial, world, steps, whole, did, halted),
+    }
+}
+
+/// The same, where nothing was run with ample memory yet.
+fn run_events<A: Allocator + Copy>(
+    rt: &impl Abort,
+    trial: &Trial<'_, A>,
+    world: &mut World<A>,
+    steps: (&[&str], &[Event<A>]),
+) {
+    let mut whole = fleet(rt, trial.ample, trial.sites, &[]);
+    let did = whole.run(steps.1).expect(rt, "a run");
+    run_beside(rt, trial, world, steps, &whole, &did)
+}
+
 /// Makes the sites of an example, and runs its events at once, as they run with ample memory.
 fn run_steps<A: Allocator + Copy>(rt: &impl Abort, trial: &Trial<'_, A>, steps: &[&str]) {
     let mut world = begin_refused(rt, trial);
-    let mut whole = fleet(rt, trial.ample, trial.sites, &[]);
     let events = events_of(rt, trial.ample, steps);
-    let did = whole.run(&events).expect(rt, "a run");
-    let had_refused = trial.refusing.has_refused();
-    let ran = world.run(&events);
-    assert_eq!(rt; ran.is_ok(), trial.refusing.has_refused() == had_refused);
-    match ran {
-        Ok(all) => {
-            check_all(rt, &all, &did);
-            check_same(rt, &world, &whole, "all rows")
-        }
-        Err(halted) => go_on(rt, trial, &mut world, steps, &whole, &did, &halted),
-    }
+    run_events(rt, trial, &mut world, (steps, &events))
 }
 
 /// Runs the events of rows at once with a call refused, and says whether that call was made.

@@ -38,13 +38,19 @@ fn check_sent<A: Allocator + Copy>(rt: &impl Abort, ample: A, notes: &[Note<A>],
     assert_eq!(rt; sent, count);
 }
 
-/// Checks that a report has one failure, or none; what a port counted, and noted if it still has its
-/// record; and what a site holds, and its clock.
+/// Checks that a site holds nothing after its turns, and its clock.
+fn check_site<A: Allocator + Copy>(rt: &impl Abort, site: &Site<A>) {
+    assert!(rt; site.cache().is_empty());
+    assert_eq!(rt; site.cache().floor(), site.clock());
+    assert_eq!(rt; site.clock().value(), 104);
+}
+
+/// Checks that a report has one failure, or none; and what a port counted, and noted if it still has
+/// its record.
 fn check_turns<A: Allocator + Copy>(
     rt: &impl Abort,
     ample: A,
     port: &MemoryPort<A>,
-    site: &Site<A>,
     report: &Report,
 ) {
     let failed = report.lost.saturating_add(report.faults);
@@ -56,9 +62,6 @@ fn check_turns<A: Allocator + Copy>(
     if let Some(notes) = port.notes() {
         check_sent(rt, ample, notes, report.sent);
     }
-    assert!(rt; site.cache().is_empty());
-    assert_eq!(rt; site.cache().floor(), site.clock());
-    assert_eq!(rt; site.clock().value(), 104);
 }
 
 /// Checks what a site has due after its turns: where a query went out and its failure did not, that
@@ -92,7 +95,8 @@ fn serve_site<A: Allocator + Copy>(
     let mut clock = clock(rt, ample, &[100, 102, 104]);
     let mut words = OneWord(0xabcd_1234);
     let report = serve(port, &mut clock, &mut words, site, 3, 0);
-    check_turns(rt, ample, port, site, &report);
+    check_turns(rt, ample, port, &report);
+    check_site(rt, site);
     if report.short > 0 {
         check_due(rt, ample, site, report.sent);
         check_new(rt, ample, site);
@@ -100,15 +104,29 @@ fn serve_site<A: Allocator + Copy>(
     report
 }
 
-/// Serves three turns of a new site at a new port with a call refused, and says what was counted,
-/// and whether there was such a call. Nothing is counted of the buffer for replies, which is done
-/// without.
+/// The same, of a new site.
+fn serve_new_site<A: Allocator + Copy>(
+    rt: &impl Abort,
+    ample: A,
+    alloc: A,
+    port: &mut MemoryPort<A>,
+) -> Report {
+    let mut site = Site::new(alloc, config(rt, ample, &[]));
+    serve_site(rt, ample, port, &mut site)
+}
+
+/// The same, at a new port.
+fn serve_new_port<A: Allocator + Copy>(rt: &impl Abort, ample: A, alloc: A) -> Report {
+    let mut port = port(rt, alloc, ample, None);
+    serve_new_site(rt, ample, alloc, &mut port)
+}
+
+/// The same with a call refused; says what was counted, and whether there was such a call. Nothing
+/// is counted of the buffer for replies, which is done without.
 fn serve_refused(rt: &impl Abort, alloc: Global, call: u64) -> (Report, bool) {
     let ample = Refusing::after(alloc, 0);
     let refusing = Refusing::after(alloc, call);
-    let mut port = port(rt, &refusing, &ample, None);
-    let mut site = Site::new(&refusing, config(rt, &ample, &[]));
-    let report = serve_site(rt, &ample, &mut port, &mut site);
+    let report = serve_new_port(rt, &ample, &refusing);
     (report, refusing.has_refused())
 }
 

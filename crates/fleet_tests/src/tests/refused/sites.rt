@@ -3,9 +3,9 @@
 use crate::tests::octets::octets;
 use crate::tests::refused::MANY;
 use crate::tests::refusing::Refusing;
-use crate::tests::sites::addr;
+use crate::tests::sites::{at, config};
 use fleet_observe::Moment;
-use fleet_site::{Config, Site, SiteFault};
+use fleet_site::{Site, SiteFault};
 use std::alloc::{Allocator, Global};
 use std::process::Abort;
 
@@ -18,36 +18,34 @@ fn learn<A: Allocator + Copy>(site: &mut Site<A>, now: Moment, reply: &[u8]) -> 
     }
 }
 
-/// A site whose allocations may be refused learns the reply, a second time where one was; says
-/// whether one was.
-fn check_learning<A: Allocator + Copy>(
-    rt: &impl Abort,
-    refusing: &Refusing<Global>,
-    site: &mut Site<A>,
-    reply: &[u8],
-) -> bool {
-    let now = Moment::new(100).expect(rt, "a moment");
-    let (taken, is_all) = learn(site, now, reply);
-    assert_eq!(rt; is_all, !refusing.has_refused());
-    assert_eq!(rt; site.clock(), now);
+/// A site learns the reply, and holds as many observations as it took; whether that was all.
+fn is_learnt<A: Allocator + Copy>(rt: &impl Abort, site: &mut Site<A>, reply: &[u8]) -> bool {
+    let (taken, is_all) = learn(site, at(rt, 100), reply);
+    assert_eq!(rt; site.clock(), at(rt, 100));
     assert_eq!(rt; site.cache().len(), taken);
-    if is_all {
-        assert_eq!(rt; taken, 3);
-        return false;
-    }
-    assert_eq!(rt; learn(site, now, reply), (3, true));
-    assert_eq!(rt; site.cache().len(), 3);
-    true
+    assert!(rt; taken == 3 || !is_all);
+    is_all
 }
 
-/// A site that asks one upstream learns the reply with a call refused; says whether that call was made.
+/// A new site learns the reply, a second time where a call was refused; says whether one was.
+fn check_learning<A: Allocator + Copy>(
+    rt: &impl Abort,
+    (ample, alloc): (A, A),
+    refusing: &Refusing<Global>,
+    reply: &[u8],
+) -> bool {
+    let mut site = Site::new(alloc, config(rt, ample, &[]));
+    let is_all = is_learnt(rt, &mut site, reply);
+    assert_eq!(rt; is_all, !refusing.has_refused());
+    assert!(rt; is_all || is_learnt(rt, &mut site, reply));
+    !is_all
+}
+
+/// The same with a call refused; says whether that call was made.
 fn learn_refused(rt: &impl Abort, alloc: Global, reply: &[u8], call: u64) -> bool {
     let ample = Refusing::after(alloc, 0);
     let refusing = Refusing::after(alloc, call);
-    let upstreams = Vec::from_slice(&ample, &[addr(5301)]).expect(rt, "memory");
-    let config = Config::new(upstreams, Vec::new(&ample)).expect(rt, "a configuration");
-    let mut site = Site::new(&refusing, config);
-    check_learning(rt, &refusing, &mut site, reply)
+    check_learning(rt, (&ample, &refusing), &refusing, reply)
 }
 
 #[test]

@@ -118,6 +118,18 @@ fn held_behind(place: usize, taken: Option<usize>) -> usize {
     }
 }
 
+/// A cache takes as many observations of a frame as are said, with ample memory; it holds so many then.
+fn take_all<A: Allocator + Copy>(
+    rt: &impl Abort,
+    alloc: A,
+    cache: &mut Cache<A>,
+    frame: &[u8],
+    count: usize,
+) {
+    assert_eq!(rt; take_frame(alloc, cache, frame), Ok(count));
+    assert_eq!(rt; cache.len(), count);
+}
+
 /// Takes a frame whose entry at this place is held, with a call refused, and then again; says how
 /// many were taken before it was.
 fn take_beside<A: Allocator + Copy>(
@@ -128,14 +140,13 @@ fn take_beside<A: Allocator + Copy>(
     call: u64,
 ) -> Option<usize> {
     let mut cache = Cache::new(alloc);
-    assert_eq!(rt; take_frame(alloc, &mut cache, split.alone), Ok(1));
+    take_all(rt, alloc, &mut cache, split.alone, 1);
     refusing.refuse(call);
     let taken = take_short(rt, alloc, &mut cache, split.frame);
     assert_eq!(rt; taken.is_some(), refusing.has_refused());
     assert_eq!(rt; cache.len(), held_behind(split.place, taken));
     refusing.refuse(MANY);
-    assert_eq!(rt; take_frame(alloc, &mut cache, split.frame), Ok(COUNT));
-    assert_eq!(rt; cache.len(), COUNT);
+    take_all(rt, alloc, &mut cache, split.frame, COUNT);
     taken
 }
 
