@@ -8,6 +8,10 @@ mod Beats
 mod Lawful
 mod Caches
 mod Holdings
+mod Memories
+mod Counting
+mod Rounds
+mod KeyCounts
 mod LentItems
 pub mod Lemmas
 mod Packed
@@ -24,6 +28,7 @@ mod Storing
 mod Trimming
 mod ShortKeys
 mod ListedFronts
+mod Turns
 mod PassedFronts
 mod Climbing
 mod Answers

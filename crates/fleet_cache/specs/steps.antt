@@ -8,6 +8,7 @@ pub mod Noted
 pub mod Keyed
 pub mod Listed
 pub mod Reclaimed
+pub mod Rounds
 pub mod CutAt
 pub mod Merged
 pub mod Soonest

@@ -13,11 +13,10 @@ ghost use Rattle.fleet_cache.specs.AnswerData.{answer_data, chain_of};
 ghost use Rattle.fleet_cache.specs.Kinds.{HasKinds};
 
 use crate::answer::{Answer, follow};
-use crate::held::Held;
 use crate::items::Items;
 use crate::lent::has_lent;
 use crate::lookup::{is_past, is_past_lent};
-use crate::reclaim::{Cursor, reclaim};
+use crate::memory::Memory;
 use fleet_observe::{LentObservation, Moment, Observation};
 use fleet_wire::{LentQuestion, Question};
 use std::alloc::{AllocError, Allocator, Global};
@@ -37,15 +36,13 @@ pub struct Stopped {
 /// eight octets to a word: one for short names, one for the others.
 ///
 /// What is in memory may have ended by the floor, or be withdrawn by a flush that is held. No call
-/// shows it, and each purge drops some of it, going on at the cursor. `most` counts the observations
-/// that were given to the maps since these were empty, kept or not, so that no more are held and
-/// they can be counted: at the greatest number, which no machine reaches, nothing more is taken.
+/// shows it, and each purge drops some of it, and so does each observation that is kept. `most` counts the observations that were given to the maps since
+/// these were empty, kept or not, so that no more are held and they can be counted: at the greatest
+/// number, which no machine reaches, nothing more is taken.
 #[derive(Drop)]
 pub struct Cache<A: Allocator = Global> {
-    floor: Moment,
     most: usize,
-    held: Held<A>,
-    cursor: Cursor<A>,
+    memory: Memory<A>,
     alloc: A,
 }
 
@@ -56,9 +53,12 @@ impl<A: Allocator> Model for Cache<A> {
 
     ghost Value = { CacheData };
 
-    ghost view = { λ c. record { floor = c.floor; items = live_of c.held c.floor } };
+    ghost view = { λ c. record {
+      floor = c.memory.floor;
+      items = live_of c.memory.items c.memory.floor;
+    } };
 
-    ghost invariant = { λ c. length c.held ≤ c.most };
+    ghost invariant = { λ c. length c.memory.items ≤ c.most };
 }
 
 impl<A: Allocator> Cache<A> {
@@ -70,10 +70,8 @@ impl<A: Allocator> Cache<A> {
         ensures cached { IsCached [] result.floor result.items }
     {
         Cache {
-            floor: Moment::new(0).unwrap(),
             most: 0,
-            held: Held::new(alloc),
-            cursor: Cursor::new(alloc),
+            memory: Memory::new(alloc),
             alloc,
         }
     }
@@ -81,7 +79,8 @@ impl<A: Allocator> Cache<A> {
     /// Takes an observation in. `false` where it had ended at the floor, is withdrawn by a flush,
     /// was there already or is dominated: then nothing changes. Else what it dominates goes, and
     /// what it withdraws, if it is a flush, is not held any more: it is hidden at once, and leaves
-    /// the memory at further purges. This allocates only for an observation that is to be held;
+    /// the memory later. Behind an observation that is kept, some of what has ended by the floor leaves
+    /// the memory too. This allocates only for an observation that is to be held;
     /// `Err` where the allocation fails, and nothing changes.
     pub fn take(&mut self, observation: Observation<A>) -> Result<bool, AllocError>
     where
@@ -100,8 +99,7 @@ impl<A: Allocator> Cache<A> {
         if self.most == usize::MAX {
             return self.take_uncounted(&observation);
         }
-        self.cursor.make_room(&self.held, &observation)?;
-        let kept = self.held.take(self.alloc, observation)?;
+        let kept = self.memory.take(self.alloc, observation)?;
         self.most += 1;
         Ok(kept)
     }
@@ -141,7 +139,7 @@ impl<A: Allocator> Cache<A> {
             → IsObservation o → IsTrue result → IsCached s self.now.floor self.now.items
             → IsCached (o ∷ s) self.now.floor self.now.items }
     {
-        is_past_lent(&self.held, lent, self.floor)
+        is_past_lent(self.memory.held(), lent, self.memory.floor())
     }
 
     /// Whether what is lent is held, so that it need not be taken in: it is one of the items, or one
@@ -157,7 +155,7 @@ impl<A: Allocator> Cache<A> {
         ensures items { (o : ObservationData) → IsLent lent.now o → Has self.now.items o
             → IsTrue result }
     {
-        has_lent(self.held.at(lent.name), lent)
+        has_lent(self.memory.held().at(lent.name), lent)
     }
 
     /// Takes copies of the other's items in, in their order, and then purges to its floor: it is
@@ -187,24 +185,23 @@ impl<A: Allocator> Cache<A> {
             }
             taken += 1;
         }
-        self.purge(other.floor);
+        self.purge(other.floor());
         Ok(())
     }
 
     /// Raises the floor to the moment, if that is later: what has ended by then is not held any
     /// more. A part of it leaves the memory at once, and of what is withdrawn, the rest at further
-    /// purges. Each one that raises the floor looks at up to 4096 fronts, or at the 256th part of
+    /// purges and takes. Each purge that raises the floor looks at up to 4096 fronts, or at the 256th part of
     /// them where that is more. It goes on where the last one ended, and ends at the last front.
     pub fn purge(&mut self, moment: Moment)
         ensures purged { (s : Observations) → IsCached s self.old.floor self.old.items
             → IsCached s self.new.floor self.new.items }
         ensures floor { self.new.floor ≡ max self.old.floor moment }
     {
-        if moment.value() <= self.floor.value() {
+        if moment.value() <= self.memory.floor().value() {
             return;
         }
-        self.floor = moment;
-        reclaim(&mut self.held, &mut self.cursor, moment);
+        self.memory.purge(moment);
     }
 
     /// Drops all items and sets the floor back to 0: it is then as a new cache. This allocates
@@ -213,17 +210,15 @@ impl<A: Allocator> Cache<A> {
         ensures held { self.new ≡ record { floor = 0; items = [] } }
         ensures cached { IsCached [] self.new.floor self.new.items }
     {
-        self.floor = Moment::new(0).unwrap();
         self.most = 0;
-        self.held.clear();
-        self.cursor.rewind();
+        self.memory.clear();
     }
 
     /// The moment up to which the cache was purged: what has ended by then is not held.
     pub fn floor(&self) -> Moment
         ensures { result ≡ self.now.floor }
     {
-        self.floor
+        self.memory.floor()
     }
 
     /// Whether floor and items are the other's.
@@ -233,7 +228,7 @@ impl<A: Allocator> Cache<A> {
             → IsCached t other.now.floor other.now.items → IsSameSet s t
             → self.now.floor ≡ other.now.floor → IsTrue result }
     {
-        self.floor == other.floor && same_items(self.items(), other.items())
+        self.floor() == other.floor() && same_items(self.items(), other.items())
     }
 
     /// The number of items. It counts them one by one, and passes over what is not live and still
@@ -260,7 +255,7 @@ impl<A: Allocator> Cache<A> {
     {
         // What the proof needs to know of the count.
         prove!(self.most <= usize::MAX);
-        Items::new(&self.held, self.floor)
+        Items::new(self.memory.held(), self.memory.floor())
     }
 
     /// The answer to a question at a moment, or at the floor where the moment is before it. The
@@ -298,8 +293,8 @@ impl<A: Allocator> Cache<A> {
             → (n : Labels) → name.now ≡ wire n
             → answer_data result ≡ answer_of s (max self.now.floor moment) n rtype }
     {
-        let at = self.floor.later(moment);
-        follow(&self.held, name, rtype, at)
+        let at = self.memory.floor().later(moment);
+        follow(self.memory.held(), name, rtype, at)
     }
 
     /// `take` of a copy, which is made only where the observation is to be held.
@@ -339,7 +334,7 @@ impl<A: Allocator> Cache<A> {
             ↔ IsNeedless self.now.floor self.now.items observation.now }
         ensures lawful { IsObservation observation.now }
     {
-        !self.is_past(observation) && !self.held.covers(observation)
+        !self.is_past(observation) && !self.memory.held().covers(observation)
     }
 
     /// Whether an observation had ended at the floor, or is withdrawn by a flush.
@@ -347,7 +342,7 @@ impl<A: Allocator> Cache<A> {
         ensures past { IsTrue result ↔ IsPast self.now.floor self.now.items observation.now }
         ensures lawful { IsObservation observation.now }
     {
-        is_past(&self.held, observation, self.floor)
+        is_past(self.memory.held(), observation, self.memory.floor())
     }
 }
 

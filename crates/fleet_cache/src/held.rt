@@ -87,6 +87,7 @@ impl<A: Allocator> Held<A> {
 
     /// Drops what a cut hides of the front of a name, and the front where nothing is left of it.
     pub(crate) fn trim(&mut self, key: &Key<A>, cut: &Cut)
+        ensures own { IsHeld self.new }
         ensures trimmed { IsTrimmed key.now.items cut.now self.old self.new }
         ensures cleared { IsCleared key.now.items cut.now self.new }
     {

@@ -1,13 +1,16 @@
 //! Dropping what is not live any more, a part of the map at a time.
 
-ghost use Rattle.std.specs.Prelude.{◌≡◌, ◌<◌, ◌≤◌, ℕ, List, [], true, false, length, vec_capacity, OnErr};
+ghost use Rattle.std.specs.Prelude.{◌≡◌, ◌<◌, ◌≤◌, ◌+◌, ◌-◌, ◌⊎◌, ◌↔◌, ℕ, List, [], true, false, length, vec_capacity, IsTrue, OnOk, OnErr};
 ghost use Rattle.std.specs.List.{list_any};
+ghost use Rattle.fleet_observe.specs.Members.{Has};
+ghost use Rattle.fleet_observe.specs.Observation.{ObservationData, expires};
 ghost use Rattle.fleet_cache.specs.Cached.{IsCovered};
 ghost use Rattle.fleet_cache.specs.Cut.{is_hidden};
 ghost use Rattle.fleet_cache.specs.declared.words.TheConstants.{MOST_WORDS};
 ghost use Rattle.fleet_cache.specs.steps.Held.{IsHeld};
 ghost use Rattle.fleet_cache.specs.steps.Keyed.{IsOfKey};
-ghost use Rattle.fleet_cache.specs.steps.Reclaimed.{IsReclaimed, AllLive, IsLiveFront, IsPassed, StopsAfter};
+ghost use Rattle.fleet_cache.specs.steps.Reclaimed.{IsReclaimed, AllLive, IsLiveFront, StaysIn, IsPassed, IsPassedAt, StopsAfter};
+ghost use Rattle.fleet_cache.specs.steps.Rounds.{count, is_ahead};
 
 use crate::cut::Cut;
 use crate::held::Held;
@@ -34,83 +37,170 @@ pub(crate) struct Cursor<A: Allocator> {
 
 impl<A: Allocator> Cursor<A> {
     /// At the start, without room for a key. This allocates nothing.
-    pub(crate) fn new(alloc: A) -> Cursor<A> {
+    pub(crate) fn new(alloc: A) -> Cursor<A>
+        ensures start { result.key.items ≡ [] }
+    {
         Cursor {
             key: Vec::new(alloc),
         }
     }
 
-    /// Makes room for any key, going back to the start, before the map takes an observation in that
-    /// it does not hold. It allocates once at most; `Err` where that fails.
+    /// Makes room for any key, before the map takes an observation in that it does not hold. It
+    /// allocates once at most; `Err` where that fails. It stays where it is.
     pub(crate) fn make_room(
         &mut self,
         held: &Held<A>,
         observation: &Observation<A>,
     ) -> Result<(), AllocError>
+        ensures room { OnOk result (¬ IsCovered held.now observation.now
+            → MOST_WORDS ≤ vec_capacity self.new.key) }
+        ensures stays { self.new.key.items ≡ self.old.key.items }
         ensures memory { OnErr result (¬ IsCovered held.now observation.now) }
         ensures own { OnErr result (IsHeld held.now) }
     {
         if self.key.capacity() >= MOST_WORDS || held.covers(observation) {
             return Ok(());
         }
-        self.key.clear();
         self.key.reserve_exact(MOST_WORDS)
     }
 
     /// Goes back to the start.
-    pub(crate) fn rewind(&mut self) {
+    pub(crate) fn rewind(&mut self)
+        ensures start { self.new.key.items ≡ [] }
+    {
         self.key.clear();
     }
 
-    /// Goes on over at most `left` fronts, those of short names first, up to the first that holds
-    /// anything which is not live at the moment, or back to the start where there are no more.
-    /// Returns how many of `left` there are to look at behind it. It allocates nothing: without room
-    /// for the key it goes back to the start too. With room for any key, all that it passed over is
-    /// live.
-    fn pass(&mut self, held: &Held<A>, moment: Moment, left: usize) -> usize
-        ensures passed { MOST_WORDS ≤ vec_capacity self.old.key
-            → IsPassed moment held.now self.old.key.items self.new.key.items }
-        ensures stops { StopsAfter held.now self.old.key.items self.new.key.items }
+    /// Whether it is at the start.
+    pub(crate) fn is_at_start(&self) -> bool
+        ensures start { IsTrue result ↔ (self.now.key.items ≡ []) }
     {
-        let mut rest = left;
+        self.key.is_empty()
+    }
+
+    /// The words of the key of the front that it is at.
+    pub(crate) fn key(&self) -> &Key<A>
+        ensures { result.now ≡ self.now.key }
+    {
+        &self.key
+    }
+
+    /// Goes on over at most `left` fronts, those of short names first, up to the first that holds
+    /// anything to drop, or back to the start where there are no more. What a flush withdraws counts
+    /// with `flushes` alone. It allocates nothing: without room for the key it goes back to the start
+    /// too. With room for any key, each front that it looked at held some observation, and nothing
+    /// that it passed over is to drop, or ends before `soonest`.
+    pub(crate) fn pass(
+        &mut self,
+        held: &Held<A>,
+        moment: Moment,
+        left: usize,
+        flushes: bool,
+    ) -> Passed
+        ensures passed { MOST_WORDS ≤ vec_capacity self.old.key
+            → IsPassed (StaysIn held.now moment flushes result.soonest) held.now
+            self.old.key.items self.new.key.items }
+        ensures stopped { MOST_WORDS ≤ vec_capacity self.old.key → result.is_stale ≡ false
+            → IsPassedAt (StaysIn held.now moment flushes result.soonest) held.now
+            self.new.key.items }
+        ensures stops { StopsAfter held.now self.old.key.items self.new.key.items }
+        ensures looked { MOST_WORDS ≤ vec_capacity self.old.key
+            → (self.new.key.items ≡ []) ⊎ (count (is_ahead self.new.key.items) held.now + left
+            ≤ count (is_ahead self.old.key.items) held.now + result.left) }
+        ensures room { vec_capacity self.old.key ≤ vec_capacity self.new.key }
+    {
+        let mut passed = Passed {
+            left,
+            soonest: u64::MAX,
+            is_stale: false,
+        };
         if self.key.len() <= SHORT_WORDS {
             for (key, front) in held.short_behind(&self.key) {
-                rest = rest.saturating_sub(1);
-                if rest == 0 || is_stale(held, front, moment) {
-                    return if self.stop_at(&key.words()) { rest } else { 0 };
+                if passed.look(held, front, moment, flushes) {
+                    if !self.stop_at(&key.words()) {
+                        passed.left = 0;
+                    }
+                    return passed;
                 }
             }
             self.key.clear();
         }
         for (key, front) in held.long_behind(&self.key) {
-            rest = rest.saturating_sub(1);
-            if rest == 0 || is_stale(held, front, moment) {
-                return if self.stop_at(key) { rest } else { 0 };
+            if passed.look(held, front, moment, flushes) {
+                if !self.stop_at(key) {
+                    passed.left = 0;
+                }
+                return passed;
             }
         }
         self.key.clear();
-        0
+        passed.left = 0;
+        passed
     }
 
     /// Stops at the key with these words. Returns whether there is room for it.
     fn stop_at(&mut self, words: &[u64]) -> bool
         ensures at { result ≡ true → self.new.key.items ≡ words.now }
         ensures start { result ≡ false → self.new.key.items ≡ [] }
-        ensures room { result ≡ false → vec_capacity self.old.key < length words.now }
+        ensures full { result ≡ false → vec_capacity self.old.key < length words.now }
+        ensures room { vec_capacity self.old.key ≤ vec_capacity self.new.key }
     {
         self.key.clear();
         words.len() <= self.key.capacity() && self.key.extend_from_slice(words).is_ok()
     }
 }
 
-/// Whether a front of a cache holds anything that is not live at the moment. Where none of it has
-/// ended and no flush was noted, none of its items is looked at.
-fn is_stale<A: Allocator>(held: &Held<A>, front: &Slot<A>, moment: Moment) -> bool
+/// What a cursor passed over.
+#[derive(Drop)]
+pub(crate) struct Passed {
+    /// How many of the fronts are left to be looked at.
+    pub left: usize,
+    /// Nothing that was passed over ends before this moment.
+    pub soonest: u64,
+    /// Whether the front that was looked at last holds anything to drop.
+    pub is_stale: bool,
+}
+
+impl Passed {
+    /// Looks at one more front. Returns whether to stop at it: it holds anything to drop, or is the
+    /// last one to be looked at.
+    fn look<A: Allocator>(
+        &mut self,
+        held: &Held<A>,
+        front: &Slot<A>,
+        moment: Moment,
+        flushes: bool,
+    ) -> bool
+        requires { (words : List ℕ) × IsOfKey held.now words front.now }
+        ensures left { self.new.left ≡ self.old.left - 1 }
+        ensures soonest { self.new.soonest ≤ self.old.soonest }
+        ensures stays { self.new.is_stale ≡ false → (o : ObservationData) → Has front.now o
+            → StaysIn held.now moment flushes self.new.soonest o }
+        ensures goes_on { result ≡ false → self.new.is_stale ≡ false }
+    {
+        self.left = self.left.saturating_sub(1);
+        self.is_stale = is_stale(held, front, moment, flushes);
+        if self.is_stale {
+            return true;
+        }
+        self.soonest = self.soonest.min(front.soonest());
+        self.left == 0
+    }
+}
+
+/// Whether a front of a cache holds anything that has ended at the moment, or with `flushes` anything
+/// that is not live. None of its items is looked at without `flushes`, or where no flush was noted.
+fn is_stale<A: Allocator>(held: &Held<A>, front: &Slot<A>, moment: Moment, flushes: bool) -> bool
     requires { (words : List ℕ) × IsOfKey held.now words front.now }
-    ensures { result ≡ false → IsLiveFront moment held.now front.now }
+    ensures unended { result ≡ false → (o : ObservationData) → Has front.now o
+        → moment < expires o }
+    ensures live { result ≡ false → flushes ≡ true → IsLiveFront moment held.now front.now }
 {
     if front.soonest() <= moment.value() {
         return true;
+    }
+    if !flushes {
+        return false;
     }
     if !held.may_flush_any() {
         return false;
@@ -135,17 +225,21 @@ fn hides_any<A: Allocator>(cut: &Cut, items: &[Item<A>]) -> bool
 pub(crate) fn reclaim<A: Allocator>(held: &mut Held<A>, cursor: &mut Cursor<A>, moment: Moment)
     ensures reclaimed { IsReclaimed moment held.old held.new }
     ensures own { IsHeld held.old }
+    ensures own_new { IsHeld held.new }
 {
     let mut left = (held.len() / SHARE).max(LEAST);
     while left > 0 {
-        let rest = cursor.pass(held, moment, left);
-        trim(held, &cursor.key, moment);
-        left = rest.min(left - 1);
+        let passed = cursor.pass(held, moment, left, true);
+        if passed.is_stale {
+            trim(held, &cursor.key, moment);
+        }
+        left = passed.left.min(left - 1);
     }
 }
 
 /// Drops, of the front of a name, what is not live at the moment.
-fn trim<A: Allocator>(held: &mut Held<A>, key: &Key<A>, moment: Moment)
+pub(crate) fn trim<A: Allocator>(held: &mut Held<A>, key: &Key<A>, moment: Moment)
+    ensures own { IsHeld held.new }
     ensures reclaimed { IsReclaimed moment held.old held.new }
     ensures live { AllLive key.now.items moment held.old held.new }
 {

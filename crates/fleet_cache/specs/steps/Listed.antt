@@ -1,5 +1,5 @@
 -- The fronts that a map has after a key.
--- Serves `Cache::purge`, where it goes on from there.
+-- Serves `Cache::purge` and `Cache::take`, where they go on from there.
 use Rattle.std.specs.Prelude.{◌≡◌, ℕ, false, List, ◌<◌, length}
 use Rattle.std.specs.declared.cmp.Ordering.TheVariants.{Less}
 use Rattle.fleet_observe.specs.Members.{Has}

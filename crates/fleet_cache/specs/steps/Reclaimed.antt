@@ -1,11 +1,11 @@
 -- What reclaiming does to what is held.
--- Serves `Cache::purge`, where it frees memory.
-use Rattle.std.specs.Prelude.{◌≡◌, ◌⊎◌, ℕ, Bool, true, false, not, if◌then◌else◌, nat_eq, nat_lt, List, [], ◌∷◌, ◌≤◌, length}
+-- Serves `Cache::purge` and `Cache::take`, where they free memory.
+use Rattle.std.specs.Prelude.{◌≡◌, ◌⊎◌, ℕ, Bool, true, false, not, if◌then◌else◌, nat_eq, nat_lt, List, [], ◌∷◌, ◌<◌, ◌≤◌, length}
 use Rattle.std.specs.declared.cmp.Ordering.TheVariants.{Less}
 use Rattle.std.specs.List.{filter}
 use Rattle.fleet_wire.specs.Types.{Seconds}
 use Rattle.fleet_observe.specs.Members.{Has}
-use Rattle.fleet_observe.specs.Observation.{ObservationData, Observations}
+use Rattle.fleet_observe.specs.Observation.{ObservationData, Observations, expires}
 use Rattle.fleet_observe.specs.Preference.{octets_cmp}
 use Rattle.fleet_cache.specs.declared.words.TheConstants.{SHORT_WORDS}
 use Rattle.fleet_cache.specs.Live.{is_live, live_of}
@@ -46,21 +46,33 @@ AllLive words m items rest =
 abbrev pub IsLiveFront : Seconds → Observations → Observations → Type 0
 IsLiveFront m items front = (o : ObservationData) → Has front o → is_live items m o ≡ true
 
--- Where a purge comes to a name, by the words of its key: short names come first. Fewer words than a
--- key has are the start.
+-- Where a purge or a round comes to a name, by the words of its key: short names come first. Fewer
+-- words than a key has are the start.
 abbrev pub turn : List ℕ → List ℕ
 turn words = if nat_lt (length words) SHORT_WORDS then []
     else if nat_eq (length words) SHORT_WORDS then 0 ∷ words else 1 ∷ words
 
--- a purge comes to the name with the words v before it comes to the one with the words w
+-- the name with the words v comes before the one with the words w
 abbrev pub ComesBefore : List ℕ → List ℕ → Type 0
 ComesBefore v w = octets_cmp (turn v) (turn w) ≡ Less
 
--- Each item of the names after `from` and before `to` lives at the moment m, as the items say. Where
--- `to` has no words, so does each item of all names after `from`.
-abbrev pub IsPassed : Seconds → Observations → List ℕ → List ℕ → Type 0
-IsPassed m items from to = (o : ObservationData) → Has items o → ComesBefore from (words_of o)
-    → (to ≡ []) ⊎ ComesBefore (words_of o) to → is_live items m o ≡ true
+-- o is not to drop at the moment m, as the items say: it has not ended, and with `flushes` it lives;
+-- and it does not end before the moment `soonest`
+pub record StaysIn (items : Observations) (m : Seconds) (flushes : Bool) (soonest : Seconds)
+    (o : ObservationData) : Type 0 where
+  pub unended : m < expires o
+  pub live : flushes ≡ true → is_live items m o ≡ true
+  pub not_before : soonest ≤ expires o
+
+-- Each item of the names after `from` and before `to` is as is said. Where `to` has no words, so is
+-- each item of all names after `from`.
+abbrev pub IsPassed : (ObservationData → Type 0) → Observations → List ℕ → List ℕ → Type 0
+IsPassed IsSuch items from to = (o : ObservationData) → Has items o → ComesBefore from (words_of o)
+    → (to ≡ []) ⊎ ComesBefore (words_of o) to → IsSuch o
+
+-- each item of the name with these words is as is said
+abbrev pub IsPassedAt : (ObservationData → Type 0) → Observations → List ℕ → Type 0
+IsPassedAt IsSuch items words = (o : ObservationData) → Has items o → words_of o ≡ words → IsSuch o
 
 -- it is back at the start, or at a name after `from`
 abbrev pub StopsAfter : Observations → List ℕ → List ℕ → Type 0

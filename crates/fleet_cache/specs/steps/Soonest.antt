@@ -1,5 +1,5 @@
 -- When the first of what is held of a name ends.
--- Serves `Cache::purge`, where it looks for what has ended.
+-- Serves `Cache::purge` and `Cache::take`, where they look for what has ended.
 use Rattle.std.specs.Prelude.{◌≤◌}
 use Rattle.fleet_wire.specs.Types.{Seconds}
 use Rattle.fleet_observe.specs.Members.{Has}

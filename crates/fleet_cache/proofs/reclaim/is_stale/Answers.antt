@@ -9,16 +9,31 @@ use Rattle.fleet_cache.proofs.Looked.{first_has, key_cut, twice}
 use Rattle.fleet_cache.proofs.Passing.{unended_lives, none_of}
 use Rattle.fleet_cache.proofs.reclaim.is_stale.Goals as goal
 
-pub returns-then-not-may_flush_any : goal.returns-then-not-may_flush_any
-returns-then-not-may_flush_any g c e =
+pub returns-then-not-flushes-clause-unended : goal.returns-then-not-flushes-clause-unended
+returns-then-not-flushes-clause-unended g c e o h =
+    let ends = c.soonest.ensures o h in
+    omega (arith, c.if-soonest-value.false, c.value.ensures.value, ends)
+
+pub returns-then-not-may_flush_any-clause-unended : goal.returns-then-not-may_flush_any-clause-unended
+returns-then-not-may_flush_any-clause-unended g c e o h =
+    let ends = c.soonest.ensures o h in
+    omega (arith, c.if-soonest-value.false, c.value.ensures.value, ends)
+
+pub returns-then-not-may_flush_any-clause-live : goal.returns-then-not-may_flush_any-clause-live
+returns-then-not-may_flush_any-clause-live g c e with_flushes =
     let before : c.args.moment < c.soonest.result =
     omega (arith, c.if-soonest-value.false, c.value.ensures.value) in
     unended_lives c.args.held.now c.args.front.now c.soonest.result c.args.moment
     c.may_flush_any.ensures.own.lawful (c.may_flush_any.ensures.none c.if-not-may_flush_any.true)
     c.soonest.ensures before
 
-pub returns : goal.returns
-returns g c none o h =
+pub returns-clause-unended : goal.returns-clause-unended
+returns-clause-unended g c e o h =
+    let ends = c.soonest.ensures o h in
+    omega (arith, c.if-soonest-value.false, c.value.ensures.value, ends)
+
+pub returns-clause-live : goal.returns-clause-live
+returns-clause-live g c none with_flushes o h =
     let items = c.args.held.now in
     let t = c.args.moment in
     let front = c.args.front.now in

@@ -25,6 +25,7 @@ returns g c =
     let thin = thinned_reclaimed t items c.trim.new.self lawful (c.trim.ensures.trimmed (is_live items t)
     cuts) in
     record {
+      own = c.trim.ensures.own;
       reclaimed = thin;
       live = λ o h key. twice (is_live items t o) (sym (cuts o (thin.of_items o h) key)
           ∙ c.trim.ensures.cleared o h key);

@@ -28,7 +28,7 @@ items => 2 1/10 1/300";
     check_calls(&rt, rt.alloc(), rows);
 }
 
-/// An empty cache keeps no memory but the room for a key that reclaiming needs.
+/// An empty cache keeps no memory but the room for the two keys that reclaiming needs.
 #[test]
 fn a_purge_shows_at_once_what_is_left(rt: HostRuntime) {
     let rows = "

@@ -36,8 +36,8 @@ fn used_after(rt: &impl Abort, held: &mut Held<'_>, moment: &str) -> usize {
     held.heap.used()
 }
 
-/// How much of the heap is in use by an empty cache, which keeps the room for a key, and by 5000
-/// fronts.
+/// How much of the heap is in use by an empty cache, which keeps the room for two keys, and by
+/// 5000 fronts.
 fn fill(rt: &impl Abort, held: &mut Held<'_>) -> [usize; 2] {
     take(rt, held, 1000, 5);
     let empty = used_after(rt, held, "105");

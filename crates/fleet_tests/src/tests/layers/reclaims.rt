@@ -1,9 +1,9 @@
-//! What purges leave in memory, beside a plain map that looks each front up.
+//! What purges and takes leave in memory, beside a plain map that looks each front up.
 //!
-//! No contract says what is in memory beside the items: a purge that drops nothing answers all
+//! No public contract says what is in memory beside the items: a purge that drops nothing answers all
 //! questions alike. So here each observation that was ever taken is looked for in a cache
-//! (`Cache::holds`) and in a map whose purges are spelled out: one front after the other is found
-//! behind the last one, and what is not live is dropped of it. The names are those around the
+//! (`Cache::holds`) and in a map whose purges and takes are spelled out: one front after the other is
+//! found behind the last one, and what is not live is dropped of it. The names are those around the
 //! longest that the cache's first map has, and two whose keys have the most words. The moments are those
 //! around the ends of what is held.
 
@@ -20,6 +20,12 @@ use std::process::Abort;
 
 /// How many fronts a purge looks at.
 const LEAST: u16 = 4096;
+
+/// How many fronts are to be looked at behind an observation that was kept.
+const PACE: u8 = 4;
+
+/// How many are looked at together.
+const BATCH: u8 = 32;
 
 /// The octets of the longest short name. Fronts of short names come first.
 const SHORT: usize = 32;
@@ -45,6 +51,51 @@ struct Plain {
     fronts: BTreeMap<Key, Vec<Observation>>,
     flushes: Vec<Observation>,
     cursor: Key,
+    round: Round,
+}
+
+/// Where takes are in the fronts. Nothing in memory ends before `soonest`, and nothing that was passed
+/// in this round before `soonest_passed`.
+#[derive(Drop)]
+struct Round {
+    cursor: Key,
+    owed: u8,
+    soonest: u64,
+    soonest_passed: u64,
+}
+
+impl Round {
+    /// At the start, with nothing in memory.
+    fn new(alloc: Global) -> Round {
+        Round {
+            cursor: Vec::new(alloc),
+            owed: 0,
+            soonest: u64::MAX,
+            soonest_passed: u64::MAX,
+        }
+    }
+}
+
+/// Goes on to the key behind a cursor, or back to the start where there is none. Returns whether it
+/// went on.
+fn advance(rt: &impl Abort, fronts: &BTreeMap<Key, Vec<Observation>>, cursor: &mut Key) -> bool {
+    let mut behind = fronts.range((Bound::Excluded(&*cursor), Bound::Unbounded));
+    let Some((key, _)) = behind.next() else {
+        cursor.clear();
+        return false;
+    };
+    cursor.clear();
+    cursor.extend_from_slice(key).expect(rt, "memory");
+    true
+}
+
+/// The moment at which the first of some observations ends.
+fn first_end(front: &[Observation]) -> u64 {
+    let mut first = u64::MAX;
+    for observation in front {
+        first = first.min(observation.expires());
+    }
+    first
 }
 
 /// Whether an observation is not live at a moment where flushes withdraw what is stamped by another
@@ -60,6 +111,17 @@ fn is_past(observation: &Observation, moment: Moment, flushed: Option<Moment>) -
 }
 
 impl Plain {
+    /// Nothing is in memory.
+    fn new(rt: &impl Abort, alloc: Global) -> Plain {
+        Plain {
+            floor: moment_of(rt, "0"),
+            fronts: BTreeMap::new(alloc),
+            flushes: Vec::new(alloc),
+            cursor: Vec::new(alloc),
+            round: Round::new(alloc),
+        }
+    }
+
     /// The greatest stamp of the flushes of a name or of one above it that last at a moment. Names
     /// here have no label as long as the code of a digit, so that one is under another if its octets
     /// end with the other's.
@@ -84,6 +146,22 @@ impl Plain {
             let flush = observation.try_clone().expect(rt, "memory");
             self.flushes.push(flush).expect(rt, "memory");
         }
+        let end = observation.expires();
+        self.put(rt, alloc, observation);
+        self.round.soonest = self.round.soonest.min(end);
+        self.round.soonest_passed = self.round.soonest_passed.min(end);
+        self.round.owed = self.round.owed.saturating_add(PACE);
+        if BATCH <= self.round.owed {
+            let looks = self.round.owed;
+            self.round.owed = 0;
+            if self.round.soonest <= self.floor.value() {
+                self.go_on(rt, alloc, looks);
+            }
+        }
+    }
+
+    /// Puts an observation into the front of its name.
+    fn put(&mut self, rt: &impl Abort, alloc: Global, observation: Observation) {
         let key = key_of(rt, alloc, &observation);
         if let Some(front) = self.fronts.get_mut(&key) {
             front.push(observation).expect(rt, "memory");
@@ -95,42 +173,49 @@ impl Plain {
         added.expect(rt, "memory");
     }
 
-    /// Goes on to the next key, or back to the start where there is none. Returns whether it went
-    /// on.
-    fn advance(&mut self, rt: &impl Abort) -> bool {
-        let mut behind = self
-            .fronts
-            .range((Bound::Excluded(&self.cursor), Bound::Unbounded));
-        let Some((key, _)) = behind.next() else {
-            self.cursor.clear();
-            return false;
-        };
-        self.cursor.clear();
-        self.cursor.extend_from_slice(key).expect(rt, "memory");
-        true
+    /// Looks at some fronts behind observations that were taken.
+    fn go_on(&mut self, rt: &impl Abort, alloc: Global, looks: u8) {
+        for _ in 0..looks {
+            if !advance(rt, &self.fronts, &mut self.round.cursor) {
+                self.round.soonest = self.round.soonest_passed;
+                self.round.soonest_passed = u64::MAX;
+                break;
+            }
+            let key = Vec::from_slice(alloc, self.round.cursor.as_slice()).expect(rt, "memory");
+            let first = match self.fronts.get(&key) {
+                Some(front) => first_end(front.as_slice()),
+                None => u64::MAX,
+            };
+            let next = self.floor.value().saturating_add(1);
+            if first < next {
+                self.trim(&key, self.floor);
+            }
+            self.round.soonest_passed = self.round.soonest_passed.min(first.max(next));
+        }
     }
 
-    /// Drops, of the front at the cursor, what is not live at a moment, and the front where nothing
-    /// is left of it.
-    fn trim(&mut self, moment: Moment) {
-        let flushed = self.flushed_at(&self.cursor, moment);
-        let Some(front) = self.fronts.get_mut(&self.cursor) else {
+    /// Drops, of the front of a key, what is not live at a moment, and the front where nothing is left
+    /// of it.
+    fn trim(&mut self, key: &Key, moment: Moment) {
+        let flushed = self.flushed_at(key, moment);
+        let Some(front) = self.fronts.get_mut(key) else {
             return;
         };
         front.retain(|held| !is_past(held, moment, flushed));
         if front.is_empty() {
-            self.fronts.remove(&self.cursor);
+            self.fronts.remove(key);
         }
     }
 
     /// Purges to a later moment.
-    fn purge(&mut self, rt: &impl Abort, moment: Moment) {
+    fn purge(&mut self, rt: &impl Abort, alloc: Global, moment: Moment) {
         self.floor = moment;
         for _ in 0..LEAST {
-            if !self.advance(rt) {
+            if !advance(rt, &self.fronts, &mut self.cursor) {
                 break;
             }
-            self.trim(moment);
+            let key = Vec::from_slice(alloc, self.cursor.as_slice()).expect(rt, "memory");
+            self.trim(&key, moment);
         }
     }
 
@@ -152,14 +237,8 @@ struct Pair {
     taken: Vec<Observation>,
 }
 
-/// Checks that an observation is in a cache's memory just where it is to be.
-fn check_held(
-    rt: &impl Abort,
-    alloc: Global,
-    cache: &Cache,
-    plain: &Plain,
-    observation: &Observation,
-) {
+/// Whether an observation is in a cache's memory.
+fn holds(rt: &impl Abort, alloc: Global, cache: &Cache, observation: &Observation) -> bool {
     let body = observation.write_body(alloc).expect(rt, "memory");
     let lent = LentObservation {
         kind: observation.kind(),
@@ -170,21 +249,27 @@ fn check_held(
         life: observation.life(),
         body: body.as_slice(),
     };
-    assert_eq!(rt; cache.holds(&lent), plain.holds(rt, alloc, observation));
+    cache.holds(&lent)
+}
+
+/// Checks that an observation is in a cache's memory just where it is to be.
+fn check_held(
+    rt: &impl Abort,
+    alloc: Global,
+    cache: &Cache,
+    plain: &Plain,
+    observation: &Observation,
+) {
+    let is_held = holds(rt, alloc, cache, observation);
+    assert_eq!(rt; is_held, plain.holds(rt, alloc, observation));
 }
 
 impl Pair {
     /// Nothing is taken.
     fn new(rt: &impl Abort, alloc: Global) -> Pair {
-        let plain = Plain {
-            floor: moment_of(rt, "0"),
-            fronts: BTreeMap::new(alloc),
-            flushes: Vec::new(alloc),
-            cursor: Vec::new(alloc),
-        };
         Pair {
             cache: Cache::new(alloc),
-            plain,
+            plain: Plain::new(rt, alloc),
             taken: Vec::new(alloc),
         }
     }
@@ -205,15 +290,51 @@ impl Pair {
         self.take(rt, alloc, flush);
     }
 
+    /// Merges what another cache holds, and compares.
+    fn merge(&mut self, rt: &impl Abort, alloc: Global, other: &Cache) {
+        self.cache.merge(other).expect(rt, "memory");
+        let mut items = other.items();
+        while let Some(item) = items.next() {
+            let copy = item.try_clone().expect(rt, "memory");
+            self.plain.take(rt, alloc, copy);
+            let copy = item.try_clone().expect(rt, "memory");
+            self.taken.push(copy).expect(rt, "memory");
+        }
+        if self.plain.floor.value() < other.floor().value() {
+            self.plain.purge(rt, alloc, other.floor());
+        }
+        self.compare(rt, alloc);
+    }
+
+    /// Drops all, and compares.
+    fn clear(&mut self, rt: &impl Abort, alloc: Global) {
+        self.cache.clear();
+        self.plain = Plain::new(rt, alloc);
+        self.compare(rt, alloc);
+    }
+
     /// Purges to a moment, a second later than the last one at least, and compares.
     fn purge(&mut self, rt: &impl Abort, alloc: Global, moment: u64) {
         let next = self.plain.floor.value().saturating_add(1);
         let moment = Moment::new(moment.max(next)).expect(rt, "a moment");
         self.cache.purge(moment);
-        self.plain.purge(rt, moment);
+        self.plain.purge(rt, alloc, moment);
+        self.compare(rt, alloc);
+    }
+
+    /// Compares what is in memory.
+    fn compare(&self, rt: &impl Abort, alloc: Global) {
         for observation in &self.taken {
             check_held(rt, alloc, &self.cache, &self.plain, observation);
         }
+    }
+
+    /// How many of what was taken are in memory.
+    fn count(&self, rt: &impl Abort, alloc: Global) -> usize {
+        self.taken
+            .iter()
+            .filter(|observation| holds(rt, alloc, &self.cache, observation))
+            .count()
     }
 }
 
@@ -290,5 +411,60 @@ fn purges_leave_what_is_live_in_memory(rt: HostRuntime) {
 fn purges_go_on_behind_what_they_looked_at(rt: HostRuntime) {
     for seed in 0..2u32 {
         check_seed(&rt, rt.alloc(), seed, 7000, 2);
+    }
+}
+
+/// The address of a name of a second's own, which lives for so many seconds from then on.
+fn flooded(rt: &impl Abort, alloc: Global, second: u64, number: u16, life: u64) -> Observation {
+    let row = format!(in alloc; "{second}-{number}.flood 1 3 {second} {life} c0000201").expect(
+        rt, "memory",
+    );
+    record_in(rt, alloc, alloc, &mut Words::new(row.as_str()))
+}
+
+/// So many names that live for a second, at each of some seconds from 101 on, more than a purge looks
+/// at. At no time live more than come in at one of them, and at most twice as many and 33 are in
+/// memory.
+fn check_floods(rt: &impl Abort, alloc: Global, pair: &mut Pair, seconds: u64, names: u16) {
+    for second in 101..seconds.saturating_add(101) {
+        pair.purge(rt, alloc, second);
+        for number in 0..names {
+            pair.take(rt, alloc, flooded(rt, alloc, second, number, 1));
+        }
+        assert!(rt; pair.count(rt, alloc) <= 2 * usize::from(names) + 33);
+    }
+    pair.compare(rt, alloc);
+}
+
+#[test]
+fn takes_leave_little_that_has_ended(rt: HostRuntime) {
+    let alloc = rt.alloc();
+    let mut pair = Pair::new(&rt, alloc);
+    check_floods(&rt, alloc, &mut pair, 4, 9000);
+}
+
+#[test]
+fn takes_begin_anew_in_a_cleared_cache(rt: HostRuntime) {
+    let alloc = rt.alloc();
+    let mut pair = Pair::new(&rt, alloc);
+    check_floods(&rt, alloc, &mut pair, 3, 40);
+    pair.clear(&rt, alloc);
+    check_floods(&rt, alloc, &mut pair, 3, 40);
+}
+
+#[test]
+fn takes_by_merges_go_on(rt: HostRuntime) {
+    let alloc = rt.alloc();
+    let mut pair = Pair::new(&rt, alloc);
+    check_floods(&rt, alloc, &mut pair, 3, 40);
+    for second in 110..113u64 {
+        let mut other = Cache::new(alloc);
+        for number in 0..40u16 {
+            other
+                .take(flooded(&rt, alloc, second, number, 2))
+                .expect(&rt, "memory");
+        }
+        other.purge(Moment::new(second).expect(&rt, "a moment"));
+        pair.merge(&rt, alloc, &other);
     }
 }

@@ -6,28 +6,35 @@ use Rattle.fleet_cache.specs.AnswerData.{answer_data}
 use Rattle.fleet_cache.proofs.Holdings.{held_cached}
 use Rattle.fleet_cache.proofs.OneAnswer.{sets_answer_alike}
 use Rattle.fleet_cache.proofs.KindsOfParts.{kinds_of_answer}
+use Rattle.fleet_cache.proofs.Memories.{lent_view}
 use Rattle.fleet_cache.proofs.cache.Cache.answer_at.Goals as goal
 
 pub returns-clause-kinds : goal.returns-clause-kinds
 returns-clause-kinds g c =
-    let i = c.self.inside in
+    let items = c.held.result.now in
+    let floor = c.floor.result in
+    let view = lent_view c.self.inside.memory c.args.self.now items floor c.self.view_is c.held.ensures
+    c.floor.ensures in
     let w = c.requires in
-    kinds_of_answer c.follow.result i.held c.later-at.result c.args.rtype w.name
+    kinds_of_answer c.follow.result items c.later-at.result c.args.rtype w.name
     (c.follow.ensures.answer w.name w.whole)
 
 -- what is held answers as the set does, at the floor and later
 pub returns-clause-answer : goal.returns-clause-answer
 returns-clause-answer g c s cached n spells =
-    let i = c.self.inside in
+    let items = c.held.result.now in
+    let floor = c.floor.result in
+    let view = lent_view c.self.inside.memory c.args.self.now items floor c.self.view_is c.held.ensures
+    c.floor.ensures in
     let at = c.later-at.result in
-    let own : IsCached s i.floor (live_of i.held i.floor) =
-    subst (λ v. IsCached s v.floor v.items) (sym c.self.view_is) cached in
-    let same : i.floor ≡ c.args.self.now.floor = ap (λ (v : CacheData). v.floor) c.self.view_is in
+    let own : IsCached s floor (live_of items floor) =
+    subst (λ v. IsCached s v.floor v.items) (sym view) cached in
+    let same : floor ≡ c.args.self.now.floor = ap (λ (v : CacheData). v.floor) view in
     let moment : at ≡ max c.args.self.now.floor c.args.moment = omega (arith, c.later-at.ensures, same)
     in
-    let le : i.floor ≤ at = omega (arith, c.later-at.ensures) in
-    let alike : answer_of i.held at n c.args.rtype ≡ answer_of s at n c.args.rtype =
-    sets_answer_alike i.held s (live_of i.held i.floor) i.floor at n c.args.rtype le
-    (held_cached i.held i.floor c.follow.ensures.own) own in
+    let le : floor ≤ at = omega (arith, c.later-at.ensures) in
+    let alike : answer_of items at n c.args.rtype ≡ answer_of s at n c.args.rtype =
+    sets_answer_alike items s (live_of items floor) floor at n c.args.rtype le
+    (held_cached items floor c.follow.ensures.own) own in
     subst (λ v. answer_data c.follow.result ≡ answer_of s v n c.args.rtype) moment
     (c.follow.ensures.answer n spells ∙ alike)

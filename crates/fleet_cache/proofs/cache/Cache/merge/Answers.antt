@@ -64,8 +64,7 @@ returns-clause-both g c s u cached from =
     let all : other.items ≡ i.0 = i.1 ∙ (ap (λ v. i.0 ++ v) c.in_default.ensures.steps.0
     ∙ append-nil i.0) in
     let floor = c.purge.ensures.floor in
-    let same : c.other.inside.floor ≡ other.floor = ap (λ (v : CacheData). v.floor) c.other.view_is
-    in
+    let same : c.floor.result ≡ other.floor = c.floor.ensures in
     cached_both s u other.items c.purge.new.self.items c.purge.new.self.floor other.floor
     (omega (arith, floor, same)) from (subst
     (λ v. IsCached (v ++ s) c.purge.new.self.floor c.purge.new.self.items) (sym all)
@@ -73,7 +72,5 @@ returns-clause-both g c s u cached from =
 
 pub returns-clause-floor : goal.returns-clause-floor
 returns-clause-floor g c =
-    let same : c.other.inside.floor ≡ c.args.other.now.floor =
-    ap (λ (v : CacheData). v.floor) c.other.view_is in
-    c.purge.ensures.floor ∙ (ap (λ v. max v c.other.inside.floor) c.loop-item.invariant.3.floor
-    ∙ ap (max c.args.self.now.floor) same)
+    c.purge.ensures.floor ∙ (ap (λ v. max v c.floor.result) c.loop-item.invariant.3.floor
+    ∙ ap (max c.args.self.now.floor) c.floor.ensures)

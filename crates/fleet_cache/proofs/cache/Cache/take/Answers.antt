@@ -1,4 +1,4 @@
-use Rattle.std.proofs.Common.{◌≡◌, Bool, false, ◌↔◌, Result, Ok, Err, IfOk, OnOk, IsTrue, inl, sym, subst, ◌∙◌, arith}
+use Rattle.std.proofs.Common.{◌≡◌, ◌∷◌, Bool, false, ◌↔◌, Result, Ok, Err, IfOk, OnOk, IsTrue, inl, sym, subst, ◌∙◌, arith}
 use mathlib.Core.Bool.{false≢true}
 use Rattle.fleet_cache.specs.Live.{live_of}
 use Rattle.fleet_cache.specs.Cached.{CacheData, IsCached, IsPast, IsNeedless}
@@ -18,27 +18,32 @@ not_passed b test e into q = false≢true (sym e ∙ test.1 (into q))
 
 pub returns-clause-taken : goal.returns-clause-taken
 returns-clause-taken g c s cached =
-    let i = c.self.inside in
-    let taken = c.in_ok-kept.ensures.taken in
-    taken_cached i.held c.take.new.self c.args.observation c.take.ensures.own
-    c.is_past.ensures.lawful taken.front s i.floor
-    (subst (λ v. IsCached s v.floor v.items) (sym c.self.view_is) cached)
+    let m = c.self.inside.memory in
+    let n = c.take.new.self in
+    let t = c.in_ok-kept.ensures.taken in
+    subst (λ v. IsCached (c.args.observation ∷ s) v (live_of n.items v)) (sym c.take.ensures.floor)
+    (subst (IsCached (c.args.observation ∷ s) m.floor) (sym t.2.live_still)
+    (taken_cached m.items t.0 c.args.observation c.take.ensures.own
+    c.is_past.ensures.lawful t.1.front s m.floor
+    (subst (λ v. IsCached s v.floor v.items) (sym c.self.view_is) cached)))
 
 pub returns-clause-kept : goal.returns-clause-kept
 returns-clause-kept g c =
-    let i = c.self.inside in
+    let i = c.self.inside.memory in
     let o = c.args.observation in
-    let current : ¬ IsPast i.floor (live_of i.held i.floor) o =
+    let current : ¬ IsPast i.floor (live_of i.items i.floor) o =
     not_passed c.is_past.result c.is_past.ensures.past c.if-is_past.false
     (λ p. subst (λ (v : CacheData). IsPast v.floor v.items o) c.self.view_is p) in
-    let there = needless_test i.held i.floor o c.take.ensures.own.lawful
+    let there = needless_test i.items i.floor o c.take.ensures.own.lawful
     c.is_past.ensures.lawful current in
-    let taken = c.in_ok-kept.ensures.taken in
+    let taken = c.in_ok-kept.ensures.taken.1 in
     subst (λ (v : CacheData). (c.in_ok-kept.kept ≡ false) ↔ IsNeedless v.floor v.items o)
     c.self.view_is ((λ e. there.0 (taken.needless.0 e)), λ n. taken.needless.1 (there.1 n))
 
 pub invariant_of-self-2 : goal.invariant_of-self-2
-invariant_of-self-2 g c = omega (arith, c.in_ok-kept.ensures.taken.size, c.self.invariant)
+invariant_of-self-2 g c =
+    let t = c.in_ok-kept.ensures.taken in
+    omega (arith, t.1.size, t.2.size, c.self.invariant)
 
 -- what is said of a value holds where there is one
 on_ok_from : {E P Q : Type 0} (r : Result Bool E) → IfOk r (λ kept. (kept ≡ false) × P) → (P → Q)
@@ -54,28 +59,14 @@ returns-then-self-clause-taken g c s cached =
 
 pub returns-in_err-kept-clause-memory : goal.returns-in_err-kept-clause-memory
 returns-in_err-kept-clause-memory g c =
-    let i = c.self.inside in
+    let i = c.self.inside.memory in
     let o = c.args.observation in
-    let current : ¬ IsPast i.floor (live_of i.held i.floor) o =
+    let current : ¬ IsPast i.floor (live_of i.items i.floor) o =
     not_passed c.is_past.result c.is_past.ensures.past c.if-is_past.false
     (λ p. subst (λ (v : CacheData). IsPast v.floor v.items o) c.self.view_is p) in
-    let there = needless_test i.held i.floor o c.take.ensures.own.lawful
+    let there = needless_test i.items i.floor o c.take.ensures.own.lawful
     c.is_past.ensures.lawful current in
     let needed : ¬ IsNeedless c.args.self.now.floor c.args.self.now.items o =
     λ n. c.in_err-kept.ensures.memory (there.1
-    (subst (λ (v : CacheData). IsNeedless v.floor v.items o) (sym c.self.view_is) n)) in
-    on_err _ needed
-
-pub returns-in_err-make_room-clause-memory : goal.returns-in_err-make_room-clause-memory
-returns-in_err-make_room-clause-memory g c =
-    let i = c.self.inside in
-    let o = c.args.observation in
-    let current : ¬ IsPast i.floor (live_of i.held i.floor) o =
-    not_passed c.is_past.result c.is_past.ensures.past c.if-is_past.false
-    (λ p. subst (λ (v : CacheData). IsPast v.floor v.items o) c.self.view_is p) in
-    let there = needless_test i.held i.floor o c.in_err-make_room.ensures.own.lawful
-    c.is_past.ensures.lawful current in
-    let needed : ¬ IsNeedless c.args.self.now.floor c.args.self.now.items o =
-    λ n. c.in_err-make_room.ensures.memory (there.1
     (subst (λ (v : CacheData). IsNeedless v.floor v.items o) (sym c.self.view_is) n)) in
     on_err _ needed

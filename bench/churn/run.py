@@ -1,0 +1,239 @@
+#!/usr/bin/env python3
+"""Memory by time, where names come at a rate and live for some seconds. See README.md."""
+
+import argparse
+import os
+import random
+import re
+import shutil
+import subprocess
+import sys
+import tempfile
+import threading
+import time
+
+HOST = "127.0.0.1"
+# None of the names that resolvers answer for by themselves, as those below test.
+ZONE = "churn.example"
+# Where the zone's server listens, and those that are measured.
+PORTS = {"nsd": 15311, "dnsfleet": 15313, "peer": 15314, "unbound": 15315, "dnsmasq": 15316}
+HOUR = 3600
+# The names that dnsmasq holds at most.
+DNSMASQ_NAMES = 150_000
+
+
+def write(folder, name, text):
+    path = os.path.join(folder, name)
+    with open(path, "w") as file:
+        file.write(text)
+    return path
+
+
+def nsd_words(folder, ttls):
+    """The zone's server: below each label tN every name has an address with a TTL of N seconds."""
+    lines = [f"$ORIGIN {ZONE}.", f"@ {HOUR} SOA ns hostmaster 1 3600 600 86400 300", f"@ {HOUR} NS ns",
+             f"ns {HOUR} A 198.18.0.1"]
+    lines += [f"*.t{ttl} {ttl} A 198.18.0.2" for ttl in ttls]
+    write(folder, f"{ZONE}.zone", "\n".join(lines) + "\n")
+    text = f"""server:
+  ip-address: {HOST}
+  port: {PORTS["nsd"]}
+  server-count: 1
+  username: ""
+  chroot: ""
+  zonesdir: "{folder}"
+  pidfile: ""
+  database: ""
+  xfrdfile: "{folder}/xfrd"
+  zonelistfile: "{folder}/zones"
+  logfile: "{folder}/nsd.log"
+  rrl-ratelimit: 0
+  minimal-responses: yes
+remote-control:
+  control-enable: no
+zone:
+  name: "{ZONE}"
+  zonefile: "{ZONE}.zone"
+"""
+    return ["nsd", "-d", "-c", write(folder, "nsd.conf", text)]
+
+
+def unbound_words(folder):
+    text = f"""server:
+  interface: {HOST}
+  port: {PORTS["unbound"]}
+  num-threads: 1
+  do-daemonize: no
+  username: ""
+  chroot: ""
+  directory: "{folder}"
+  pidfile: ""
+  use-syslog: no
+  logfile: "{folder}/unbound.log"
+  access-control: 127.0.0.0/8 allow
+  do-not-query-localhost: no
+  module-config: "iterator"
+  minimal-responses: yes
+  msg-cache-size: 128m
+  rrset-cache-size: 128m
+  outgoing-range: 4096
+  num-queries-per-thread: 2048
+remote-control:
+  control-enable: no
+forward-zone:
+  name: "."
+  forward-addr: {HOST}@{PORTS["nsd"]}
+"""
+    return ["unbound", "-d", "-c", write(folder, "unbound.conf", text)]
+
+
+def dnsmasq_words(folder):
+    return ["dnsmasq", "--keep-in-foreground", "--conf-file=/dev/null", "--no-resolv", "--no-hosts", "--pid-file",
+            "--user=" + (os.environ.get("USER") or "root"), "--group=", "--bind-interfaces",
+            f"--listen-address={HOST}", f"--port={PORTS['dnsmasq']}", f"--cache-size={DNSMASQ_NAMES}",
+            "--dns-forward-max=1000", f"--server={HOST}#{PORTS['nsd']}", "--log-facility=" + folder + "/dnsmasq.log"]
+
+
+def site_words(program, folder, own, other):
+    text = f'listen = "{HOST}:{PORTS[own]}"\nupstreams = ["{HOST}:{PORTS["nsd"]}"]\n'
+    text += f'peers = ["{HOST}:{PORTS[other]}"]\n'
+    return [program, "serve", "--config", write(folder, f"{own}.toml", text), "--key", os.urandom(32).hex(), "--turns",
+            "4294967295"]
+
+
+class Server:
+    """A running server."""
+
+    def __init__(self, words):
+        self.process = subprocess.Popen(words, stdout=subprocess.DEVNULL)
+
+    def memory(self):
+        """Memory that is resident, in MiB."""
+        with open(f"/proc/{self.process.pid}/status") as file:
+            return int(re.search(r"VmRSS:\s+(\d+)", file.read()).group(1)) / 1024
+
+    def end(self):
+        self.process.terminate()
+        self.process.wait()
+
+
+def feed(pipe, count, ttls, seed):
+    """Writes questions for new names, each below the label of one of the TTLs."""
+    words = random.Random(seed)
+    try:
+        for at in range(0, count, 1000):
+            numbers = range(at, min(at + 1000, count))
+            text = "".join(f"n{number}.t{words.choice(ttls)}.{ZONE} A\n" for number in numbers)
+            pipe.write(text.encode())
+        pipe.close()
+    except BrokenPipeError:
+        pass
+
+
+def ask(port, rate, seconds, ttls, sample, every):
+    """Asks for so many new names a second, and calls `sample` with the seconds so far. Gives what dnsperf says."""
+    words = ["dnsperf", "-s", HOST, "-p", str(port), "-Q", str(rate), "-c", "1", "-T", "1", "-q", "1000"]
+    # A file, since dnsperf has a line for each question that is lost, and waits where nobody reads them.
+    with tempfile.TemporaryFile() as told:
+        client = subprocess.Popen(words, stdin=subprocess.PIPE, stdout=told, stderr=subprocess.STDOUT)
+        names = threading.Thread(target=feed, args=(client.stdin, rate * seconds, ttls, 1))
+        names.start()
+        try:
+            began = time.monotonic()
+            for second in range(every, seconds + 1, every):
+                time.sleep(max(0, began + second - time.monotonic()))
+                sample(second)
+            names.join()
+            client.wait()
+        finally:
+            client.kill()
+        told.seek(0)
+        return told.read().decode()
+
+
+def said(text):
+    """The questions, those that were lost, those with another code than 0, how many were answered a second, the slowest
+    answer in milliseconds, and the mean one in microseconds. What was lost counts as no answer."""
+    def number(pattern):
+        found = re.search(pattern, text)
+        return float(found.group(1)) if found else float("nan")
+
+    return (number(r"Queries sent:\s+(\d+)"), number(r"Queries lost:\s+(\d+)"),
+            number(r"Queries completed:\s+(\d+)") - number(r"Response codes:\s+NOERROR (\d+)"),
+            number(r"Queries per second:\s+([\d.]+)"), 1000 * number(r"Average Latency.*max ([\d.]+)"),
+            1e6 * number(r"Average Latency \(s\):\s+([\d.]+)"))
+
+
+def start(name, options, folder):
+    if name == "dnsfleet":
+        return {"dnsfleet": Server(site_words(options.program, folder, "dnsfleet", "peer")),
+                "peer": Server(site_words(options.program, folder, "peer", "dnsfleet"))}
+    return {name: Server({"unbound": unbound_words, "dnsmasq": dnsmasq_words}[name](folder))}
+
+
+def measure(name, options, folder, rate, seconds, ttls, every):
+    """Rows of the seconds and the memory of each server that runs, the memory behind the last answer, and what dnsperf
+    says."""
+    servers = start(name, options, folder)
+    rows = []
+    try:
+        time.sleep(1)
+        text = ask(PORTS[name], rate, seconds, ttls, lambda second: rows.append(
+            (second, *[server.memory() for server in servers.values()])), every)
+        last = [server.memory() for server in servers.values()]
+    finally:
+        for server in servers.values():
+            server.end()
+    return list(servers), rows, last, said(text)
+
+
+def main():
+    parser = argparse.ArgumentParser(description=__doc__)
+    parser.add_argument("--program", default="crates/dnsfleet/out/dnsfleet")
+    parser.add_argument("--rate", type=int, default=40_000, help="new names a second")
+    parser.add_argument("--seconds", type=int, default=60)
+    parser.add_argument("--ttl", default="3", help="of the names, in seconds: one, or the least and the greatest as 1-60")
+    parser.add_argument("--every", type=int, default=10, help="seconds between two rows")
+    parser.add_argument("--servers", default="dnsfleet,unbound,dnsmasq")
+    options = parser.parse_args()
+    least, _, most = options.ttl.partition("-")
+    ttls = list(range(int(least), int(most or least) + 1))
+    live = round(options.rate * sum(ttls) / len(ttls))
+    options.program = os.path.abspath(options.program)
+    names = [name for name in options.servers.split(",") if name == "dnsfleet" or shutil.which(name)]
+    for tool in ("nsd", "dnsperf"):
+        if not shutil.which(tool):
+            sys.exit(f"{tool} is not installed")
+    print(f"{options.rate} new names a second, TTL {options.ttl} s: {live} live at a time")
+    with tempfile.TemporaryDirectory() as folder:
+        os.chmod(folder, 0o755)
+        upstream = Server(nsd_words(folder, sorted({*ttls, HOUR})))
+        try:
+            time.sleep(1)
+            for name in names:
+                report(name, options, folder, live, ttls)
+        finally:
+            upstream.end()
+
+
+def report(name, options, folder, live, ttls):
+    """Prints what a server holds by time, behind what it takes to hold as many names as live for an hour."""
+    if name == "dnsmasq" and live > DNSMASQ_NAMES:
+        print(f"\ndnsmasq: it holds {DNSMASQ_NAMES} names at most, and {live} live")
+        return
+    fill = max(1, round(live / options.rate))
+    servers, _, last, _ = measure(name, options, folder, round(live / fill), fill, [HOUR], fill)
+    held = ", ".join(f"{server} {memory:.0f} MiB" for server, memory in zip(servers, last))
+    print(f"\n{held} with {live} names that live for an hour\n")
+    servers, rows, _, told = measure(name, options, folder, options.rate, options.seconds, ttls, options.every)
+    sent, lost, other, rate, slowest, mean = told
+    print("| Seconds | " + " | ".join(f"{server} MiB" for server in servers) + " |")
+    print("|---" * (len(servers) + 1) + "|")
+    for row in rows:
+        print(f"| {row[0]} | " + " | ".join(f"{memory:.0f}" for memory in row[1:]) + " |")
+    print(f"\n{sent:.0f} questions, {rate:.0f} answers a second, {lost:.0f} lost, {other:.0f} with another code than 0;"
+          f" of those that came the slowest answer {slowest:.0f} ms, the mean one {mean:.0f} us", flush=True)
+
+
+if __name__ == "__main__":
+    main()
