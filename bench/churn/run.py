@@ -11,6 +11,12 @@ import sys
 import tempfile
 import threading
 import time
+from pathlib import Path
+
+sys.dont_write_bytecode = True
+sys.path.insert(0, str(Path(__file__).resolve().parent.parent / "serve"))
+
+import run as serve
 
 HOST = "127.0.0.1"
 # None of the names that resolvers answer for by themselves, as those below test.
@@ -35,27 +41,7 @@ def nsd_words(folder, ttls):
              f"ns {HOUR} A 198.18.0.1"]
     lines += [f"*.t{ttl} {ttl} A 198.18.0.2" for ttl in ttls]
     write(folder, f"{ZONE}.zone", "\n".join(lines) + "\n")
-    text = f"""server:
-  ip-address: {HOST}
-  port: {PORTS["nsd"]}
-  server-count: 1
-  username: ""
-  chroot: ""
-  zonesdir: "{folder}"
-  pidfile: ""
-  database: ""
-  xfrdfile: "{folder}/xfrd"
-  zonelistfile: "{folder}/zones"
-  logfile: "{folder}/nsd.log"
-  rrl-ratelimit: 0
-  minimal-responses: yes
-remote-control:
-  control-enable: no
-zone:
-  name: "{ZONE}"
-  zonefile: "{ZONE}.zone"
-"""
-    return ["nsd", "-d", "-c", write(folder, "nsd.conf", text)]
+    return serve.nsd_words(folder, ZONE, PORTS["nsd"])
 
 
 def unbound_words(folder):

@@ -48,10 +48,10 @@ def write_zone(folder, count):
     write(os.path.join(folder, f"{ZONE}.zone"), "\n".join(lines) + "\n")
 
 
-def nsd_words(folder):
+def nsd_words(folder, zone=ZONE, port=PORTS["nsd"]):
     conf = f"""server:
   ip-address: 127.0.0.1
-  port: {PORTS["nsd"]}
+  port: {port}
   server-count: 1
   username: ""
   chroot: ""
@@ -66,8 +66,8 @@ def nsd_words(folder):
 remote-control:
   control-enable: no
 zone:
-  name: "{ZONE}"
-  zonefile: "{ZONE}.zone"
+  name: "{zone}"
+  zonefile: "{zone}.zone"
 """
     return ["nsd", "-d", "-c", write(os.path.join(folder, "nsd.conf"), conf)]
 
