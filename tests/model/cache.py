@@ -75,13 +75,15 @@ def dominates(one, other):
 
 def cached(observations, floor):
     """What a cache of the set holds, purged to a moment: what has not ended, is not dominated, and is not withdrawn."""
-    held = []
+    flushes, of_key, held = [one for one in observations if one.kind == FLUSH], {}, []
+    for one in observations:
+        of_key.setdefault(one.key, []).append(one)
     for one in observations:
         if one.expires <= floor:
             note("cache: ended")
-        elif any(dominates(other, one) for other in observations if other.key == one.key):
+        elif any(dominates(other, one) for other in of_key[one.key]):
             note("cache: dominated")
-        elif is_void(observations, one):
+        elif is_void(flushes, one):
             note("cache: withdrawn")
         else:
             note("cache: held")
