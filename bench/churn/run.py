@@ -104,12 +104,12 @@ class Server:
 
 
 def feed(pipe, count, ttls, seed):
-    """Writes questions for new names, each below the label of one of the TTLs."""
+    """Writes questions for new names of one length, each below the label of one of the TTLs."""
     words = random.Random(seed)
     try:
         for at in range(0, count, 1000):
             numbers = range(at, min(at + 1000, count))
-            text = "".join(f"n{number}.t{words.choice(ttls)}.{ZONE} A\n" for number in numbers)
+            text = "".join(f"n{number:08d}.t{words.choice(ttls)}.{ZONE} A\n" for number in numbers)
             pipe.write(text.encode())
         pipe.close()
     except BrokenPipeError:
