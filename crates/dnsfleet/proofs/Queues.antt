@@ -7,7 +7,8 @@ use Rattle.fleet_wire.specs.declared.bounds.TheConstants.{LONGEST_MESSAGE}
 use Rattle.fleet_pending.specs.declared.addr.Addr.{Addr}
 use Rattle.fleet_site.specs.declared.port.PortFault.{PortFault}
 use Rattle.dnsfleet.specs.declared.inbox.Inbox.{Inbox}
-use Rattle.dnsfleet.specs.Queue.{Datagram, Fills, HandsOn, Extends, TakesIn, Receives, Leaves, Queues, Pushes}
+use Rattle.fleet_site.specs.server.Waiting.{Datagram, Pushes}
+use Rattle.dnsfleet.specs.Queue.{Fills, HandsOn, Extends, TakesIn, Receives, Leaves, Queues}
 
 pub hands_message : {A : Type 0} (asked : ℕ) (messages frames : List Datagram) (got : Option (Addr × ℕ))
     (buffer : List ℕ) (new : Inbox A) (d : Datagram) → messages ≡ d ∷ new.messages → new.frames ≡ frames

@@ -5,16 +5,8 @@ use Rattle.fleet_name.specs.Types.{OctetList}
 use Rattle.fleet_pending.specs.declared.addr.Addr.{Addr}
 use Rattle.fleet_wire.specs.declared.bounds.TheConstants.{LONGEST_MESSAGE}
 use Rattle.fleet_site.specs.declared.port.PortFault.{PortFault}
-use Rattle.dnsfleet.specs.declared.queue.TheConstants.{MOST_WAITING}
+use Rattle.fleet_site.specs.server.Waiting.{Datagram, Pushes}
 use Rattle.dnsfleet.specs.declared.inbox.Inbox.{Inbox}
-
-abbrev pub Datagram : Type 0
-Datagram = Addr × OctetList
-
--- a datagram comes behind the others; where it has no room, because as many wait as may, nothing changes
-abbrev pub Pushes : List Datagram → Datagram → Bool → List Datagram → Type 0
-Pushes old d true new = new ≡ old ++ d ∷ []
-Pushes old d false new = (length old ≡ MOST_WAITING) × (new ≡ old)
 
 -- a message waits among the messages, what is longer among the frames
 pub record Queues {A : Type 0} (old : Inbox A) (d : Datagram) (fits : Bool) (new : Inbox A) : Type 0 where

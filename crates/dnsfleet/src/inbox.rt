@@ -3,9 +3,9 @@
 ghost use Rattle.std.specs.Prelude.{◌≡◌, ◌↔◌, ◌≤◌, [], min, length, take, IsTrue, IfOk, OnErr, IfSome};
 ghost use Rattle.dnsfleet.specs.Queue.{Queues, HandsOn};
 
-use crate::queue::Queue;
 use fleet_name::Octets;
 use fleet_pending::Addr;
+use fleet_site::Queue;
 use fleet_wire::bounds::LONGEST_MESSAGE;
 use std::alloc::{AllocError, Allocator, Global};
 

@@ -9,7 +9,6 @@ mod help;
 mod inbox;
 mod lines;
 mod print;
-mod queue;
 mod script;
 mod serve;
 mod settings;

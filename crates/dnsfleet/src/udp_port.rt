@@ -7,9 +7,8 @@ ghost use Rattle.dnsfleet.specs.Queue.{TakesIn, Receives, Leaves, SendsOrKeeps};
 ghost use Rattle.dnsfleet.specs.Socket.{IsAt, IsQuiet, address_in};
 
 use crate::inbox::Inbox;
-use crate::queue::{MOST_WAITING, Queue};
 use fleet_pending::Addr;
-use fleet_site::{Port, PortFault};
+use fleet_site::{MOST_WAITING, Port, PortFault, Queue};
 use fleet_wire::bounds::LONGEST_MESSAGE;
 use std::alloc::{Allocator, Global};
 use std::io::ErrorKind;

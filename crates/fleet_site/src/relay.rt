@@ -2,7 +2,8 @@
 //! that it is handed is learnt.
 
 ghost use Rattle.std.specs.Prelude.{◌≡◌, ◌<◌, IfOk, IfErr, map};
-ghost use Rattle.fleet_wire.specs.Message.{HasReply};
+ghost use Rattle.fleet_name.specs.Types.{OctetList};
+ghost use Rattle.fleet_wire.specs.Message.{HasReply, IsReply};
 ghost use Rattle.fleet_observe.specs.Observation.{Observations};
 ghost use Rattle.fleet_observe.specs.Observations.{reply_observations};
 ghost use Rattle.fleet_cache.specs.Cached.{IsCached};
@@ -125,17 +126,33 @@ fn relay_of_reply<A: Allocator + Copy>(
     ensures refused { IfErr result (λ e. Unlearns (Replied pending.now clock upstream octets.now)
         (IsReplying octets.now) pending.now e) }
 {
-    let message = match message_in(alloc, octets) {
-        Ok(message) => message,
-        Err(fault) => return Err(fault),
-    };
+    match message_in(alloc, octets) {
+        Ok(message) => relay_of_message(alloc, pending, upstream, clock, &message),
+        Err(fault) => Err(fault),
+    }
+}
+
+/// All that a reply from an upstream makes a site write, whatever octets it was read of.
+fn relay_of_message<A: Allocator + Copy>(
+    alloc: A,
+    pending: &Pending<A>,
+    upstream: u8,
+    clock: Moment,
+    message: &Message<A>,
+) -> Result<Relay<A>, ReplyFault>
+    ensures relayed { (octets : OctetList) → IsAnswering octets → IsReply octets message.now
+        → IfOk result (λ r. IsRelayOf pending.now clock upstream octets r) }
+    ensures refused { (octets : OctetList) → IsAnswering octets → IsReply octets message.now
+        → IfErr result (λ e. Unlearns (Replied pending.now clock upstream octets)
+        (IsReplying octets) pending.now e) }
+{
     let id = message.header().id;
     let question = message.question();
     let entry = match pending.find(upstream, id, question) {
         Some(entry) => entry,
         None => return Err(ReplyFault::Refused(Refusal::Unmatched)),
     };
-    let digest = match digest_of(alloc, &message) {
+    let digest = match digest_of(alloc, message) {
         Ok(digest) => digest,
         Err(undigested) => return Err(undigested),
     };

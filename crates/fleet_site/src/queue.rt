@@ -1,7 +1,7 @@
 //! Datagrams that wait in a port.
 
 ghost use Rattle.std.specs.Prelude.{◌≡◌, ◌↔◌, [], ◌∷◌, IsTrue, IfOk, OnErr, MatchOption};
-ghost use Rattle.dnsfleet.specs.Queue.{Pushes};
+ghost use Rattle.fleet_site.specs.server.Waiting.{Pushes};
 
 use fleet_name::Octets;
 use fleet_pending::Addr;
@@ -23,7 +23,7 @@ pub struct Queue<A: Allocator = Global> {
 impl<A: Allocator> Model for Queue<A> {
     ghost use Rattle.std.specs.Prelude.{ℕ, ◌≤◌, List, length};
     ghost use Rattle.fleet_pending.specs.declared.addr.Addr.{Addr};
-    ghost use Rattle.dnsfleet.specs.declared.queue.TheConstants.{MOST_WAITING};
+    ghost use Rattle.fleet_site.specs.declared.queue.TheConstants.{MOST_WAITING};
 
     ghost Value = { List (Addr × List ℕ) };
 
