@@ -24,7 +24,6 @@ mod refusal;
 mod serving;
 mod zone;
 
-use digest::Digest;
 use gossip::{EVERY, Plan, gossip};
 use serving::{Traffic, serve_turns};
 use std::env;
@@ -73,15 +72,13 @@ const GOSSIP: Plan = Plan {
     questions: 2_000,
 };
 
-/// Sites half of whose names have more than 32 octets, with so many questions after each sweep.
-fn mixed_lengths(questions: u32) -> Plan {
-    Plan {
-        long: 50,
-        ticks: EVERY,
-        flushes: 10,
-        questions,
-    }
-}
+/// Sites half of whose names have more than 32 octets, with as many questions as names.
+const MIXED: Plan = Plan {
+    long: 50,
+    ticks: EVERY,
+    flushes: 10,
+    questions: 0,
+};
 
 /// The number that a word spells.
 fn number(words: &[String], at: usize) -> anyhow::Result<u32> {
@@ -92,15 +89,23 @@ fn number(words: &[String], at: usize) -> anyhow::Result<u32> {
 }
 
 /// Does a job, and gives the digest of what came out of it.
-fn work(rt: &HostRuntime, job: &str, seed: u32, count: u32) -> anyhow::Result<Digest> {
-    match job {
-        "hits" => serve_turns(rt.alloc(), &HITS, seed, count),
-        "misses" => serve_turns(rt.alloc(), &MISSES, seed, count),
-        "slow" => serve_turns(rt.alloc(), &SLOW, seed, count),
-        "gossip" => gossip(rt.alloc(), &GOSSIP, seed, count),
-        "mixed" => gossip(rt.alloc(), &mixed_lengths(count), seed, count),
-        _ => Err(anyhow::anyhow!("no such job")),
-    }
+fn work(rt: &HostRuntime, job: &str, seed: u32, count: u32) -> anyhow::Result<u64> {
+    let alloc = rt.alloc();
+    let done = match job {
+        "hits" => serve_turns(alloc, &HITS, seed, count),
+        "misses" => serve_turns(alloc, &MISSES, seed, count),
+        "slow" => serve_turns(alloc, &SLOW, seed, count),
+        "gossip" => gossip(alloc, &GOSSIP, seed, count),
+        "mixed" => {
+            let plan = Plan {
+                questions: count,
+                ..MIXED
+            };
+            gossip(alloc, &plan, seed, count)
+        }
+        _ => return Err(anyhow::anyhow!("no such job")),
+    };
+    Ok(done?)
 }
 
 /// Does the jobs of the words, three for each, and prints a line for each.
@@ -115,8 +120,7 @@ fn main(rt: HostRuntime) -> anyhow::Result<()> {
         };
         let seed = number(&words, at + 1)?;
         let count = number(&words, at + 2)?;
-        let digest = work(&rt, name, seed, count)?;
-        let value = digest.value();
+        let value = work(&rt, name, seed, count)?;
         println!(rt; "{name} {value:016x}")?;
     }
     Ok(())

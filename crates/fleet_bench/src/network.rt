@@ -3,13 +3,15 @@
 ghost use Rattle.std.specs.Prelude.{◌≡◌, ◌≤◌, [], ◌∷◌, length, None, IfOk, IfSome};
 ghost use Rattle.fleet_site.specs.server.PortRecord.{NotesAll, receive_of, send_of, failures_after};
 
-use crate::digest::Digest;
-use crate::noise::Noise;
+use crate::digest::add_datagram;
+use crate::noise::{chance, popular};
 use crate::serving::Traffic;
 use crate::zone::Zone;
 use fleet_observe::Moment;
 use fleet_pending::Addr;
 use fleet_site::{Clock, Port, PortFault};
+use rand_core::utils::NextWord;
+use rand_pcg::Pcg32;
 use std::alloc::{AllocError, Global};
 use std::collections::VecDeque;
 
@@ -56,10 +58,9 @@ struct Owed {
 /// Clients and upstreams.
 #[derive(Drop)]
 pub struct Network {
-    alloc: Global,
     zone: Zone,
     traffic: Traffic,
-    noise: Noise,
+    words: Pcg32,
     slots: Vec<Slot>,
     owed: VecDeque<Owed>,
     /// The number of the name that the query with an id asks for.
@@ -67,15 +68,15 @@ pub struct Network {
     /// The number of the name that was asked for last.
     last: u32,
     turn: u32,
-    digest: Digest,
+    /// The message that was written last.
+    message: Vec<u8>,
+    /// The digest of all that was sent.
+    pub digest: u64,
 }
 
-/// A question's octets, cut to a slot.
-fn slot_of(question: &[u8]) -> Slot {
-    let mut octets = [0; SLOT];
-    let len = question.len().min(SLOT);
-    octets[..len].copy_from_slice(&question[..len]);
-    Slot { octets, len }
+/// The moment that is `seconds` after the first.
+pub fn moment_after(seconds: u32) -> Moment {
+    Moment::new(START + u64::from(seconds)).unwrap()
 }
 
 /// Turns letters of a question's name to capitals, by the bits of a word.
@@ -107,39 +108,37 @@ fn id_of(octets: &[u8]) -> u16 {
 }
 
 impl Network {
-    /// One of this seed, with such traffic.
-    pub fn new(alloc: Global, traffic: &Traffic, seed: u32) -> Result<Network, AllocError> {
-        let zone = Zone {
-            seed,
-            depth: traffic.depth,
-            chain: traffic.chain,
-            long: 0,
-        };
-        let mut slots = Vec::new(alloc);
-        let mut octets = Vec::new(alloc);
-        for number in 0..traffic.names {
-            octets = zone.question(octets, number, 0)?;
-            slots.push(slot_of(&octets))?;
-        }
-        let mut asked = Vec::new(alloc);
-        asked.resize(IDS, 0)?;
-        Ok(Network {
-            alloc,
-            zone,
+    /// One of this seed, with such traffic, before the questions for its names are written.
+    pub fn new(alloc: Global, traffic: &Traffic, seed: u32) -> Network {
+        Network {
+            zone: Zone {
+                seed,
+                depth: traffic.depth,
+                chain: traffic.chain,
+                long: 0,
+            },
             traffic: *traffic,
-            noise: Noise::new(seed),
-            slots,
+            words: Pcg32::new(u64::from(seed), 54),
+            slots: Vec::new(alloc),
             owed: VecDeque::new(alloc),
-            asked,
+            asked: Vec::new(alloc),
             last: 0,
             turn: 0,
-            digest: Digest::new(),
-        })
+            message: Vec::new(alloc),
+            digest: 0,
+        }
     }
 
-    /// The digest of all that was sent.
-    pub fn digest(&self) -> Digest {
-        self.digest
+    /// Writes the questions for its names.
+    pub fn prepare(&mut self) -> Result<(), AllocError> {
+        self.asked.resize(IDS, 0)?;
+        for number in 0..self.traffic.names {
+            self.zone.question(&mut self.message, number, 0)?;
+            let mut octets = [0; SLOT];
+            let len = copy(&self.message, &mut octets);
+            self.slots.push(Slot { octets, len })?;
+        }
+        Ok(())
     }
 
     /// The reply that is due, if one is.
@@ -154,18 +153,18 @@ impl Network {
     fn ask(&mut self, buffer: &mut [u8]) -> usize
         ensures { result ≤ length buffer.old }
     {
-        let id = (self.noise.word() % 65_536) as u16;
-        let fresh = self.noise.chance(self.traffic.fresh);
-        let popular = self.noise.popular(self.traffic.names);
-        let len = match self.slots.get(popular as usize) {
+        let id = (self.words.next_word() % 65_536) as u16;
+        let fresh = chance(&mut self.words, self.traffic.fresh);
+        let number = popular(&mut self.words, self.traffic.names);
+        let len = match self.slots.get(number as usize) {
             Some(slot) if !fresh => {
-                self.last = popular;
+                self.last = number;
                 copy(&slot.octets[..slot.len.min(SLOT)], buffer)
             }
             _ => {
                 self.last = self.traffic.names.wrapping_add(self.turn);
-                match self.zone.question(Vec::new(self.alloc), self.last, 0) {
-                    Ok(octets) => copy(&octets, buffer),
+                match self.zone.question(&mut self.message, self.last, 0) {
+                    Ok(()) => copy(&self.message, buffer),
                     Err(_) => 0,
                 }
             }
@@ -173,8 +172,8 @@ impl Network {
         if let Some(first) = buffer.first_chunk_mut::<2>() {
             *first = id.to_be_bytes();
         }
-        if self.noise.chance(self.traffic.spelled) {
-            spell(buffer, self.noise.word());
+        if chance(&mut self.words, self.traffic.spelled) {
+            spell(buffer, self.words.next_word());
         }
         len
     }
@@ -192,7 +191,7 @@ impl Network {
                 id,
                 number: *number,
             };
-            if !is_first || !self.noise.chance(self.traffic.lost) {
+            if !is_first || !chance(&mut self.words, self.traffic.lost) {
                 let _ = self.owed.push_back(owed);
             }
         }
@@ -209,15 +208,15 @@ impl Port for Network {
     {
         self.turn = self.turn.wrapping_add(1);
         if let Some(owed) = self.due() {
-            let len = match self.zone.reply(Vec::new(self.alloc), owed.number, owed.id) {
-                Ok(octets) => copy(&octets, buffer),
+            let len = match self.zone.reply(&mut self.message, owed.number, owed.id) {
+                Ok(()) => copy(&self.message, buffer),
                 Err(_) => 0,
             };
             return Ok(Some((owed.from, len)));
         }
         let len = self.ask(buffer);
         let client = Addr {
-            host: 0x0a00_0000 + self.noise.word() % 4_096,
+            host: 0x0a00_0000 + self.words.next_word() % 4_096,
             port: 1_024,
         };
         Ok(Some((client, len)))
@@ -228,7 +227,7 @@ impl Port for Network {
             (send_of result (record { to = to; octets = bytes.now }) ∷ []) None }
         ensures failed { 0 ≡ failures_after result 0 }
     {
-        self.digest.add_datagram(to, bytes);
+        add_datagram(&mut self.digest, to, bytes);
         if to.host == UPSTREAM {
             self.owe(to, id_of(bytes));
         }
@@ -243,18 +242,10 @@ impl Port for Network {
 /// A clock by turns.
 #[derive(Drop)]
 pub struct Turns {
-    per_second: u32,
-    turn: u32,
-}
-
-impl Turns {
-    /// One that counts `per_second` turns to a second.
-    pub fn new(per_second: u32) -> Turns {
-        Turns {
-            per_second: per_second.max(1),
-            turn: 0,
-        }
-    }
+    /// How many turns a second has.
+    pub per_second: u32,
+    /// How many turns there were.
+    pub turn: u32,
 }
 
 impl Clock for Turns {
@@ -262,7 +253,6 @@ impl Clock for Turns {
 
     fn now(&mut self) -> Moment {
         self.turn = self.turn.wrapping_add(1);
-        let second = START + u64::from(self.turn / self.per_second.max(1));
-        Moment::new(second).unwrap()
+        moment_after(self.turn / self.per_second.max(1))
     }
 }

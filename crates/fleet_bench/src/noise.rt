@@ -3,37 +3,17 @@
 use rand_core::utils::NextWord;
 use rand_pcg::Pcg32;
 
-/// The stream of numbers that a seed gives.
-#[derive(Drop)]
-pub struct Noise {
-    words: Pcg32,
+/// Whether a chance of `percent` in a hundred comes about.
+pub fn chance(words: &mut Pcg32, percent: u32) -> bool {
+    words.next_word() % 100 < percent
 }
 
-impl Noise {
-    /// The stream of a seed.
-    pub fn new(seed: u32) -> Noise {
-        Noise {
-            words: Pcg32::new(u64::from(seed), 54),
-        }
-    }
-
-    /// The next word.
-    pub fn word(&mut self) -> u32 {
-        self.words.next_word()
-    }
-
-    /// Whether a chance of `percent` in a hundred comes about.
-    pub fn chance(&mut self, percent: u32) -> bool {
-        self.word() % 100 < percent
-    }
-
-    /// A number below a bound, 0 where that is 0; small ones come more often.
-    pub fn popular(&mut self, bound: u32) -> u32 {
-        let first = u64::from(self.word());
-        let second = u64::from(self.word());
-        let product = first.wrapping_mul(second) >> 32;
-        (product.wrapping_mul(u64::from(bound)) >> 32) as u32
-    }
+/// A number below a bound, 0 where that is 0; small ones come more often.
+pub fn popular(words: &mut Pcg32, bound: u32) -> u32 {
+    let first = u64::from(words.next_word());
+    let second = u64::from(words.next_word());
+    let product = first.wrapping_mul(second) >> 32;
+    (product.wrapping_mul(u64::from(bound)) >> 32) as u32
 }
 
 /// A number with the bits of two others mixed (the last step of SplitMix64).

@@ -1,11 +1,11 @@
 //! A server's turns over the network.
 
-use crate::digest::Digest;
+use crate::digest::add;
 use crate::network::{FIRST, Network, SECOND, Turns};
 use fleet_pending::Addr;
 use fleet_site::{Config, Report, Site, serve};
 use rand_pcg::Pcg32;
-use std::alloc::Global;
+use std::alloc::{AllocError, Global};
 
 /// What clients ask, and how upstreams answer.
 #[derive(Clone, Copy)]
@@ -28,25 +28,25 @@ pub struct Traffic {
     pub chain: u32,
 }
 
+/// The two peers.
+const PEERS: [Addr; 2] = [
+    Addr {
+        host: 0x7f00_0001,
+        port: 5401,
+    },
+    Addr {
+        host: 0x7f00_0001,
+        port: 5402,
+    },
+];
+
 /// Two upstreams and two peers.
-pub fn config(alloc: Global) -> anyhow::Result<Config> {
+pub fn config(alloc: Global) -> Result<Config, AllocError> {
     let upstreams = Vec::from_slice(alloc, &[FIRST, SECOND])?;
-    let peers = Vec::from_slice(
-        alloc,
-        &[
-            Addr {
-                host: 0x7f00_0001,
-                port: 5401,
-            },
-            Addr {
-                host: 0x7f00_0001,
-                port: 5402,
-            },
-        ],
-    )?;
+    let peers = Vec::from_slice(alloc, &PEERS)?;
     match Config::new(upstreams, peers) {
         Ok(config) => Ok(config),
-        Err(_) => Err(anyhow::anyhow!("the addresses")),
+        Err(_) => Err(AllocError),
     }
 }
 
@@ -56,13 +56,22 @@ pub fn serve_turns(
     traffic: &Traffic,
     seed: u32,
     turns: u32,
-) -> anyhow::Result<Digest> {
+) -> Result<u64, AllocError> {
+    let mut network = Network::new(alloc, traffic, seed);
+    network.prepare()?;
     let mut site = Site::new(alloc, config(alloc)?);
-    let mut network = Network::new(alloc, traffic, seed)?;
-    let mut clock = Turns::new(traffic.per_second);
-    let mut words = Pcg32::new(u64::from(seed), 55);
-    let report = serve(&mut network, &mut clock, &mut words, &mut site, turns, 0);
-    let mut digest = network.digest();
+    let report = serve(
+        &mut network,
+        &mut Turns {
+            per_second: traffic.per_second,
+            turn: 0,
+        },
+        &mut Pcg32::new(u64::from(seed), 55),
+        &mut site,
+        turns,
+        0,
+    );
+    let mut digest = network.digest;
     let Report {
         received,
         sent,
@@ -70,10 +79,8 @@ pub fn serve_turns(
         short,
         ..
     } = report;
-    digest.add(received);
-    digest.add(sent);
-    digest.add(refused);
-    digest.add(short);
-    digest.add(site.cache().len() as u64);
+    for number in [received, sent, refused, short, site.cache().len() as u64] {
+        add(&mut digest, number);
+    }
     Ok(digest)
 }
