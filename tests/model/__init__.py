@@ -21,5 +21,6 @@ The modules, from the octets up:
     script          the lines of a script, and what they print
 
 Beside them are `reached` (what was met, by count), `faults` (mistakes that can be switched on), `generator` (random
-scripts), `compare` and `shrink` (a script through model and program), and `sockets` (running sites).
+scripts), `compare` and `shrink` (a script through model and program), and `conversation`, `served` and `watched` (running
+sites).
 """
