@@ -18,8 +18,8 @@ FILES = ("examples_questions.txt", "examples_datagrams.txt", "examples_frames.tx
 EXAMPLES = 58
 MOST_SITES = 9
 
-# Where the program's crate has the same scripts, and runs them with each call for memory refused.
-SOURCE = TESTS.parent / "crates" / "dnsfleet" / "src" / "tests" / "scripts.rt"
+# Where a test has the same scripts, and runs them with each call for memory refused.
+SOURCE = TESTS.parent / "crates" / "fleet_tests" / "src" / "tests" / "program" / "scripts.rt"
 
 
 def parts_of_transcript(transcript):
@@ -97,17 +97,17 @@ class AllExamples(Case):
 
 
 def scripts_of_the_crate():
-    """What each script of the program's crate shows, and its lines."""
+    """What each script of that test shows, and its lines."""
     text = SOURCE.read_text(encoding="utf-8").split(' = "\\\n', 1)[1].split('\n";', 1)[0]
     scripts = [script.split("\n") for script in text.split("\n\n")]
     return [(shows.removeprefix("# "), [spelled(line) for line in lines]) for shows, *lines in scripts]
 
 
 class InTheCrate(Case):
-    """The scripts of the program's crate, where the sources are at hand."""
+    """The scripts of that test, where the sources are at hand."""
 
     def test_same(self):
-        """the scripts of the program's crate are those of the examples"""
+        """the scripts of the test that refuses calls for memory are those of the examples"""
         wanted = [(shows, script) for shows, script, _ in read_examples()]
         if SOURCE.is_file():
             self.check_equal(scripts_of_the_crate(), wanted)

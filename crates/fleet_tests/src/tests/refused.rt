@@ -21,7 +21,7 @@ use std::process::Abort;
 use worlds::{check_same, has_same_sites, keeps_same_frames, world_after};
 
 /// More allocations than any of the examples makes.
-const MANY: u64 = 65536;
+pub const MANY: u64 = 65536;
 
 /// Whether an allocation was refused at a row that then ran out of memory: after no observation,
 /// after some, and when all was done but the keeping of frames.

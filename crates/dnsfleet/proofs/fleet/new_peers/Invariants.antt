@@ -1,6 +1,0 @@
-use Rattle.std.proofs.Common.{◌≡◌}
-use Rattle.dnsfleet.specs.Settings.{peers_of}
-use Rattle.dnsfleet.proofs.fleet.new_peers.Given as goal
-
-abbrev pub invariant-loop-other : goal.invariant-loop-other
-invariant-loop-other g l = l.peers.items ≡ peers_of l.site l.other

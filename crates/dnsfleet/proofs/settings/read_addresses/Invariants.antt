@@ -1,8 +1,0 @@
-use Rattle.std.proofs.Common.{drop}
-use Rattle.toml.specs.View.{items_view}
-use Rattle.dnsfleet.proofs.Configurations.{Remains}
-use Rattle.dnsfleet.proofs.settings.read_addresses.Given as goal
-
-abbrev pub invariant-loop-item : goal.invariant-loop-item
-invariant-loop-item l = Remains (items_view l.fn.items) (items_view (drop l.item-index l.items))
-    l.addrs.items

@@ -1,0 +1,277 @@
+//! What a line asks for.
+
+ghost use Rattle.std.specs.Prelude.{◌≡◌, map, take};
+ghost use Rattle.fleet_program.specs.Words.{words_of};
+
+use crate::fault::LineFault;
+use crate::words::{
+    Hex, NameWord, SiteCount, address, moment, number, site_count, word_of_16_bits,
+};
+use arrayvec::ArrayVec;
+use fleet_observe::Moment;
+use fleet_pending::Addr;
+use fleet_world::Event;
+use std::alloc::{AllocError, Allocator};
+
+/// What a line asks for.
+#[derive(Drop)]
+pub enum Command<'a> {
+    /// The fleet has this number of sites.
+    Sites {
+        count: SiteCount,
+    },
+    /// A site is asked a question.
+    Ask {
+        site: usize,
+        now: Moment,
+        question: Hex<'a>,
+    },
+    /// What a site holds is shown.
+    Show {
+        site: usize,
+    },
+    /// Two sites are compared.
+    Same {
+        one: usize,
+        other: usize,
+    },
+    /// Something happens in the world.
+    Step(Step<'a>),
+}
+
+/// An event of the world, its octets still as the line spells them.
+#[derive(Drop)]
+pub enum Step<'a> {
+    /// A site is handed a reply.
+    Learn {
+        site: usize,
+        now: Moment,
+        reply: Hex<'a>,
+    },
+    /// A name is flushed at a site.
+    Flush {
+        site: usize,
+        now: Moment,
+        name: NameWord<'a>,
+    },
+    /// A datagram comes in.
+    Datagram {
+        site: usize,
+        now: Moment,
+        from: Addr,
+        word: u16,
+        octets: Hex<'a>,
+    },
+    /// Octets come in as a frame.
+    Frame {
+        site: usize,
+        now: Moment,
+        octets: Hex<'a>,
+    },
+    /// A frame that was sent comes in.
+    Deliver {
+        site: usize,
+        now: Moment,
+        frame: usize,
+    },
+    /// Time passes at a site.
+    Tick {
+        site: usize,
+        now: Moment,
+    },
+    /// All that a site holds goes out as frames.
+    Sweep {
+        site: usize,
+    },
+    /// A site takes in all that another one holds.
+    Merge {
+        into: usize,
+        from: usize,
+    },
+    /// A site begins again as new.
+    Restart {
+        site: usize,
+    },
+}
+
+impl Step<'_> {
+    /// The site at which it happens; of a merge, the greater number of the two.
+    pub fn site(&self) -> usize {
+        match self {
+            Step::Learn { site, .. } => *site,
+            Step::Flush { site, .. } => *site,
+            Step::Datagram { site, .. } => *site,
+            Step::Frame { site, .. } => *site,
+            Step::Deliver { site, .. } => *site,
+            Step::Tick { site, .. } => *site,
+            Step::Sweep { site } => *site,
+            Step::Merge { into, from } => usize::max(*into, *from),
+            Step::Restart { site } => *site,
+        }
+    }
+
+    /// The frame that comes in, if it was sent before.
+    pub fn frame(&self) -> Option<usize> {
+        match self {
+            Step::Deliver { frame, .. } => Some(*frame),
+            _ => None,
+        }
+    }
+
+    /// The event itself.
+    pub fn event<A: Allocator + Copy>(self, alloc: A) -> Result<Event<A>, AllocError> {
+        Ok(match self {
+            Step::Learn { site, now, reply } => Event::Learn {
+                site,
+                now,
+                bytes: reply.octets(alloc)?,
+            },
+            Step::Flush { site, now, name } => Event::Flush {
+                site,
+                now,
+                name: name.name(alloc)?,
+            },
+            Step::Datagram {
+                site,
+                now,
+                from,
+                word,
+                octets,
+            } => Event::Datagram {
+                site,
+                now,
+                from,
+                word,
+                bytes: octets.octets(alloc)?,
+            },
+            Step::Frame { site, now, octets } => Event::Frame {
+                site,
+                now,
+                bytes: octets.octets(alloc)?,
+            },
+            Step::Deliver { site, now, frame } => Event::Deliver { site, now, frame },
+            Step::Tick { site, now } => Event::Tick { site, now },
+            Step::Sweep { site } => Event::Sweep { site },
+            Step::Merge { into, from } => Event::Merge { into, from },
+            Step::Restart { site } => Event::Restart { site },
+        })
+    }
+}
+
+/// The first words of a line, up to seven: no line has more than six.
+fn first_words(line: &str) -> ArrayVec<&str, 7>
+    ensures { map (λ word. word.now) result.items ≡ take 7 (words_of line.now) }
+{
+    let mut words = ArrayVec::new();
+    // There is room for seven.
+    let _ = words.extend(line.split(' ').take(7));
+    words
+}
+
+/// What a line asks for.
+pub fn read_command(line: &str) -> Result<Command<'_>, LineFault> {
+    let words = first_words(line);
+    match words.as_slice() {
+        ["sites", count] => Ok(Command::Sites {
+            count: site_count(count).ok_or(LineFault::BadNumber)?,
+        }),
+        ["ask", site, now, question] => Ok(Command::Ask {
+            site: number_word(site)?,
+            now: moment_word(now)?,
+            question: hex_word(question)?,
+        }),
+        ["show", site] => Ok(Command::Show {
+            site: number_word(site)?,
+        }),
+        ["same", one, other] => Ok(Command::Same {
+            one: number_word(one)?,
+            other: number_word(other)?,
+        }),
+        words => Ok(Command::Step(read_step(words)?)),
+    }
+}
+
+/// The event of a line's words.
+fn read_step<'a>(words: &[&'a str]) -> Result<Step<'a>, LineFault> {
+    match words {
+        ["tick", site, now] => Ok(Step::Tick {
+            site: number_word(site)?,
+            now: moment_word(now)?,
+        }),
+        ["sweep", site] => Ok(Step::Sweep {
+            site: number_word(site)?,
+        }),
+        ["merge", into, from] => Ok(Step::Merge {
+            into: number_word(into)?,
+            from: number_word(from)?,
+        }),
+        ["restart", site] => Ok(Step::Restart {
+            site: number_word(site)?,
+        }),
+        words => read_arrival(words),
+    }
+}
+
+/// What comes to a site, of a line's words.
+fn read_arrival<'a>(words: &[&'a str]) -> Result<Step<'a>, LineFault> {
+    match words {
+        ["learn", site, now, reply] => Ok(Step::Learn {
+            site: number_word(site)?,
+            now: moment_word(now)?,
+            reply: hex_word(reply)?,
+        }),
+        ["flush", site, now, name] => Ok(Step::Flush {
+            site: number_word(site)?,
+            now: moment_word(now)?,
+            name: name_word(name)?,
+        }),
+        ["datagram", site, now, from, word, octets] => Ok(Step::Datagram {
+            site: number_word(site)?,
+            now: moment_word(now)?,
+            from: address(from).ok_or(LineFault::BadAddress)?,
+            word: word_of_16_bits(word).ok_or(LineFault::BadNumber)?,
+            octets: hex_word(octets)?,
+        }),
+        ["frame", site, now, octets] => Ok(Step::Frame {
+            site: number_word(site)?,
+            now: moment_word(now)?,
+            octets: hex_word(octets)?,
+        }),
+        ["deliver", site, now, frame] => Ok(Step::Deliver {
+            site: number_word(site)?,
+            now: moment_word(now)?,
+            frame: number_word(frame)?,
+        }),
+        words => Err(word_fault(words)),
+    }
+}
+
+/// The events, as a line begins with them.
+const EVENTS: [&str; 13] = [
+    "sites", "learn", "ask", "show", "datagram", "tick", "sweep", "frame", "deliver", "merge",
+    "restart", "same", "flush",
+];
+
+/// What is wrong with words that are no line: their number, or the first of them.
+fn word_fault(words: &[&str]) -> LineFault {
+    match words.first() {
+        Some(first) if EVENTS.contains(first) => LineFault::WordCount,
+        _ => LineFault::UnknownEvent,
+    }
+}
+
+fn number_word(word: &str) -> Result<usize, LineFault> {
+    number(word).ok_or(LineFault::BadNumber)
+}
+
+fn moment_word(word: &str) -> Result<Moment, LineFault> {
+    moment(word).ok_or(LineFault::BadNumber)
+}
+
+fn name_word(word: &str) -> Result<NameWord<'_>, LineFault> {
+    NameWord::new(hex_word(word)?).ok_or(LineFault::BadName)
+}
+
+fn hex_word(word: &str) -> Result<Hex<'_>, LineFault> {
+    Hex::new(word).ok_or(LineFault::BadHex)
+}

@@ -1,0 +1,227 @@
+//! The command `serve`: a site on loopback.
+
+ghost use Rattle.std.specs.Prelude.{◌≡◌, ◌⊎◌, Ok, IfOk, IsErr, IsOk, IsOkAnd, MatchOption};
+ghost use Rattle.std.specs.Process.{exit_status};
+ghost use Rattle.fleet_name.specs.Types.{OctetList};
+ghost use Rattle.fleet_program.specs.Key.{SpellsKey};
+ghost use Rattle.fleet_program.specs.Serving.{ServesNew};
+ghost use Rattle.fleet_program.specs.declared.serve.TheConstants.{BAD_KEY};
+
+use crate::fault::fail;
+use crate::settings::{LONGEST_CONFIGURATION, Settings, SettingsFault, read_settings};
+use crate::system_clock::SystemClock;
+use crate::udp_port::UdpPort;
+use clap::{Arg, ArgAction, ArgMatches, Command, value_parser};
+use fleet_pending::Addr;
+use fleet_site::{Clock, Port, Report, Site, serve};
+use rand_chacha::ChaCha20Rng;
+use rand_core::SeedableRng;
+use std::alloc::{AllocError, Global};
+use std::io::{ErrorKind, Read};
+use std::net::{Ipv4Addr, Net};
+use std::process::ExitCode;
+use std::rt::Files;
+use std::{fs, io, time};
+use thiserror::Error;
+
+/// How many octets a key has.
+const KEY_LENGTH: usize = 32;
+
+/// The status with which a bad key ends.
+const BAD_KEY: u8 = 2;
+
+/// The words of `serve`, as they were given.
+#[derive(Clone, Copy)]
+pub struct Words<'a> {
+    /// The path of the configuration.
+    pub config: &'a str,
+    /// The key, in hexadecimal digits.
+    pub key: &'a str,
+    /// How many turns to serve.
+    pub turns: u32,
+}
+
+impl<'a> Words<'a> {
+    /// The words that `clap` found; it lets none be absent.
+    pub fn of(matches: &ArgMatches<'a>) -> Words<'a> {
+        Words {
+            config: matches.get_str("config").unwrap_or(""),
+            key: matches.get_str("key").unwrap_or(""),
+            turns: matches.get_one::<u32>("turns").unwrap_or(1),
+        }
+    }
+}
+
+/// An option that takes one value.
+fn option<'a>(alloc: Global, name: &'a str, value: &'a str) -> Arg<'a> {
+    Arg::new(alloc, name).long(name).value_name(value)
+}
+
+/// An option that is required, and takes one value.
+fn required<'a>(alloc: Global, name: &'a str, value: &'a str, help: &'a str) -> Arg<'a> {
+    option(alloc, name, value)
+        .help(help)
+        .required(true)
+        .action(ArgAction::Set)
+}
+
+/// The options of `serve`.
+pub fn options<'a>(alloc: Global, command: Command<'a>) -> Result<Command<'a>, AllocError> {
+    let config = required(alloc, "config", "FILE", "The configuration, a TOML file");
+    let help = "64 hexadecimal digits, from which the identifiers of queries are drawn";
+    let key = required(alloc, "key", "HEX", help);
+    let turns = required(
+        alloc,
+        "turns",
+        "N",
+        "How many turns to serve, 1 to 4294967295",
+    )
+    .value_parser(value_parser!(u32).range(1..));
+    command.arg(config)?.arg(key)?.arg(turns)
+}
+
+/// Why a configuration gave no settings.
+#[derive(Clone, Copy, Debug, Error)]
+pub enum ConfigurationFault {
+    /// The file can't be read.
+    #[error("not readable")]
+    NotReadable,
+    /// What it says is no configuration.
+    #[error("{0}")]
+    Settings(SettingsFault),
+}
+
+/// The key that 64 hexadecimal digits spell.
+fn key_of(text: &str) -> Option<[u8; KEY_LENGTH]>
+    ensures { MatchOption result ((key : OctetList) → SpellsKey text.now key → ⊥)
+        (λ key. SpellsKey text.now key) }
+{
+    let mut key = [0u8; KEY_LENGTH];
+    match hex::decode_to_slice(text, &mut key) {
+        Ok(()) => Some(key),
+        Err(_) => None,
+    }
+}
+
+/// The first octets of a file, at most one more than a configuration has.
+fn read_start<R: Files>(rt: &R, alloc: Global, path: &str) -> io::Result<Vec<u8>> {
+    let mut octets = Vec::new(alloc);
+    fs::open(rt, path)?
+        .take(LONGEST_CONFIGURATION as u64 + 1)
+        .read_to_end(&mut octets)?;
+    Ok(octets)
+}
+
+/// What the configuration at a path says.
+pub fn settings_at<R: Files>(
+    rt: &R,
+    alloc: Global,
+    path: &str,
+) -> Result<Settings, ConfigurationFault> {
+    match read_start(rt, alloc, path) {
+        Ok(octets) => read_settings(alloc, &octets).map_err(ConfigurationFault::Settings),
+        Err(error) if error.kind() == ErrorKind::OutOfMemory => Err(ConfigurationFault::Settings(
+            SettingsFault::OutOfMemory,
+        )),
+        Err(_) => Err(ConfigurationFault::NotReadable),
+    }
+}
+
+/// Prints what a server counted.
+pub fn print_report<O: Print>(out: &O, report: &Report) -> io::Result<()> {
+    let Report {
+        turns,
+        received,
+        sent,
+        lost,
+        faults,
+        refused,
+        short,
+    } = *report;
+    println!(out;
+        "turns {turns} received {received} sent {sent} lost {lost} faults {faults} refused {refused} short {short}"
+    )
+}
+
+/// Serves a number of turns with these settings, over any port and clock, with the words of a key.
+fn serve_new<P: Port, C: Clock>(
+    alloc: Global,
+    port: &mut P,
+    clock: &mut C,
+    settings: Settings,
+    key: [u8; KEY_LENGTH],
+    turns: u32,
+) -> Report
+    ensures { ServesNew (P.state port.old) (P.state port.new)
+        (C.moments clock.old) key turns settings result }
+{
+    let mut rng = ChaCha20Rng::from_seed(key);
+    let mut site = Site::new(alloc, settings.config);
+    serve(port, clock, &mut rng, &mut site, turns, settings.sweep)
+}
+
+/// Serves a number of turns over a socket, and prints where it listens and what it counted.
+fn serve_port<R: time::Clock + AllocGlobal, O: Print>(
+    rt: &R,
+    out: &O,
+    port: &mut UdpPort<'_, R>,
+    settings: Settings,
+    key: [u8; KEY_LENGTH],
+    turns: u32,
+) -> io::Result<()> {
+    let Addr { host, port: number } = port.address();
+    let host = Ipv4Addr::from_bits(host);
+    println!(out; "listening {host}:{number}")?;
+    let mut clock = SystemClock::new(rt);
+    let report = serve_new(rt.alloc(), port, &mut clock, settings, key, turns);
+    port.finish();
+    print_report(out, &report)
+}
+
+/// Serves with these settings, if there are any. A fault is printed to standard error, and ends
+/// with status 1; where output fails, its error is returned.
+pub fn serve_settings<R: time::Clock + Net + AllocGlobal, O: Print + Eprint>(
+    rt: &R,
+    out: &O,
+    settings: Result<Settings, ConfigurationFault>,
+    key: [u8; KEY_LENGTH],
+    turns: u32,
+) -> io::Result<ExitCode>
+    ensures served { IsOk settings
+        → IfOk result (λ code. (code ≡ ExitCode.SUCCESS) ⊎ (code ≡ ExitCode.FAILURE)) }
+    ensures fault { IsErr settings → result ≡ Ok ExitCode.FAILURE }
+{
+    let settings = match settings {
+        Ok(settings) => settings,
+        Err(fault) => return Ok(fail(out, format_args!("config: {fault}"))),
+    };
+    let Ok(mut port) = UdpPort::bind(rt, rt, rt.alloc(), settings.listen) else {
+        return Ok(fail(out, "socket"));
+    };
+    serve_port(rt, out, &mut port, settings, key, turns)?;
+    Ok(ExitCode::SUCCESS)
+}
+
+/// Serves one site as the words say. The key is looked at before the configuration; where it is
+/// none, the status is 2.
+pub fn run_server<R: Files + time::Clock + Net + AllocGlobal, O: Print + Eprint>(
+    rt: &R,
+    out: &O,
+    words: Words<'_>,
+) -> io::Result<ExitCode>
+    ensures bad_key { ((key : OctetList) → SpellsKey words.entry.key.now key → ⊥)
+        → IsOkAnd result (λ code. exit_status code ≡ BAD_KEY) }
+    ensures with_key { (key : OctetList) → SpellsKey words.entry.key.now key
+        → IfOk result (λ code. (code ≡ ExitCode.SUCCESS) ⊎ (code ≡ ExitCode.FAILURE)) }
+{
+    match key_of(words.key) {
+        Some(key) => {
+            let settings = settings_at(rt, rt.alloc(), words.config);
+            serve_settings(rt, out, settings, key, words.turns)
+        }
+        None => {
+            let _ = eprintln!(out; "dnsfleet: key: 64 hexadecimal digits wanted");
+            Ok(ExitCode::from(BAD_KEY))
+        }
+    }
+}
