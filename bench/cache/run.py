@@ -14,6 +14,10 @@ HERE = pathlib.Path(__file__).resolve().parent
 TOP = HERE.parent.parent
 BELOW = ["fleet_name", "fleet_wire", "fleet_observe", "fleet_front", "fleet_cache"]
 
+# Beside what a cache is filled with when its longest take is looked for: nothing; one name with so many records, of which one
+# ends each second; so many names of a hundred labels that have ended, where a flush is noted.
+BESIDE = (("forged", 0), ("forged", 40_000), ("deep", 20_000))
+
 
 def build(folder):
     """Builds both programs in the folder."""
@@ -54,15 +58,17 @@ def least(program, mode, items, rounds, times):
     return min(seconds for seconds, _ in results), min(memory for _, memory in results)
 
 
-def pause(program, mode, items, times):
-    """The least of the milliseconds that the program says a purge took, a flush, or the longest purge behind one."""
-    words = [str(program), mode, str(items), "1"]
+def pause(program, mode, items, times, rounds=1):
+    """The least of the milliseconds that the program says a purge took, a flush, the longest purge behind one, or the longest
+    take."""
+    words = [str(program), mode, str(items), str(rounds)]
     said = [subprocess.run(words, capture_output=True, text=True, check=True).stdout for _ in range(times)]
     return f"{min(int(text) for text in said) / 1000:.2f}"
 
 
-def figures(program, items, times, flushes):
-    """Microseconds a take and an answer, octets an item, milliseconds of the two purges, a flush, and a purge behind it."""
+def figures(program, items, times, is_cache):
+    """Microseconds a take and an answer, octets an item, milliseconds of the two purges, a flush, a purge behind it, and the
+    longest takes."""
     rounds = max(1, 1_000_000 // items)
     made, _ = least(program, "make", items, 1, times)
     taken, memory = least(program, "take", items, 1, times)
@@ -75,10 +81,13 @@ def figures(program, items, times, flushes):
         f"{(answered - asked) / (items * rounds) * 1e6:.2f}",
     ]
     if items < 100_000:
-        return row + ["-", "-", "-", "-", "-"]
+        return row + ["-"] * (5 + len(BESIDE))
     row.append(f"{(memory - base) / (items - half):.0f}")
     row += [pause(program, mode, items, times) for mode in ("purge", "all")]
-    return row + [pause(program, mode, items, times) if flushes else "-" for mode in ("flush", "behind")]
+    if not is_cache:
+        return row + ["-"] * (2 + len(BESIDE))
+    row += [pause(program, mode, items, times) for mode in ("flush", "behind")]
+    return row + [pause(program, mode, items, times, rounds) for mode, rounds in BESIDE]
 
 
 def main():
@@ -89,8 +98,11 @@ def main():
     resource.setrlimit(resource.RLIMIT_CORE, (0, 0))
     with tempfile.TemporaryDirectory() as name:
         ours, theirs = build(pathlib.Path(name))
-        print("| items | | us a take | us an answer | octets an item | ms a purge, few | ms a purge, all | ms a flush | ms a purge behind it |")
-        print("|---|---|---|---|---|---|---|---|---|")
+        print(
+            "| items | | us a take | us an answer | octets an item | ms a purge, few | ms a purge, all | ms a flush "
+            "| ms a purge behind it | ms a take | ms a take, forged | ms a take, deep |"
+        )
+        print("|---" * 12 + "|")
         for items in (int(word) for word in words.items.split(",")):
             for title, program in (("cache", ours), ("std::map", theirs)):
                 row = figures(program, items, words.times, program == ours)

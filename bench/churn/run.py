@@ -208,9 +208,10 @@ def report(name, options, folder, live, ttls):
         print(f"\ndnsmasq: it holds {DNSMASQ_NAMES} names at most, and {live} live")
         return
     fill = max(1, round(live / options.rate))
-    servers, _, last, _ = measure(name, options, folder, round(live / fill), fill, [HOUR], fill)
+    servers, _, last, told = measure(name, options, folder, round(live / fill), fill, [HOUR], fill)
+    sent, lost, other, *_ = told
     held = ", ".join(f"{server} {memory:.0f} MiB" for server, memory in zip(servers, last))
-    print(f"\n{held} with {live} names that live for an hour\n")
+    print(f"\n{held} with {sent - lost - other:.0f} names that live for an hour, of {live} that were asked for\n")
     servers, rows, _, told = measure(name, options, folder, options.rate, options.seconds, ttls, options.every)
     sent, lost, other, rate, slowest, mean = told
     print("| Seconds | " + " | ".join(f"{server} MiB" for server in servers) + " |")

@@ -1,12 +1,12 @@
 -- How many observations of one key are undominated.
-use Rattle.std.proofs.Common.{◌≡◌, ℕ, ◌+◌, ◌*◌, ◌<◌, ◌≤◌, Bool, true, false, ◌&&◌, nat_eq, nat_le, nat_lt, List, [], ◌∷◌, ◌⊎◌, inl, inr, length, refl, sym, ap, ◌∙◌, subst, arith}
+use Rattle.std.proofs.Common.{◌≡◌, ℕ, ◌+◌, ◌*◌, ◌<◌, ◌≤◌, Bool, true, false, ◌&&◌, nat_eq, nat_le, nat_lt, List, [], ◌∷◌, inl, inr, length, refl, sym, ap, ◌∙◌, arith}
 use mathlib.Core.Bool.{false≢true}
 use Rattle.std.specs.List.{filter}
 use Rattle.std.specs.Cmp.{Equal-is}
-use Rattle.std.specs.Ordering.{nat_cmp, ordering_then, is_eq}
+use Rattle.std.specs.Ordering.{nat_cmp, ordering_then}
 use Rattle.std.specs.declared.cmp.Ordering.{Ordering}
 use Rattle.std.specs.declared.cmp.Ordering.TheVariants.{Less, Equal, Greater}
-use Rattle.std.proofs.lemmas.Bool.{cases_Bool, cases_eq, and_parts, and_from}
+use Rattle.std.proofs.lemmas.Bool.{cases_Bool, cases_eq, and_parts}
 use Rattle.std.proofs.lemmas.Bool.Decides.{nat_tests}
 use Rattle.std.proofs.lemmas.Cmp.{tied_itself, nat_cmp_total, nat_list_cmp_total}
 use Rattle.std.proofs.lemmas.Map.Lookups.{exact_bytes}
@@ -22,8 +22,8 @@ use Rattle.fleet_cache.specs.steps.Held.{IsHeld}
 use Rattle.fleet_cache.specs.steps.Orders.{over_to}
 use Rattle.fleet_cache.specs.steps.Rounds.{count}
 use Rattle.fleet_cache.proofs.Counting.{count_none}
-use Rattle.fleet_cache.proofs.Caches.{cached_itself, item_of_set}
-use Rattle.fleet_cache.proofs.SameKeys.{HasKeyOf, key_parts}
+use Rattle.fleet_cache.proofs.Caches.{cached_itself}
+use Rattle.fleet_cache.proofs.SameKeys.{key_parts}
 
 less_not_greater : (o : Ordering) → o ≡ Less → o ≡ Greater → ⊥
 less_not_greater o l g = let no : Less ≡ Greater = sym l ∙ g in cc

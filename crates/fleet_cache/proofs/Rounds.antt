@@ -1,24 +1,23 @@
 -- What rounds of takes leave in memory.
-use Rattle.std.proofs.Common.{◌≡◌, ℕ, ◌+◌, ◌-◌, ◌*◌, ◌<◌, ◌≤◌, min, Bool, true, false, not, ◌||◌, List, [], ◌∷◌, ◌⊎◌, inl, inr, length, nat_lt, nat_le, nat_eq, refl, sym, ap, ◌∙◌, subst, arith}
+use Rattle.std.proofs.Common.{◌≡◌, ℕ, zero, suc, ◌+◌, ◌-◌, ◌*◌, ◌<◌, ◌≤◌, min, Bool, true, false, not, List, [], ◌∷◌, ◌⊎◌, inl, inr, length, nat_le, refl, sym, ap, ◌∙◌, subst, arith}
 use mathlib.Core.Bool.{false≢true}
 use Rattle.std.specs.Ordering.{is_lt, ordering_reverse}
 use Rattle.fleet_name.specs.Name.{wire}
 use Rattle.std.specs.declared.cmp.Ordering.{Ordering}
 use Rattle.std.specs.declared.cmp.Ordering.TheVariants.{Less, Equal, Greater}
-use Rattle.std.proofs.lemmas.Bool.{cases_Bool, cases_eq}
+use Rattle.std.proofs.lemmas.Bool.{cases_Bool}
 use Rattle.std.proofs.lemmas.Bool.Decides.{nat_tests}
 use Rattle.std.proofs.lemmas.Cmp.{tied_itself}
 use Rattle.fleet_observe.specs.Members.{Has}
 use Rattle.fleet_observe.specs.Observation.{ObservationData, expires}
 use Rattle.fleet_observe.specs.Preference.{octets_cmp}
 use Rattle.fleet_cache.specs.Live.{lasts}
-use Rattle.fleet_cache.specs.Front.{IsDescending, IsFront}
 use Rattle.fleet_cache.specs.Dominates.{dominates}
-use Rattle.fleet_cache.specs.Cached.{item_order, IsCovered}
+use Rattle.fleet_cache.specs.Cached.{item_order}
 use Rattle.fleet_cache.specs.steps.Held.{IsHeld, IsTaken}
 use Rattle.fleet_cache.specs.steps.Packed.{words_of}
 use Rattle.fleet_cache.specs.steps.Reclaimed.{StaysIn, AllLive, turn, ComesBefore, IsPassed, IsPassedAt, StopsAfter, IsReclaimed}
-use Rattle.fleet_cache.specs.steps.Rounds.{count, is_ahead, may_stay, IsRound, IsBounded, MemoryData, new_memory, AreBehindCalls, MemoryFollows, HasGone, HasSoonest}
+use Rattle.fleet_cache.specs.steps.Rounds.{count, is_ahead, may_stay, IsRound, IsBounded, LeavesFew, MemoryData, new_memory, KeepsBounds, IsPurged, AreBehindCalls, AreNext, MemoryFollows, MemoryFalls, HasGone, HasSoonest}
 use Rattle.fleet_cache.proofs.Places.{place_laws}
 use Rattle.fleet_cache.proofs.Turns.{start_ahead, ahead_to, ahead_from, order, come_after, not_after_itself, turn_exact}
 use Rattle.fleet_cache.proofs.Beats.{live_parts}
@@ -54,20 +53,18 @@ stay_parts floor at o may = elim (cases_Bool (lasts floor o)) [
   ]
 ]
 
-module _ (most floor : ℕ) (items : List ObservationData) (at : List ℕ) where
+module _ (most begun floor : ℕ) (items : List ObservationData) (at : List ℕ) where
   -- how many there are
-  pub bounded_within : (owed : ℕ) → IsBounded most floor items at owed
-      → length items ≤ 2 * most + 33
-  bounded_within owed b = let r = b.0 in omega (arith, r.began, r.ahead, r.all, b.1)
+  pub bounded_within : (owed : ℕ) → IsBounded most begun floor items at owed
+      → 3 * length items ≤ 4 * begun + 31
+  bounded_within owed b = let r = b.0 in omega (arith, r.ahead, r.all, b.1)
 
   -- some of them at a later floor, as counts say
   pub round_less : (left later : ℕ) (new : List ObservationData) → floor ≤ later
       → ((p : ObservationData → Bool) → count p new ≤ count p items) → length new ≤ length items
-      → IsRound most floor items at left → IsRound most later new at left
+      → IsRound most begun floor items at left → IsRound most begun later new at left
   round_less left later new le fewer size r = record {
-    start = r.start;
     kept = r.kept;
-    began = r.began;
     stays =
         let first : count (may_stay later at) new ≤ count (may_stay floor at) new =
         count_sub (may_stay later at) (may_stay floor at) new (λ o h may. elim (stay_parts later at o may) [
@@ -84,12 +81,10 @@ module _ (most floor : ℕ) (items : List ObservationData) (at : List ℕ) where
   -- one more came in
   pub round_more : (new : List ObservationData)
       → ((p : ObservationData → Bool) → count p new ≤ count p items + 1)
-      → length new ≤ length items + 1 → (owed : ℕ) → IsBounded most floor items at owed
-      → IsRound most floor new at (owed + 4)
+      → length new ≤ length items + 1 → (owed : ℕ) → IsBounded most begun floor items at owed
+      → IsRound most begun floor new at (owed + 4)
   round_more new more size owed b = let r = b.0 in record {
-    start = r.start;
     kept = r.kept + 1;
-    began = r.began;
     stays = let then = more (may_stay floor at) in omega (arith, then, r.stays);
     ahead = let then = more (is_ahead at) in omega (arith, then, r.ahead);
     paid = omega (arith, r.ahead, b.1);
@@ -98,20 +93,18 @@ module _ (most floor : ℕ) (items : List ObservationData) (at : List ℕ) where
 
   -- nothing has ended
   pub round_unended : ((o : ObservationData) → Has items o → floor < expires o)
-      → count (lasts floor) items ≤ most → IsBounded most floor items at 0
-  round_unended ends few =
+      → count (lasts floor) items ≤ most → most ≤ begun → IsBounded most begun floor items at 0
+  round_unended ends few enough =
       let all : count (lasts floor) items ≡ length items =
       count_all (lasts floor) items (λ o h. later_to floor (expires o) (ends o h)) in
       let stay = count_most (may_stay floor at) items in
       let ahead = count_most (is_ahead at) items in (
         record {
-          start = length items;
           kept = 0;
-          began = omega (arith, all, few);
           stays = omega (arith, stay, all, few);
-          ahead = omega (arith, ahead);
+          ahead = omega (arith, ahead, all, few, enough);
           paid = omega arith;
-          all = omega arith;
+          all = omega (arith, all, few, enough);
         },
         omega arith,
       )
@@ -122,11 +115,9 @@ module _ (most floor : ℕ) (items : List ObservationData) (at : List ℕ) where
       → ((o : ObservationData) → Has new o → is_ahead at o ≡ true → is_ahead to o ≡ false
       → floor < expires o)
       → count (is_ahead to) items + left ≤ count (is_ahead at) items + rest
-      → IsRound most floor items at left → IsRound most floor new to rest
+      → IsRound most begun floor items at left → IsRound most begun floor new to rest
   round_on left rest to new fewer size ends looked r = record {
-    start = r.start;
     kept = r.kept;
-    began = r.began;
     stays =
         let first : count (may_stay floor to) new ≤ count (may_stay floor at) new =
         count_sub (may_stay floor to) (may_stay floor at) new (λ o h may. elim (stay_parts floor to o may) [
@@ -143,42 +134,44 @@ module _ (most floor : ℕ) (items : List ObservationData) (at : List ℕ) where
     all = omega (arith, size, r.all);
   }
 
-  -- the round came to all of them
-  pub round_ends : (left : ℕ)
+  -- the round came to all of them, and leaves few
+  pub round_few : (left : ℕ)
       → ((o : ObservationData) → Has items o → is_ahead at o ≡ true → floor < expires o)
-      → count (lasts floor) items ≤ most → IsRound most floor items at left
-      → IsBounded most floor items [] 0
-  round_ends left ends few r =
+      → IsRound most begun floor items at left → 3 * length items ≤ 3 * most + begun + 34
+  round_few left ends r =
       let all : count (may_stay floor at) items ≡ length items =
       count_all (may_stay floor at) items (λ o h. elim (cases_Bool (is_ahead at o)) [
         | inl yea ↦ stay_unended floor at o (ends o h yea)
         | inr nay ↦ stay_come floor at o nay
       ]) in
-      let stay : count (may_stay floor []) items ≤ count (lasts floor) items =
-      count_sub (may_stay floor []) (lasts floor) items (λ o h may. elim (stay_parts floor [] o may) [
-        | inl ends ↦ later_to floor (expires o) ends
-        | inr come ↦ absurd (start_ahead o come)
-      ]) in
-      let ahead = count_most (is_ahead []) items in (
-        record {
-          start = length items;
-          kept = 0;
-          began = omega (arith, all, r.began, r.stays, r.paid);
-          stays = omega (arith, stay, few);
-          ahead = omega (arith, ahead);
-          paid = omega arith;
-          all = omega arith;
-        },
-        omega arith,
-      )
+      omega (arith, all, r.stays, r.paid)
+
+-- at its start a round has yet to come to all
+pub round_begins : (most begun floor : ℕ) (items : List ObservationData) (owed : ℕ)
+    → count (lasts floor) items ≤ most → length items ≤ begun → owed < 32
+    → IsBounded most begun floor items [] owed
+round_begins most begun floor items owed few size less =
+    let stay : count (may_stay floor []) items ≤ count (lasts floor) items =
+    count_sub (may_stay floor []) (lasts floor) items (λ o h may. elim (stay_parts floor [] o may) [
+      | inl ends ↦ later_to floor (expires o) ends
+      | inr come ↦ absurd (start_ahead o come)
+    ]) in
+    let ahead = count_most (is_ahead []) items in (
+      record {
+        kept = 0;
+        stays = omega (arith, stay, few);
+        ahead = omega (arith, ahead, size);
+        paid = omega arith;
+        all = omega (arith, size);
+      },
+      less,
+    )
 
 -- at no items
-pub round_none : (most floor : ℕ) (at : List ℕ) → IsBounded most floor [] at 0
-round_none most floor at = (
+pub round_none : (most begun floor : ℕ) (at : List ℕ) → IsBounded most begun floor [] at 0
+round_none most begun floor at = (
   record {
-    start = 0;
     kept = 0;
-    began = omega arith;
     stays = omega arith;
     ahead = omega arith;
     paid = omega arith;
@@ -198,11 +191,13 @@ pub reclaimed_fewer : (m : ℕ) (items rest : List ObservationData) → IsHeld r
 reclaimed_fewer m items rest held r p =
     count_within item_order apart p rest items held.front.descending r.of_items
 
-pub bounded_reclaimed : (most floor m : ℕ) (items rest : List ObservationData) (at : List ℕ) (owed : ℕ)
-    → floor ≤ m → IsHeld rest → IsReclaimed m items rest → IsBounded most floor items at owed
-    → IsBounded most m rest at owed
-bounded_reclaimed most floor m items rest at owed le held r b =
-    (round_less most floor items at owed m rest le (reclaimed_fewer m items rest held r) r.size b.0, b.1)
+pub bounded_reclaimed : (most begun floor m : ℕ) (items rest : List ObservationData) (at : List ℕ)
+    (owed : ℕ) → floor ≤ m → IsHeld rest → IsReclaimed m items rest
+    → IsBounded most begun floor items at owed → IsBounded most begun m rest at owed
+bounded_reclaimed most begun floor m items rest at owed le held r b = (
+  round_less most begun floor items at owed m rest le (reclaimed_fewer m items rest held r) r.size b.0,
+  b.1,
+)
 
 pub unended_within : (soonest passed : ℕ) (at : List ℕ) (items rest : List ObservationData)
     → ((o : ObservationData) → Has rest o → Has items o) → HasSoonest soonest passed at items
@@ -347,17 +342,27 @@ module _ (floor : ℕ) (items new : List ObservationData) (at to : List ℕ) (wa
   }
 
   -- the round as it goes on
-  pub round_goes : (most left rest : ℕ) → count (is_ahead to) items + left ≤ count (is_ahead at) items + rest
-      → IsRound most floor items at left → IsRound most floor new to rest
-  round_goes most left rest looked r = round_on most floor items at left rest to new gone.fewer
+  pub round_goes : (most begun left rest : ℕ)
+      → count (is_ahead to) items + left ≤ count (is_ahead at) items + rest
+      → IsRound most begun floor items at left → IsRound most begun floor new to rest
+  round_goes most begun left rest looked r = round_on most begun floor items at left rest to new gone.fewer
       gone.reclaimed.size (λ o h ahead come. (gone.come o h ahead (inr come)).0) looked r
 
+  -- what it leaves where it is at the end
+  pub round_over : (most begun left : ℕ) → to ≡ [] → IsRound most begun floor items at left
+      → 3 * length new ≤ 3 * most + begun + 34
+  round_over most begun left none r =
+      round_few most begun floor new at left (λ o h ahead. (gone.come o h ahead (inl none)).0)
+      (round_less most begun floor items at left floor new (omega arith) gone.fewer gone.reclaimed.size r)
+
   -- and the next one
-  pub round_next : (most left : ℕ) → to ≡ [] → count (lasts floor) new ≤ most
-      → IsRound most floor items at left → IsBounded most floor new to 0
-  round_next most left none few r = subst (λ w. IsBounded most floor new w 0) (sym none)
-      (round_ends most floor new at left (λ o h ahead. (gone.come o h ahead (inl none)).0) few
-      (round_less most floor items at left floor new (omega arith) gone.fewer gone.reclaimed.size r))
+  pub round_next : (most begun left : ℕ) → to ≡ [] → count (lasts floor) new ≤ most
+      → 3 * most + 34 ≤ 2 * begun → IsRound most begun floor items at left
+      → IsBounded most begun floor new to 0
+  round_next most begun left none few enough r =
+      let over = round_over most begun left none r in
+      subst (λ w. IsBounded most begun floor new w 0) (sym none)
+      (round_begins most begun floor new 0 few (omega (arith, over, enough)) (omega arith))
 
 -- a step behind others
 pub reclaimed_on : (m : ℕ) (first items new : List ObservationData) → IsReclaimed m first items
@@ -390,29 +395,78 @@ looked_on items at to left some rest stops (inr looked) is = elim (stops_before 
   | inr one ↦ inr (omega (arith, is, one, looked))
 ]
 
+-- one call
+bounded_step : (m n : MemoryData) (most begun : ℕ) → 3 * most + 34 ≤ 2 * begun
+    → KeepsBounds m n ⊎ (IsPurged m n ⊎ (n ≡ new_memory)) → count (lasts n.floor) n.items ≤ most
+    → IsBounded most begun m.floor m.items m.at m.owed
+    → IsBounded most begun n.floor n.items n.at n.owed × LeavesFew most begun m.at n.items n.at
+bounded_step m n most begun enough (inl keeps) few bounded = keeps most begun enough bounded few
+bounded_step m n most begun enough (inr (inl purged)) few bounded = (
+  rw (purged.stands, purged.owes)
+      (bounded_reclaimed most begun m.floor n.floor m.items n.items m.at m.owed purged.floor
+      purged.held purged.reclaimed bounded),
+  λ e. inl (sym purged.stands ∙ e),
+)
+bounded_step m n most begun enough (inr (inr none)) few bounded = (
+  subst (λ v. IsBounded most begun v.floor v.items v.at v.owed) (sym none) (round_none most begun 0 []),
+  λ e. inr (subst (λ v. 3 * length v.items ≤ 3 * most + begun + 34) (sym none) (omega arith)),
+)
+
 -- behind each call of a list
-bounded_behind : (m : MemoryData) (ns : List MemoryData) (most : ℕ) → AreBehindCalls m ns
+bounded_behind : (m : MemoryData) (ns : List MemoryData) (most begun : ℕ) → 3 * most + 34 ≤ 2 * begun
+    → AreBehindCalls m ns
     → ((n : MemoryData) → Has ns n → count (lasts n.floor) n.items ≤ most)
-    → IsBounded most m.floor m.items m.at m.owed → (n : MemoryData) → Has ns n
-    → IsBounded most n.floor n.items n.at n.owed
-bounded_behind m [] most calls few bounded n h = absurd h
-bounded_behind m (first ∷ ns) most calls few bounded n h =
-    let next : IsBounded most first.floor first.items first.at first.owed = elim calls.0 [
-      | inl keeps ↦ keeps most bounded (few first (inl refl))
-      | inr others ↦ elim others [
-        | inl purged ↦ rw (purged.stands, purged.owes)
-            (bounded_reclaimed most m.floor first.floor m.items first.items m.at m.owed purged.floor
-            purged.held purged.reclaimed bounded)
-        | inr none ↦ subst (λ v. IsBounded most v.floor v.items v.at v.owed) (sym none)
-            (round_none most 0 [])
-      ]
-    ] in
+    → IsBounded most begun m.floor m.items m.at m.owed → (n : MemoryData) → Has ns n
+    → IsBounded most begun n.floor n.items n.at n.owed
+bounded_behind m [] most begun enough calls few bounded n h = absurd h
+bounded_behind m (first ∷ ns) most begun enough calls few bounded n h =
+    let next = (bounded_step m first most begun enough calls.0 (few first (inl refl)) bounded).0 in
     elim h [
-      | inl here ↦ subst (λ v. IsBounded most v.floor v.items v.at v.owed) here next
-      | inr far ↦ bounded_behind first ns most calls.1 (λ k g. few k (inr g)) next n far
+      | inl here ↦ subst (λ v. IsBounded most begun v.floor v.items v.at v.owed) here next
+      | inr far ↦ bounded_behind first ns most begun enough calls.1 (λ k g. few k (inr g)) next n far
     ]
+
+-- and from each memory to the next one
+leaves_behind : (m : MemoryData) (ns : List MemoryData) (most begun : ℕ) → 3 * most + 34 ≤ 2 * begun
+    → AreBehindCalls m ns
+    → ((n : MemoryData) → Has ns n → count (lasts n.floor) n.items ≤ most)
+    → IsBounded most begun m.floor m.items m.at m.owed → (k n : MemoryData) → AreNext (m ∷ ns) k n
+    → LeavesFew most begun k.at n.items n.at
+leaves_behind m [] most begun enough calls few bounded k n next = absurd next
+leaves_behind m (first ∷ ns) most begun enough calls few bounded k n next =
+    let step = bounded_step m first most begun enough calls.0 (few first (inl refl)) bounded in
+    elim next [
+      | inl here ↦ subst (λ v. LeavesFew most begun v.at n.items n.at) here.0
+          (subst (λ v. LeavesFew most begun m.at v.items v.at) here.1 step.1)
+      | inr far ↦ leaves_behind first ns most begun enough calls.1 (λ j g. few j (inr g)) step.0 k n far
+    ]
+
+-- a bound that is wide enough, and no wider than it has to be
+half_up : (k : ℕ) → (b : ℕ) × (k ≤ 2 * b) × (2 * b ≤ k + 1)
+half_up zero = (0, omega arith, omega arith)
+half_up (suc zero) = (1, omega arith, omega arith)
+half_up (suc (suc k)) = let h = half_up k in
+    let low = h.1 in let high = h.2 in (h.0 + 1, omega (arith, low), omega (arith, high))
 
 pub follows : MemoryFollows
 follows ns most calls few n h =
-    bounded_within most n.floor n.items n.at n.owed
-    (bounded_behind new_memory ns most calls few (round_none most 0 []) n h)
+    let half = half_up (3 * most + 34) in
+    let low = half.1 in
+    let high = half.2 in
+    let within = bounded_within most half.0 n.floor n.items n.at n.owed
+    (bounded_behind new_memory ns most half.0 low calls few (round_none most half.0 0 []) n h) in
+    omega (arith, within, high)
+
+pub falls : MemoryFalls
+falls m ns most begun start less calls few size enough =
+    let begins : IsBounded most begun m.floor m.items m.at m.owed =
+    subst (λ w. IsBounded most begun m.floor m.items w m.owed) (sym start)
+    (round_begins most begun m.floor m.items m.owed (few m (inl refl)) size less) in (
+      λ n h. bounded_within most begun n.floor n.items n.at n.owed
+          (bounded_behind m ns most begun enough calls (λ j g. few j (inr g)) begins n h),
+      λ k n next left back. elim (leaves_behind m ns most begun enough calls (λ j g. few j (inr g)) begins
+          k n next back) [
+            | inl none ↦ absurd (left none)
+            | inr there ↦ there
+          ],
+    )

@@ -32,7 +32,7 @@ pub use cut::Cut;
 pub use item::Item;
 pub use items::Items;
 pub use laws::{
-    answers_are_paths, caches_exist, dominance, keys_hold_few, memory_follows, merges, one_answer,
-    one_cache, tests_hold, worked_rows,
+    answers_are_paths, caches_exist, dominance, keys_hold_few, memory_falls, memory_follows,
+    merges, one_answer, one_cache, tests_hold, worked_rows,
 };
 pub use shown::Shown;

@@ -1,13 +1,13 @@
 //! Dropping what has ended, behind what is taken in: so the memory follows what lives at any rate.
 
-ghost use Rattle.std.specs.Prelude.{◌≡◌, ◌<◌, ◌≤◌, ◌+◌, ◌-◌, ◌⊎◌, ℕ, [], vec_capacity, min, IfOk, OnOk, OnErr};
+ghost use Rattle.std.specs.Prelude.{◌≡◌, ◌<◌, ◌≤◌, ◌+◌, ◌-◌, ◌*◌, ◌⊎◌, ℕ, [], vec_capacity, min, IfOk, OnOk, OnErr};
 ghost use Rattle.fleet_observe.specs.Observation.{Observations};
 ghost use Rattle.fleet_cache.specs.Cached.{IsCovered};
 ghost use Rattle.fleet_cache.specs.Live.{lasts};
 ghost use Rattle.fleet_cache.specs.declared.words.TheConstants.{MOST_WORDS};
 ghost use Rattle.fleet_cache.specs.steps.Held.{IsHeld, IsTaken};
 ghost use Rattle.fleet_cache.specs.steps.Reclaimed.{IsReclaimed};
-ghost use Rattle.fleet_cache.specs.steps.Rounds.{count, is_ahead, HasSoonest, HasGone, IsRound, IsBounded, KeepsBounds};
+ghost use Rattle.fleet_cache.specs.steps.Rounds.{count, is_ahead, HasSoonest, HasGone, IsRound, IsBounded, LeavesFew, KeepsBounds};
 
 use crate::held::Held;
 use crate::reclaim::{Cursor, trim};
@@ -84,10 +84,11 @@ impl<A: Allocator> Round<A> {
         ensures reclaimed { IsReclaimed floor held.old held.new }
         ensures unended { HasSoonest self.new.soonest self.new.soonest_passed self.new.cursor.key.items
             held.new }
-        ensures bounded { (most : ℕ)
-            → IsRound most floor held.old self.old.cursor.key.items self.old.owed
+        ensures bounded { (most begun : ℕ) → 3 * most + 34 ≤ 2 * begun
+            → IsRound most begun floor held.old self.old.cursor.key.items self.old.owed
             → self.old.owed ≤ 35 → count (lasts floor) held.new ≤ most
-            → IsBounded most floor held.new self.new.cursor.key.items self.new.owed }
+            → IsBounded most begun floor held.new self.new.cursor.key.items self.new.owed
+            × LeavesFew most begun self.old.cursor.key.items held.new self.new.cursor.key.items }
     {
         if self.owed < BATCH {
             return;
@@ -138,7 +139,8 @@ impl<A: Allocator> Round<A> {
 /// the round goes on. `Err` where an allocation fails; nothing changes.
 ///
 /// While at no time more than `most` observations in memory have not ended, there are at most twice
-/// as many in memory, and 33.
+/// as many in memory, and 33; and a round that ends leaves at most `most`, a third of what there was
+/// when it began, and eleven.
 pub(crate) fn take_in<A: Allocator + Copy>(
     held: &mut Held<A>,
     round: &mut Round<A>,

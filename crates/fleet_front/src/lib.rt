@@ -109,6 +109,7 @@ impl<T: Ranked, A: Allocator> Front<T, A> {
         ensures items { self.new ≡ without_hidden T.hidden cut.now self.old }
     {
         keep_shown(&mut self.items, cut);
+        give_room_back(&mut self.items);
     }
 
     /// The greatest value of the set that the cut does not hide, if there is one.
@@ -168,6 +169,16 @@ fn keep_shown<T: Ranked, A: Allocator>(items: &mut Vec<T, A>, cut: &T::Cut)
             ensures { result ≡ not (T.hidden cut.entry.now held.now) }
         { !held.hidden(cut) },
     );
+}
+
+/// Gives room back where less than a quarter of it is used: as much as is used stays once more. Where
+/// the smaller room can't be allocated, all of it stays.
+fn give_room_back<T: Ranked, A: Allocator>(items: &mut Vec<T, A>)
+    ensures { items.new.items ≡ items.old.items }
+{
+    if items.len() < items.capacity() / 4 {
+        items.shrink_to(items.len().saturating_mul(2));
+    }
 }
 
 /// The first item that the cut does not hide.

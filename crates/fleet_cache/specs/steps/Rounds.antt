@@ -1,5 +1,5 @@
 -- How much of what has ended is in memory, beside what has not.
--- Serves `Cache::take`, where it frees memory, and the law `memory_follows`.
+-- Serves `Cache::take`, where it frees memory, and the laws `memory_follows` and `memory_falls`.
 use Rattle.std.specs.Prelude.{◌≡◌, ◌⊎◌, ℕ, ◌+◌, ◌*◌, ◌<◌, ◌≤◌, Bool, true, false, ◌||◌, not, List, [], ◌∷◌, length}
 use Rattle.std.specs.List.{filter}
 use Rattle.std.specs.Ordering.{is_lt}
@@ -24,24 +24,25 @@ is_ahead at o = is_lt (octets_cmp (turn at) (turn (words_of o)))
 abbrev pub may_stay : Seconds → List ℕ → ObservationData → Bool
 may_stay floor at o = lasts floor o || not (is_ahead at o)
 
--- A round stands at the key with the words `at`, and owes `left` looks. It began with some `start` in
--- memory, and some `kept` came in since, with which the bound goes on: at no time did more than `most`
--- observations in memory last beyond the floor.
-pub record IsRound (most : ℕ) (floor : Seconds) (items : Observations) (at : List ℕ) (left : ℕ)
+-- A round stands at the key with the words `at`, and owes `left` looks. It began with at most `begun` in
+-- memory, and some `kept` came in since. At no time since did more than `most` observations in memory last
+-- beyond the floor.
+pub record IsRound (most begun : ℕ) (floor : Seconds) (items : Observations) (at : List ℕ) (left : ℕ)
     : Type 0 where
-  pub start : ℕ
   pub kept : ℕ
-  pub began : 2 * start ≤ 3 * most + 34
   pub stays : count (may_stay floor at) items ≤ most + kept
-  pub ahead : count (is_ahead at) items + 3 * kept ≤ start + left
-  pub paid : 3 * kept ≤ start + 34
-  pub all : length items ≤ start + kept
+  pub ahead : count (is_ahead at) items + 3 * kept ≤ begun + left
+  pub paid : 3 * kept ≤ begun + 34
+  pub all : length items ≤ begun + kept
 
--- What is in memory is within the bound of `most`, and stays so while at no time more than `most` observations
--- in memory have not ended. It is at most twice as many, and 33. The round owes fewer looks than
--- are made at a time.
-abbrev pub IsBounded : ℕ → Seconds → Observations → List ℕ → ℕ → Type 0
-IsBounded most floor items at owed = IsRound most floor items at owed × (owed < 32)
+-- such a round, which owes fewer looks than are made at a time
+abbrev pub IsBounded : ℕ → ℕ → Seconds → Observations → List ℕ → ℕ → Type 0
+IsBounded most begun floor items at owed = IsRound most begun floor items at owed × (owed < 32)
+
+-- where a round that had left its start came back to it, `most` are left at most, a third of `begun`, and eleven
+abbrev pub LeavesFew : ℕ → ℕ → List ℕ → Observations → List ℕ → Type 0
+LeavesFew most begun at items to = to ≡ []
+    → (at ≡ []) ⊎ (3 * length items ≤ 3 * most + begun + 34)
 
 -- the memory of a cache: its floor, the observations in it, the words of the key at which the round of
 -- takes stands, and how many fronts it owes a look
@@ -55,10 +56,11 @@ pub record MemoryData : Type 0 where
 abbrev pub new_memory : MemoryData
 new_memory = record { floor = 0; items = []; at = []; owed = 0 }
 
--- a call keeps to each bound that it finds, if what has not ended behind it does
+-- a call keeps to each bound that is wide enough for what lasts behind it, and a round that ends leaves few
 abbrev pub KeepsBounds : MemoryData → MemoryData → Type 0
-KeepsBounds m n = (most : ℕ) → IsBounded most m.floor m.items m.at m.owed
-    → count (lasts n.floor) n.items ≤ most → IsBounded most n.floor n.items n.at n.owed
+KeepsBounds m n = (most begun : ℕ) → 3 * most + 34 ≤ 2 * begun
+    → IsBounded most begun m.floor m.items m.at m.owed → count (lasts n.floor) n.items ≤ most
+    → IsBounded most begun n.floor n.items n.at n.owed × LeavesFew most begun m.at n.items n.at
 
 -- a purge raised the floor, and dropped nothing that lives behind it
 pub record IsPurged (m n : MemoryData) : Type 0 where
@@ -80,6 +82,24 @@ abbrev pub MemoryFollows : Type 0
 MemoryFollows = (ns : List MemoryData) (most : ℕ) → AreBehindCalls new_memory ns
     → ((n : MemoryData) → Has ns n → count (lasts n.floor) n.items ≤ most)
     → (n : MemoryData) → Has ns n → length n.items ≤ 2 * most + 33
+
+-- the second of these memories is the next one behind the first in a list
+abbrev pub AreNext : List MemoryData → MemoryData → MemoryData → Type 0
+AreNext [] k n = ⊥
+AreNext (x ∷ []) k n = ⊥
+AreNext (x ∷ y ∷ xs) k n = ((x ≡ k) × (y ≡ n)) ⊎ AreNext (y ∷ xs) k n
+
+-- From a memory whose round is at its start on: where at most `most` observations in memory have not ended
+-- then and behind each call, memory never grows by more than a third and eleven, or beyond the bound of
+-- `most`; and a round that went over all of it leaves at most `most`, a third of what there was, and eleven.
+abbrev pub MemoryFalls : Type 0
+MemoryFalls = (m : MemoryData) (ns : List MemoryData) (most begun : ℕ) → m.at ≡ [] → m.owed < 32
+    → AreBehindCalls m ns
+    → ((n : MemoryData) → Has (m ∷ ns) n → count (lasts n.floor) n.items ≤ most)
+    → length m.items ≤ begun → 3 * most + 34 ≤ 2 * begun
+    → ((n : MemoryData) → Has ns n → 3 * length n.items ≤ 4 * begun + 31)
+    × ((k n : MemoryData) → AreNext (m ∷ ns) k n → (k.at ≡ [] → ⊥) → n.at ≡ []
+    → 3 * length n.items ≤ 3 * most + begun + 34)
 
 -- The round went on from the key with the words `at` to the one with the words `to`, or to the end.
 -- What it left on its way has not ended at the floor, nor does it end before the moment `passed`.

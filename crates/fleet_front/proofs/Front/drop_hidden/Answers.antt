@@ -7,8 +7,8 @@ pub returns-clause-front : goal.returns-clause-front
 returns-clause-front g c s front =
     subst (IsFront g.T.Ranked.order g.T.Ranked.dominates (without_hidden g.T.Ranked.hidden
     c.args.cut.now s))
-    (sym (c.keep_shown.ensures ∙ ap (without_hidden g.T.Ranked.hidden c.args.cut.now)
-    c.self.view_is))
+    (sym (c.give_room_back.ensures ∙ c.keep_shown.ensures
+    ∙ ap (without_hidden g.T.Ranked.hidden c.args.cut.now) c.self.view_is))
     (front_shown g.met.T.Ranked.laws c.args.cut.now s c.args.self.now front)
 
 pub invariant_of-self : goal.invariant_of-self

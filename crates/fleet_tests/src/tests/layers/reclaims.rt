@@ -11,6 +11,7 @@ use crate::tests::layers::observations::{flush_in, moment_of, record_in};
 use crate::tests::layers::rows::Words;
 use fleet_cache::Cache;
 use fleet_observe::{Kind, LentObservation, Moment, Observation};
+use linked_list_allocator::LocalHeap;
 use rand_core::utils::NextWord;
 use rand_pcg::Pcg32;
 use std::alloc::Global;
@@ -423,17 +424,24 @@ fn flooded(rt: &impl Abort, alloc: Global, second: u64, number: u16, life: u64) 
 }
 
 /// So many names that live for a second, at each of some seconds from 101 on, more than a purge looks
-/// at. At no time live more than come in at one of them, and at most twice as many and 33 are in
-/// memory.
+/// at. At no time last more than come in at one of them and what was flushed, and at most twice as many
+/// and 33 are in memory.
 fn check_floods(rt: &impl Abort, alloc: Global, pair: &mut Pair, seconds: u64, names: u16) {
     for second in 101..seconds.saturating_add(101) {
         pair.purge(rt, alloc, second);
         for number in 0..names {
             pair.take(rt, alloc, flooded(rt, alloc, second, number, 1));
         }
-        assert!(rt; pair.count(rt, alloc) <= 2 * usize::from(names) + 33);
+        check_few(rt, alloc, pair, names);
     }
     pair.compare(rt, alloc);
+}
+
+/// Few are in memory, where so many names and each flush last.
+fn check_few(rt: &impl Abort, alloc: Global, pair: &Pair, names: u16) {
+    let lasting = usize::from(names).saturating_add(pair.plain.flushes.len());
+    let most = lasting.saturating_mul(2).saturating_add(33);
+    assert!(rt; pair.count(rt, alloc) <= most);
 }
 
 #[test]
@@ -444,27 +452,81 @@ fn takes_leave_little_that_has_ended(rt: HostRuntime) {
 }
 
 #[test]
+fn takes_beside_a_flush_leave_little_that_has_ended(rt: HostRuntime) {
+    let alloc = rt.alloc();
+    let mut pair = Pair::new(&rt, alloc);
+    pair.flush(&rt, alloc, "b");
+    check_floods(&rt, alloc, &mut pair, 3, 9000);
+}
+
+#[test]
 fn takes_begin_anew_in_a_cleared_cache(rt: HostRuntime) {
     let alloc = rt.alloc();
     let mut pair = Pair::new(&rt, alloc);
-    check_floods(&rt, alloc, &mut pair, 3, 40);
+    check_floods(&rt, alloc, &mut pair, 2, 9000);
     pair.clear(&rt, alloc);
-    check_floods(&rt, alloc, &mut pair, 3, 40);
+    check_floods(&rt, alloc, &mut pair, 2, 9000);
 }
 
+/// A cache at a second, with so many names that live for one from then on.
+fn filled(rt: &impl Abort, alloc: Global, second: u64, names: u16) -> Cache {
+    let mut cache = Cache::new(alloc);
+    for number in 0..names {
+        let observation = flooded(rt, alloc, second, number, 1);
+        cache.take(observation).expect(rt, "memory");
+    }
+    cache.purge(Moment::new(second).expect(rt, "a moment"));
+    cache
+}
+
+/// What a merge takes in drops what ended at the floor that there was before.
 #[test]
 fn takes_by_merges_go_on(rt: HostRuntime) {
     let alloc = rt.alloc();
     let mut pair = Pair::new(&rt, alloc);
-    check_floods(&rt, alloc, &mut pair, 3, 40);
-    for second in 110..113u64 {
-        let mut other = Cache::new(alloc);
-        for number in 0..40u16 {
-            other
-                .take(flooded(&rt, alloc, second, number, 2))
-                .expect(&rt, "memory");
-        }
-        other.purge(Moment::new(second).expect(&rt, "a moment"));
+    check_floods(&rt, alloc, &mut pair, 1, 9000);
+    for second in 102..105u64 {
+        pair.purge(&rt, alloc, second);
+        let other = filled(&rt, alloc, second, 9000);
         pair.merge(&rt, alloc, &other);
+        check_few(&rt, alloc, &pair, 9000);
     }
+}
+
+/// A cache over a heap takes a record of a name, which lives for a number of seconds from 100 on.
+fn take_typed<'a>(
+    rt: &impl Abort,
+    alloc: Global,
+    heap: &'a LocalHeap,
+    cache: &mut Cache<&'a LocalHeap>,
+    rtype: u16,
+    life: u32,
+) {
+    let row = format!(in alloc; "1.flood {rtype} 3 100 {life} c0000201").expect(rt, "memory");
+    let observation = record_in(rt, heap, alloc, &mut Words::new(row.as_str()));
+    cache.take(observation).expect(rt, "memory");
+}
+
+/// A name has many types for a second, and one for long: behind a purge it has little more room than
+/// before.
+fn check_room<'a>(
+    rt: &impl Abort,
+    alloc: Global,
+    heap: &'a LocalHeap,
+    cache: &mut Cache<&'a LocalHeap>,
+) {
+    take_typed(rt, alloc, heap, cache, 1000, 900);
+    let used = heap.used();
+    for rtype in 1001..2000u16 {
+        take_typed(rt, alloc, heap, cache, rtype, 1);
+    }
+    cache.purge(Moment::new(101).expect(rt, "a moment"));
+    assert!(rt; heap.used() <= used.saturating_add(512));
+}
+
+#[test]
+fn a_name_gives_back_the_room_that_it_had(rt: HostRuntime) {
+    let heap = LocalHeap::new(rt.alloc(), 1 << 20).expect(&rt, "memory");
+    let mut cache = Cache::new(&heap);
+    check_room(&rt, rt.alloc(), &heap, &mut cache);
 }

@@ -1,5 +1,5 @@
-use Rattle.std.proofs.Common.{◌≡◌, Result, Ok, Err, OnOk, OnErr, ap, subst}
-use Rattle.fleet_cache.specs.steps.Rounds.{MemoryData, KeepsBounds}
+use Rattle.std.proofs.Common.{OnOk, subst}
+use Rattle.fleet_cache.specs.steps.Rounds.{KeepsBounds}
 use Rattle.fleet_cache.proofs.memory.Memory.take.Goals as goal
 
 pub returns-clause-bounded : goal.returns-clause-bounded

@@ -1,6 +1,5 @@
-use Rattle.std.proofs.Common.{◌≡◌, ◌≤◌, ◌+◌, ◌⊎◌, List, [], ℕ, ap, subst, arith}
+use Rattle.std.proofs.Common.{ap, subst, arith}
 use Rattle.fleet_cache.specs.steps.Reclaimed.{AllLive}
-use Rattle.fleet_cache.specs.steps.Rounds.{count, is_ahead}
 use Rattle.fleet_cache.proofs.Rounds.{gone_by, gone_over, looked_on}
 use Rattle.fleet_cache.proofs.round.Round.step.Goals as goal
 use Rattle.fleet_cache.proofs.round.Round.step.Goals.{then-passed, else-passed}
