@@ -83,7 +83,7 @@ add_cases(
 
 
 class BoundsOfWaiting(Case):
-    """4095 frames wait to be sent. One more is sent at once, before all that wait."""
+    """A frame waits once for all the peers that it goes to, so that more sends wait than frames."""
 
     def first_at_the_last(self, frames, peers, pause):
         """Which frame of a sweep comes first to the last one of so many peers, or nothing where a
@@ -125,8 +125,7 @@ class BoundsOfWaiting(Case):
 add_cases(
     BoundsOfWaiting,
     [
-        ("of 273 frames to 15 peers all 4095 wait, and each peer gets the first one first", 273, 15, 0),
-        ("of 256 frames to 16 peers 4095 wait, and the last peer gets the last one first", 256, 16, 255),
+        ("of 256 frames to 16 peers all 4096 wait, and the last peer gets the first one first", 256, 16, 0),
     ],
 )
 

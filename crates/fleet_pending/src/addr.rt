@@ -1,7 +1,7 @@
 //! Addresses.
 
 /// The source or the destination of a UDP datagram.
-#[derive(Clone, Copy, Debug, PartialEq, Eq, PartialOrd, Ord)]
+#[derive(Clone, Copy, Debug, Default, PartialEq, Eq, PartialOrd, Ord)]
 pub struct Addr {
     /// The address (IPv4), its first octet highest.
     pub host: u32,

@@ -5,5 +5,4 @@ mod Addresses
 mod Apart
 mod Configurations
 mod Sockets
-mod Queues
 mod Chains

@@ -5,7 +5,6 @@ pub mod Settings
 pub mod Fleet
 pub mod Configuration
 pub mod Socket
-pub mod Queue
 pub mod Key
 pub mod Serving
 pub mod Moments

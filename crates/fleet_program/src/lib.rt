@@ -6,7 +6,6 @@ mod command;
 mod fault;
 mod fleet;
 mod help;
-mod inbox;
 mod lines;
 mod print;
 mod script;
@@ -27,7 +26,6 @@ use clap::error::ErrorKind as Mistake;
 use clap::{Command, Error};
 use fault::fail;
 pub use fault::{LineFault, ScriptFault};
-pub use inbox::Inbox;
 pub use script::run_script;
 use serve::{Words, run_server};
 pub use settings::{Settings, SettingsFault, read_settings};
@@ -38,7 +36,7 @@ use std::process::ExitCode;
 use std::rt::{Clock, Files};
 use std::{env, io};
 pub use system_clock::SystemClock;
-pub use udp_port::UdpPort;
+pub use udp_port::{SystemSocket, UdpPort, bind_port};
 
 /// The status with which words end that the program does not take.
 const BAD_WORDS: u8 = 2;

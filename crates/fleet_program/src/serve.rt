@@ -1,8 +1,9 @@
 //! The command `serve`: a site on loopback.
 
-ghost use Rattle.std.specs.Prelude.{◌≡◌, ◌⊎◌, Ok, IfOk, IsErr, IsOk, IsOkAnd, MatchOption};
+ghost use Rattle.std.specs.Prelude.{◌≡◌, ◌⊎◌, [], Ok, IfOk, IsErr, IsOk, IsOkAnd, MatchOption};
 ghost use Rattle.std.specs.Process.{exit_status};
 ghost use Rattle.fleet_name.specs.Types.{OctetList};
+ghost use Rattle.fleet_site.specs.socket.Parts.{data_of};
 ghost use Rattle.fleet_program.specs.Key.{SpellsKey};
 ghost use Rattle.fleet_program.specs.Serving.{ServesNew};
 ghost use Rattle.fleet_program.specs.declared.serve.TheConstants.{BAD_KEY};
@@ -10,10 +11,10 @@ ghost use Rattle.fleet_program.specs.declared.serve.TheConstants.{BAD_KEY};
 use crate::fault::fail;
 use crate::settings::{LONGEST_CONFIGURATION, Settings, SettingsFault, read_settings};
 use crate::system_clock::SystemClock;
-use crate::udp_port::UdpPort;
+use crate::udp_port::{UdpPort, bind_port};
 use clap::{Arg, ArgAction, ArgMatches, Command, value_parser};
 use fleet_pending::Addr;
-use fleet_site::{Clock, Port, Report, Site, serve};
+use fleet_site::{BurstPort, CallLog, Clock, Report, Site, Socket, serve_socket};
 use rand_chacha::ChaCha20Rng;
 use rand_core::SeedableRng;
 use std::alloc::{AllocError, Global};
@@ -143,21 +144,24 @@ pub fn print_report<O: Print>(out: &O, report: &Report) -> io::Result<()> {
     )
 }
 
-/// Serves a number of turns with these settings, over any port and clock, with the words of a key.
-fn serve_new<P: Port, C: Clock>(
+/// Serves a number of turns with these settings, over any socket and clock, with the words of a key,
+/// and sends all that waits then.
+fn serve_new<S: Socket + Drop, L: CallLog + Drop, C: Clock>(
     alloc: Global,
-    port: &mut P,
+    port: &mut BurstPort<S, L>,
     clock: &mut C,
     settings: Settings,
     key: [u8; KEY_LENGTH],
     turns: u32,
 ) -> Report
-    ensures { ServesNew (P.state port.old) (P.state port.new)
+    ensures run { ServesNew (L.noted port.old.log) port.old.bursts.failed (L.noted port.new.log)
+        (S.state port.new.bursts.socket).noted (data_of (S.state port.new.bursts.socket) port.new.bursts)
         (C.moments clock.old) key turns settings result }
+    ensures sent { port.new.bursts.leaving.waiting ≡ [] }
 {
     let mut rng = ChaCha20Rng::from_seed(key);
     let mut site = Site::new(alloc, settings.config);
-    serve(port, clock, &mut rng, &mut site, turns, settings.sweep)
+    serve_socket(port, clock, &mut rng, &mut site, turns, settings.sweep)
 }
 
 /// Serves a number of turns over a socket, and prints where it listens and what it counted.
@@ -169,12 +173,11 @@ fn serve_port<R: time::Clock + AllocGlobal, O: Print>(
     key: [u8; KEY_LENGTH],
     turns: u32,
 ) -> io::Result<()> {
-    let Addr { host, port: number } = port.address();
+    let Addr { host, port: number } = port.socket().address();
     let host = Ipv4Addr::from_bits(host);
     println!(out; "listening {host}:{number}")?;
     let mut clock = SystemClock::new(rt);
     let report = serve_new(rt.alloc(), port, &mut clock, settings, key, turns);
-    port.finish();
     print_report(out, &report)
 }
 
@@ -195,7 +198,11 @@ pub fn serve_settings<R: time::Clock + Net + AllocGlobal, O: Print + Eprint>(
         Ok(settings) => settings,
         Err(fault) => return Ok(fail(out, format_args!("config: {fault}"))),
     };
-    let Ok(mut port) = UdpPort::bind(rt, rt, rt.alloc(), settings.listen) else {
+    let Ok(peers) = Vec::from_slice(rt.alloc(), settings.config.peers()) else {
+        let fault = SettingsFault::OutOfMemory;
+        return Ok(fail(out, format_args!("config: {fault}")));
+    };
+    let Ok(mut port) = bind_port(rt, rt, rt.alloc(), settings.listen, peers) else {
         return Ok(fail(out, "socket"));
     };
     serve_port(rt, out, &mut port, settings, key, turns)?;

@@ -1,7 +1,7 @@
 //! Datagrams that wait in a port.
 
-ghost use Rattle.std.specs.Prelude.{◌≡◌, ◌↔◌, [], ◌∷◌, IsTrue, IfOk, OnErr, MatchOption};
-ghost use Rattle.fleet_site.specs.server.Waiting.{Pushes};
+ghost use Rattle.std.specs.Prelude.{◌≡◌, ◌↔◌, [], ◌∷◌, ◌++◌, IsTrue, IfOk, IfErr, OnErr, MatchOption, length, nat_le};
+ghost use Rattle.fleet_site.specs.socket.Waiting.{Pushes};
 
 use fleet_name::Octets;
 use fleet_pending::Addr;
@@ -50,18 +50,40 @@ impl<A: Allocator + Copy> Queue<A> {
         self.waiting.is_empty()
     }
 
+    /// Whether as many wait as may.
+    fn is_full(&self) -> bool
+        ensures { result ≡ nat_le MOST_WAITING (length self.now) }
+    {
+        self.waiting.len() >= MOST_WAITING
+    }
+
     /// Puts a copy of a datagram behind the others. `false` where the queue is full; nothing changes
     /// then, nor where an allocation fails.
     pub fn push(&mut self, addr: Addr, octets: &[u8]) -> Result<bool, AllocError>
         ensures pushed { IfOk result (λ fits. Pushes self.old (addr, octets.now) fits self.new) }
         ensures memory { OnErr result (self.new ≡ self.old) }
     {
-        if self.waiting.len() >= MOST_WAITING {
+        if self.is_full() {
             return Ok(false);
         }
         let octets = Octets::copy_of(self.alloc, octets)?;
         self.waiting.push_back((addr, octets))?;
         Ok(true)
+    }
+
+    /// Puts a datagram behind the others. It comes back where the queue is full or an allocation fails;
+    /// nothing changes then.
+    pub fn put(&mut self, datagram: (Addr, Octets<A>)) -> Result<(), (Addr, Octets<A>)>
+        ensures put { IfOk result (λ _. self.new ≡ self.old ++ datagram ∷ []) }
+        ensures back { IfErr result (λ d. (d ≡ datagram) × (self.new ≡ self.old)) }
+    {
+        if self.is_full() {
+            return Err(datagram);
+        }
+        match self.waiting.push_back(datagram) {
+            Ok(()) => Ok(()),
+            Err(failed) => Err(failed.value),
+        }
     }
 
     /// Takes the first one out.

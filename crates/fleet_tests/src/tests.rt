@@ -9,6 +9,7 @@
 //!
 //! What a script shows of these is tried from outside, by `tests/run` at the top of the repository.
 
+mod bursts;
 mod calls;
 mod events;
 mod fleets;

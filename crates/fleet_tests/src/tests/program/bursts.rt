@@ -1,10 +1,10 @@
-//! Datagrams that wait in a port: how many may, and those that find no memory.
+//! Datagrams that wait in a port and find no memory.
 
 use super::loopback::{open, send};
 use crate::tests::refusing::Refusing;
 use crate::tests::sites::addr;
 use fleet_pending::Addr;
-use fleet_program::{Inbox, UdpPort};
+use fleet_program::{UdpPort, bind_port};
 use fleet_site::Port;
 use std::alloc::{Allocator, Global};
 use std::net::UdpSocket;
@@ -42,67 +42,42 @@ fn handed_on<C: time::Clock, A: Allocator + Copy>(
     panic!(rt; "no end")
 }
 
-/// Keeps as many frames as there is room for, and sees that there is none for another.
-fn fill(rt: &impl Abort, inbox: &mut Inbox, from: Addr, octets: &[u8]) {
-    for _ in 0..4095u32 {
-        assert!(rt; matches!(inbox.keep(from, octets), Ok(true)));
-    }
-    assert!(rt; matches!(inbox.keep(from, octets), Ok(false)));
-}
-
-/// A message has room beside them, and is handed on before them; one that is handed on leaves room
-/// for one.
-fn check_full(rt: &impl Abort, inbox: &mut Inbox, from: Addr, octets: &[u8]) {
-    assert!(rt; matches!(inbox.keep(from, b"x"), Ok(true)));
-    let mut buffer: Buffer = [0; FRAME + 1];
-    assert_eq!(rt; inbox.hand_on(&mut buffer), Some((from, 1)));
-    assert_eq!(rt; inbox.hand_on(&mut buffer), Some((from, FRAME)));
-    assert!(rt; matches!(inbox.keep(from, octets), Ok(true)));
-    assert!(rt; matches!(inbox.keep(from, octets), Ok(false)));
-}
-
-/// What waits is bounded: what comes beyond is dropped, of each kind by itself.
-#[test]
-fn keeps_what_has_room_and_no_more(rt: HostRuntime) {
-    let mut inbox = Inbox::new(rt.alloc());
-    let octets = [7u8; FRAME];
-    fill(&rt, &mut inbox, addr(1), &octets);
-    check_full(&rt, &mut inbox, addr(1), &octets);
-}
-
 /// The marks of a port to which three frames and a message come.
 fn marks_at<A: Allocator + Copy>(
     stop: &impl Abort,
     rt: &HostRuntime,
     port: &mut UdpPort<'_, HostRuntime, A>,
+    client: &UdpSocket,
 ) -> String {
-    let (client, _) = open(stop, rt);
-    send_marked(stop, &client, port.address(), "12a3");
+    send_marked(stop, client, port.socket().address(), "12a3");
     handed_on(stop, rt.alloc(), port)
 }
 
-/// At most one of three frames and a message is dropped, and all others come in order.
+/// Three frames and a message all come, the frames in order.
 fn check_marks<A: Allocator + Copy>(stop: &impl Abort, rt: &HostRuntime, alloc: A) {
-    let mut port = UdpPort::bind(rt, rt, alloc, addr(0)).expect(stop, "a port");
-    let marks = marks_at(stop, rt, &mut port);
-    let wanted = ["a123", "1a23", "a23", "a13", "a12", "123"];
+    let (client, from) = open(stop, rt);
+    let peers = vec![in alloc; from].expect(stop, "memory");
+    let mut port = bind_port(rt, rt, alloc, addr(0), peers).expect(stop, "a port");
+    let marks = marks_at(stop, rt, &mut port, &client);
+    let wanted = ["a123", "1a23"];
     assert!(stop; wanted.contains(&marks.as_str()), "{marks}");
     assert_eq!(stop; port.failures(), 0);
 }
 
-/// Three frames and a message come, while a port's call for memory with that number is refused: at
-/// most one of them is dropped, and all others come in order. Whether the call was made.
+/// Three frames and a message come, while a port's call for memory with that number is refused: none
+/// of them is dropped. Whether the call was made.
 fn check_refused(stop: &impl Abort, rt: &HostRuntime, call: u64) -> bool {
     let refusing = Refusing::after(rt.alloc(), call);
     check_marks(stop, rt, &refusing);
     refusing.has_refused()
 }
 
-/// Does so with each call refused in turn, until one is not made.
+/// Does so with each call refused in turn, until one is not made. The first call for memory is that
+/// of the peers, without which there is no port.
 fn refuse_each(stop: &impl Abort, rt: &HostRuntime) {
-    for call in 1..100u64 {
+    for call in 2..100u64 {
         if !check_refused(stop, rt, call) {
-            assert!(stop; call > 4);
+            assert!(stop; call > 5);
             return;
         }
     }
@@ -110,6 +85,6 @@ fn refuse_each(stop: &impl Abort, rt: &HostRuntime) {
 }
 
 #[test]
-fn drops_a_datagram_that_has_no_memory(rt: HostRuntime) {
+fn drops_nothing_where_memory_fails(rt: HostRuntime) {
     refuse_each(&rt, &rt)
 }

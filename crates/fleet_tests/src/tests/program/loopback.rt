@@ -4,7 +4,7 @@ use crate::tests::sites::addr;
 use crate::tests::turns::OneWord;
 use fleet_observe::Moment;
 use fleet_pending::Addr;
-use fleet_program::{SystemClock, UdpPort};
+use fleet_program::{SystemClock, UdpPort, bind_port};
 use fleet_site::{Clock, Config, Port, Report, Site, serve};
 use std::alloc::Global;
 use std::cell::Cell;
@@ -98,16 +98,17 @@ fn open_sites<'a>(
     rt: &'a HostRuntime,
     upstream: Addr,
 ) -> (Served<'a>, Served<'a>) {
-    let first = UdpPort::bind(rt, rt, rt.alloc(), addr(0)).expect(stop, "a port");
-    let second = UdpPort::bind(rt, rt, rt.alloc(), addr(0)).expect(stop, "a port");
-    let (here, there) = (first.address(), second.address());
+    let alloc = rt.alloc();
+    let first = bind_port(rt, rt, alloc, addr(0), Vec::new(alloc)).expect(stop, "a port");
+    let second = bind_port(rt, rt, alloc, addr(0), Vec::new(alloc)).expect(stop, "a port");
+    let (here, there) = (first.socket().address(), second.socket().address());
     let first = Served {
         port: first,
-        site: site_with(stop, rt.alloc(), upstream, there),
+        site: site_with(stop, alloc, upstream, there),
     };
     let second = Served {
         port: second,
-        site: site_with(stop, rt.alloc(), upstream, here),
+        site: site_with(stop, alloc, upstream, here),
     };
     (first, second)
 }
@@ -130,9 +131,9 @@ fn check_first<R: Abort + time::Clock>(
     stub: &UdpSocket,
     first: &mut Served<'_>,
 ) {
-    send(rt, client, first.port.address(), QUESTION);
+    send(rt, client, first.port.socket().address(), QUESTION);
     first.serve(rt, 1);
-    answer_query(rt, alloc, stub, first.port.address());
+    answer_query(rt, alloc, stub, first.port.socket().address());
     first.serve(rt, 2);
     assert_eq!(rt; receive(rt, alloc, client).as_slice(), RELAY);
 }
@@ -154,7 +155,7 @@ fn check_second<R: Abort + time::Clock>(
     second: &mut Served<'_>,
 ) {
     second.serve(rt, 0);
-    send(rt, client, second.port.address(), QUESTION);
+    send(rt, client, second.port.socket().address(), QUESTION);
     second.serve(rt, 1);
     check_answer(rt, receive(rt, alloc, client).as_mut_slice());
     stub.set_nonblocking(true).expect(rt, "a setting");
@@ -193,14 +194,15 @@ fn check_failures(rt: &impl Abort, port: &mut UdpPort<'_, HostRuntime>) {
 /// A port receives the first octets of a datagram, as many as its buffer has.
 fn check_cut(rt: &impl Abort, port: &mut UdpPort<'_, HostRuntime>, client: &UdpSocket, from: Addr) {
     let mut buffer = [0u8; 8];
-    send(rt, client, port.address(), b"123456789");
+    send(rt, client, port.socket().address(), b"123456789");
     assert!(rt; matches!(port.recv(&mut buffer), Ok(Some(got)) if got == (from, 8)));
     assert_eq!(rt; buffer, *b"12345678");
 }
 
 #[test]
 fn counts_what_fails_and_cuts_what_is_too_long(rt: HostRuntime) {
-    let mut port = UdpPort::bind(&rt, &rt, rt.alloc(), addr(0)).expect(&rt, "a port");
+    let alloc = rt.alloc();
+    let mut port = bind_port(&rt, &rt, alloc, addr(0), Vec::new(alloc)).expect(&rt, "a port");
     check_failures(&rt, &mut port);
     let (client, from) = open(&rt, &rt);
     check_cut(&rt, &mut port, &client, from);

@@ -1,0 +1,11 @@
+pub mod SocketRecord
+pub mod Waiting
+pub mod Inbox
+pub mod Window
+pub mod Outbox
+pub mod Pace
+pub mod Bursts
+pub mod Parts
+pub mod MemorySocket
+pub mod Flow
+pub mod Serving

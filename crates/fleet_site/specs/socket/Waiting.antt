@@ -1,0 +1,134 @@
+-- Datagrams that wait in a port, each with the address that it came from or goes to.
+-- Serves `BurstPort`.
+use Rattle.std.specs.Prelude.{◌≡◌, ◌≢◌, ◌⊎◌, ℕ, min, Bool, true, false, ◌&&◌, eqb, ltb, cond, List, [], ◌∷◌, ◌++◌, length, take, Option, Some, None}
+use Rattle.std.specs.List.{list_any}
+use Rattle.fleet_name.specs.Types.{OctetList}
+use Rattle.fleet_pending.specs.declared.addr.Addr.{Addr}
+use Rattle.fleet_wire.specs.declared.bounds.TheConstants.{LONGEST_MESSAGE}
+use Rattle.fleet_site.specs.server.PortRecord.{one_more}
+use Rattle.fleet_site.specs.socket.SocketRecord.{SocketCall, Came, NoneCame, Failed, Sent, Unsent, ClockRead, Paused, Switched}
+use Rattle.fleet_site.specs.declared.queue.TheConstants.{MOST_WAITING}
+
+abbrev pub Datagram : Type 0
+Datagram = Addr × OctetList
+
+abbrev pub is_same_addr : Addr → Addr → Bool
+is_same_addr a b = eqb a.host b.host && eqb a.port b.port
+
+abbrev pub is_peer : List Addr → Addr → Bool
+is_peer peers a = list_any (λ p. is_same_addr p a) peers
+
+-- longer than a message
+abbrev pub is_long : OctetList → Bool
+is_long octets = ltb LONGEST_MESSAGE (length octets)
+
+-- a frame is longer than a message, and comes from a peer; all else is handed on as messages are
+abbrev pub is_frame : List Addr → Datagram → Bool
+is_frame peers d = is_long d.1 && is_peer peers d.0
+
+abbrev pub messages_of : List Addr → List Datagram → List Datagram
+messages_of peers [] = []
+messages_of peers (d ∷ ds) = cond (is_frame peers d) (messages_of peers ds) (d ∷ messages_of peers ds)
+
+abbrev pub frames_of : List Addr → List Datagram → List Datagram
+frames_of peers [] = []
+frames_of peers (d ∷ ds) = cond (is_frame peers d) (d ∷ frames_of peers ds) (frames_of peers ds)
+
+-- the datagrams that came, in their order
+abbrev pub arrivals_of : List SocketCall → List Datagram
+arrivals_of [] = []
+arrivals_of (Came w asked from octets ∷ calls) = (from, octets) ∷ arrivals_of calls
+arrivals_of (NoneCame w asked ∷ calls) = arrivals_of calls
+arrivals_of (Failed w asked ∷ calls) = arrivals_of calls
+arrivals_of (Sent s ∷ calls) = arrivals_of calls
+arrivals_of (Unsent s ∷ calls) = arrivals_of calls
+arrivals_of (ClockRead t ∷ calls) = arrivals_of calls
+arrivals_of (Paused ∷ calls) = arrivals_of calls
+arrivals_of (Switched w done ∷ calls) = arrivals_of calls
+
+-- the datagrams that were handed to the system, in their order, whether it sent or refused them
+abbrev pub departures_of : List SocketCall → List Datagram
+departures_of [] = []
+departures_of (Came w asked from octets ∷ calls) = departures_of calls
+departures_of (NoneCame w asked ∷ calls) = departures_of calls
+departures_of (Failed w asked ∷ calls) = departures_of calls
+departures_of (Sent s ∷ calls) = (s.to, s.octets) ∷ departures_of calls
+departures_of (Unsent s ∷ calls) = (s.to, s.octets) ∷ departures_of calls
+departures_of (ClockRead t ∷ calls) = departures_of calls
+departures_of (Paused ∷ calls) = departures_of calls
+departures_of (Switched w done ∷ calls) = departures_of calls
+
+-- a datagram comes behind the others; where as many wait as may, nothing changes
+abbrev pub Pushes : List Datagram → Datagram → Bool → List Datagram → Type 0
+Pushes old d true new = new ≡ old ++ d ∷ []
+Pushes old d false new = (length old ≡ MOST_WAITING) × (new ≡ old)
+
+-- a frame comes behind the frames, and what is none behind the messages
+abbrev pub Joins : Bool → List Datagram → List Datagram → Datagram → List Datagram → List Datagram → Type 0
+Joins true messages frames d new_messages new_frames =
+    (new_frames ≡ frames ++ d ∷ []) × (new_messages ≡ messages)
+Joins false messages frames d new_messages new_frames =
+    (new_messages ≡ messages ++ d ∷ []) × (new_frames ≡ frames)
+
+-- what came in and waits, and how many others were dropped
+pub record Arrived : Type 0 where
+  pub messages : List Datagram
+  pub frames : List Datagram
+  pub dropped : ℕ
+
+-- a datagram waits behind those of its kind
+abbrev pub with_one : List Addr → Datagram → Arrived → Arrived
+with_one peers d a = record {
+  messages = a.messages ++ messages_of peers (d ∷ []);
+  frames = a.frames ++ frames_of peers (d ∷ []);
+  dropped = a.dropped;
+}
+
+-- one is dropped, and counted
+abbrev pub without_one : Arrived → Arrived
+without_one a = record { messages = a.messages; frames = a.frames; dropped = one_more a.dropped }
+
+-- others of its kind wait, frames or what is none
+abbrev pub OthersWait : Bool → List Datagram → List Datagram → Type 0
+OthersWait true messages frames = frames ≢ []
+OthersWait false messages frames = messages ≢ []
+
+-- these datagrams came, one after the other: each waits behind those of its kind, or is dropped and
+-- counted, which it is only where others of its kind wait
+abbrev pub Takes : List Addr → List Datagram → Arrived → Arrived → Type 0
+Takes peers [] old new = new ≡ old
+Takes peers (d ∷ ds) old new =
+    Takes peers ds (with_one peers d old) new
+    ⊎ (OthersWait (is_frame peers d) old.messages old.frames × Takes peers ds (without_one old) new)
+
+-- the datagrams without some, of which each was counted
+abbrev pub Sifts : List Datagram → List Datagram → ℕ → ℕ → Type 0
+Sifts [] kept n m = (kept ≡ []) × (m ≡ n)
+Sifts (d ∷ ds) kept n m =
+    ((rest : List Datagram) × (kept ≡ d ∷ rest) × Sifts ds rest n m) ⊎ Sifts ds kept (one_more n) m
+
+-- the datagram comes, cut to a length, at the front of the buffer
+abbrev pub Fills : ℕ → Datagram → Option (Addr × ℕ) → OctetList → Type 0
+Fills asked d got buffer =
+    (got ≡ Some (d.0, min (length d.1) asked))
+    × (take (min (length d.1) asked) buffer ≡ take asked d.1)
+
+-- a datagram that may be there, as a list
+abbrev pub at_most_one : Option Datagram → List Datagram
+at_most_one None = []
+at_most_one (Some d) = d ∷ []
+
+-- of what waits, messages and frames, the first message was taken out, and where there is none the
+-- first frame
+abbrev pub TookOut : List Datagram → List Datagram → Option Datagram → List Datagram → List Datagram → Type 0
+TookOut (d ∷ messages) frames taken new_messages new_frames =
+    (taken ≡ Some d) × (new_messages ≡ messages) × (new_frames ≡ frames)
+TookOut [] (d ∷ frames) taken new_messages new_frames =
+    (taken ≡ Some d) × (new_messages ≡ []) × (new_frames ≡ frames)
+TookOut [] [] taken new_messages new_frames =
+    (taken ≡ None) × (new_messages ≡ []) × (new_frames ≡ [])
+
+-- what is handed on: the datagram, cut to the buffer, or none
+abbrev pub HandsOn : ℕ → Option Datagram → Option (Addr × ℕ) → OctetList → Type 0
+HandsOn asked None got buffer = got ≡ None
+HandsOn asked (Some d) got buffer = Fills asked d got buffer
