@@ -14,9 +14,17 @@ HERE = pathlib.Path(__file__).resolve().parent
 TOP = HERE.parent.parent
 BELOW = ["fleet_name", "fleet_wire", "fleet_observe", "fleet_front", "fleet_cache"]
 
-# Beside what a cache is filled with when its longest take is looked for: nothing; one name with so many records, of which one
-# ends each second; so many names of a hundred labels that have ended, where a flush is noted.
-BESIDE = (("forged", 0), ("forged", 40_000), ("deep", 20_000))
+# Beside what a cache is filled with when its longest purge and its longest take are looked for: one name with so many records,
+# of which one ends each second; so many names of a hundred labels that have ended, where a flush is noted; nothing. Before
+# these, the longest of the takes of the last such records.
+BESIDE = (
+    ("forged-purges", 40_000),
+    ("deep-purges", 20_000),
+    ("into", 40_000),
+    ("forged", 0),
+    ("forged", 40_000),
+    ("deep", 20_000),
+)
 
 
 def build(folder):
@@ -59,16 +67,15 @@ def least(program, mode, items, rounds, times):
 
 
 def pause(program, mode, items, times, rounds=1):
-    """The least of the milliseconds that the program says a purge took, a flush, the longest purge behind one, or the longest
-    take."""
+    """Milliseconds: the greatest of the numbers that the program prints, each the least of several runs."""
     words = [str(program), mode, str(items), str(rounds)]
-    said = [subprocess.run(words, capture_output=True, text=True, check=True).stdout for _ in range(times)]
-    return f"{min(int(text) for text in said) / 1000:.2f}"
+    said = [subprocess.run(words, capture_output=True, text=True, check=True).stdout.split() for _ in range(times)]
+    return f"{max(min(int(text) for text in same) for same in zip(*said)) / 1000:.2f}"
 
 
 def figures(program, items, times, is_cache):
     """Microseconds a take and an answer, octets an item, milliseconds of the two purges, a flush, a purge behind it, and the
-    longest takes."""
+    longest purges and takes."""
     rounds = max(1, 1_000_000 // items)
     made, _ = least(program, "make", items, 1, times)
     taken, memory = least(program, "take", items, 1, times)
@@ -93,16 +100,17 @@ def figures(program, items, times, is_cache):
 def main():
     words = argparse.ArgumentParser(description=__doc__)
     words.add_argument("--items", default="1000,10000,100000,1000000")
-    words.add_argument("--times", type=int, default=3, help="runs of each, of which the least counts")
+    words.add_argument("--times", type=int, default=3, help="runs of each, of which the least counts, purge by purge")
     words = words.parse_args()
     resource.setrlimit(resource.RLIMIT_CORE, (0, 0))
     with tempfile.TemporaryDirectory() as name:
         ours, theirs = build(pathlib.Path(name))
         print(
             "| items | | us a take | us an answer | octets an item | ms a purge, few | ms a purge, all | ms a flush "
-            "| ms a purge behind it | ms a take | ms a take, forged | ms a take, deep |"
+            "| ms a purge behind it | ms a purge, forged | ms a purge, deep | ms a take into forged | ms a take "
+            "| ms a take, forged | ms a take, deep |"
         )
-        print("|---" * 12 + "|")
+        print("|---" * 15 + "|")
         for items in (int(word) for word in words.items.split(",")):
             for title, program in (("cache", ours), ("std::map", theirs)):
                 row = figures(program, items, words.times, program == ours)
