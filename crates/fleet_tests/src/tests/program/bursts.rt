@@ -42,29 +42,29 @@ fn handed_on<C: time::Clock, A: Allocator + Copy>(
     panic!(rt; "no end")
 }
 
-/// The marks of a port to which three frames and a message come.
+/// The marks of a port to which three frames and two messages come.
 fn marks_at<A: Allocator + Copy>(
     stop: &impl Abort,
     rt: &HostRuntime,
     port: &mut UdpPort<'_, HostRuntime, A>,
     client: &UdpSocket,
 ) -> String {
-    send_marked(stop, client, port.socket().address(), "12a3");
+    send_marked(stop, client, port.socket().address(), "12a3b");
     handed_on(stop, rt.alloc(), port)
 }
 
-/// Three frames and a message all come, the frames in order.
+/// Three frames and two messages all come, each kind in order.
 fn check_marks<A: Allocator + Copy>(stop: &impl Abort, rt: &HostRuntime, alloc: A) {
     let (client, from) = open(stop, rt);
     let peers = vec![in alloc; from].expect(stop, "memory");
     let mut port = bind_port(rt, rt, alloc, addr(0), peers).expect(stop, "a port");
     let marks = marks_at(stop, rt, &mut port, &client);
-    let wanted = ["a123", "1a23"];
+    let wanted = ["ab123", "1ab23"];
     assert!(stop; wanted.contains(&marks.as_str()), "{marks}");
     assert_eq!(stop; port.failures(), 0);
 }
 
-/// Three frames and a message come, while a port's call for memory with that number is refused: none
+/// Three frames and two messages come, while a port's call for memory with that number is refused: none
 /// of them is dropped. Whether the call was made.
 fn check_refused(stop: &impl Abort, rt: &HostRuntime, call: u64) -> bool {
     let refusing = Refusing::after(rt.alloc(), call);
