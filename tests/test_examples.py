@@ -52,6 +52,24 @@ class Examples(Case):
 add_cases(Examples, read_examples())
 
 
+class Agreement(Case):
+    """Three sites in a row, which agree once each has told the others all that it knew."""
+
+    def check_file(self, name):
+        script = (TESTS.parent / "examples" / f"{name}.script").read_bytes()
+        printed = (TESTS.parent / "examples" / "agree.out").read_bytes()
+        self.check_equal(run_script(script), Ended(0, printed), name)
+        self.check_equal(printed.splitlines()[-3:], [b"same"] * 3, "the three at the end")
+
+    def test_delivered(self):
+        """frames that are delivered bring all to each site, and take back what is flushed"""
+        self.check_file("agree")
+
+    def test_datagrams(self):
+        """so do frames that come as datagrams from peers' addresses"""
+        self.check_file("agree-datagrams")
+
+
 def moved_on(line, kept):
     """A line whose frame has a number that is greater by that of the frames that were kept
     before."""

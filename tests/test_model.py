@@ -53,15 +53,17 @@ def sees(name, scripts):
 
 
 class Example(unittest.TestCase):
-    """The example of a fleet."""
+    """The examples of a fleet."""
 
-    def test_the_example_prints_what_it_says(self):
-        """The example's script prints the example's output."""
-        lines = (EXAMPLES / "fleet.script").read_bytes().splitlines()
-        printed, fault = run_model(lines)
-        self.assertEqual("".join(f"{text}\n" for texts in printed for text in texts),
-                         (EXAMPLES / "fleet.out").read_text(encoding="ascii"))
-        self.assertIsNone(fault)
+    def test_the_examples_print_what_they_say(self):
+        """Each example's script prints the example's output."""
+        for script, output in (("fleet", "fleet"), ("agree", "agree"), ("agree-datagrams", "agree")):
+            with self.subTest(script):
+                lines = (EXAMPLES / f"{script}.script").read_bytes().splitlines()
+                printed, fault = run_model(lines)
+                self.assertEqual("".join(f"{text}\n" for texts in printed for text in texts),
+                                 (EXAMPLES / f"{output}.out").read_text(encoding="ascii"))
+                self.assertIsNone(fault)
 
 
 class Scripts(unittest.TestCase):

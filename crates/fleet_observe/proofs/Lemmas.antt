@@ -13,6 +13,7 @@ use Rattle.fleet_observe.specs.Preference.{name_cmp, preference, preference_tota
 use Rattle.fleet_observe.specs.declared.observation.kind.Kind.{Kind}
 use Rattle.fleet_observe.specs.declared.observation.lent.LentObservation.{LentObservation}
 use Rattle.fleet_observe.specs.declared.observation.kind.Kind.TheVariants.{NameError, NoData, Positive, Flush}
+pub use Rattle.fleet_observe.proofs.LawfulMeanings.{denied_is}
 
 -- what is equal one after the other is equal both times
 pub then_parts : (a b : Ordering) → ordering_then a b ≡ Equal → (a ≡ Equal) × (b ≡ Equal)

@@ -1,5 +1,5 @@
 -- What is read is lawful: a question spells its name, and the RDATA of a record is plain.
-use Rattle.std.proofs.Common.{◌≡◌, ℕ, ◌+◌, List, [], ◌∷◌, length, take, drop, sym, ap, ◌∙◌, subst, arith, Option, Some, None, Bool, true, false, get_or}
+use Rattle.std.proofs.Common.{◌≡◌, ℕ, ◌+◌, List, [], ◌∷◌, length, take, drop, refl, sym, ap, ◌∙◌, subst, arith, Option, Some, None, Bool, true, false, get_or}
 use Rattle.std.proofs.lemmas.List.{length-take-le, length-drop}
 use Rattle.std.specs.Prelude.{IsTrue}
 use Rattle.std.specs.List.{AllByRecursion}
@@ -8,7 +8,7 @@ use Rattle.fleet_wire.specs.Number.{u16_at}
 use Rattle.fleet_wire.specs.Question.{QuestionData, IsQuestionData, IsQuestion}
 use Rattle.fleet_wire.specs.Shape.{shape_of, PartsAt, ShapeAt, ArePlain, HasShape}
 use Rattle.fleet_wire.specs.Record.{RecordData, RecordAt, RecordsAt, IsPlainRecord}
-use Rattle.fleet_wire.specs.Message.{IsHeader, IsRead, HasOneQuestion, IsQuery, IsReply, SectionsAt, header_of, message_data}
+use Rattle.fleet_wire.specs.Message.{IsHeader, IsRead, HasOneQuestion, IsQuery, MessageData, IsReply, SectionsAt, header_of, message_data}
 use Rattle.fleet_wire.specs.declared.header.Header.{Header}
 use Rattle.fleet_wire.specs.declared.shape.Part.{Part}
 use Rattle.fleet_wire.specs.declared.shape.Part.TheVariants.{Plain, Name}
@@ -132,3 +132,12 @@ module _ (m : List ℕ) (h : Header) (q : QuestionData) (past : ℕ) (is : IsQue
             subst (λ (x : Bool). SectionsAt m past x a b) (sym whole)
             (middle, end, at, count, at', count');
       }
+
+-- what reads as a reply is lawful
+pub reply_read : (m : List ℕ) (r : MessageData) → IsReply m r → IsRead r
+reply_read m r is = go r.header.tc refl is.sections
+  where
+    go : (b : Bool) → r.header.tc ≡ b → SectionsAt m is.past b r.answer r.authority → IsRead r
+    go true e s = cut_read m r.header r.question is.past is.query e r.answer r.authority s.0 s.1
+    go false e s =
+        whole_read m r.header r.question is.past is.query e r.answer r.authority s.0 s.1 s.2 s.4

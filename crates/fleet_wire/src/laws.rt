@@ -5,7 +5,7 @@ ghost use Rattle.fleet_name.specs.Types.{Labels, OctetList};
 ghost use Rattle.fleet_name.specs.Name.{IsName};
 ghost use Rattle.fleet_wire.specs.NameAt.{ReadsName};
 ghost use Rattle.fleet_wire.specs.Question.{QuestionData};
-ghost use Rattle.fleet_wire.specs.Message.{IsQuery, QueryFails, MessageData, IsReply, ReplyFails};
+ghost use Rattle.fleet_wire.specs.Message.{IsQuery, QueryFails, MessageData, IsReply, IsRead, ReplyFails};
 ghost use Rattle.fleet_wire.specs.Outline.{OutlineData, IsOutlineData, IsWhole, octets_of_outline, message_of_outline};
 ghost use Rattle.fleet_wire.specs.Query.{lowercase_question, query_octets, query_header};
 ghost use Rattle.fleet_wire.specs.declared.header.Header.{Header};
@@ -26,6 +26,11 @@ pub fn one_query()
 /// A message is one reply at most.
 pub fn one_reply()
     ensures { (m : OctetList) (a b : MessageData) → IsReply m a → IsReply m b → a ≡ b }
+{}
+
+/// What reads as a reply is lawful: its owners are names, and its RDATA is plain.
+pub fn reply_is_read()
+    ensures { (m : OctetList) (r : MessageData) → IsReply m r → IsRead r }
 {}
 
 /// A message that is a query has no fault as one.
