@@ -32,9 +32,6 @@ LAG = 50
 SWEPT = 16
 LONG_DATA = 8180
 
-# How many frames leave at once.
-BURST = 2
-
 
 def long_frame(name, now):
     """A frame of 600 octets or more, in which a name is known."""
@@ -212,35 +209,6 @@ class Leaving(Case):
             between = [moment for moment in answers if moments[0] < moment < moments[-1]]
             self.check_true(between, "answers between the first frame and the last one", answers)
             self.check_counts(site.counts(), lost=0, faults=0, refused=0, short=0)
-
-    def test_frames_among_answers(self):
-        """while a site answers without a pause, more frames than a burst leave"""
-        frames = swept_frames(int(time.time()))
-        asked = question(0, "00.example", TXT, flags=0)
-        with with_neighbours(2, ROOM, stamped=True) as (site, _, peer, client), open_socket() as asker:
-            self.fill(site, peer, asker, frames)
-            self.whole_sweep(peer, frames)
-            count = room_for(asked) * 2 // 3
-            for _ in range(TRIES):
-                sent = self.sent_among_answers(site, peer, client, [asked] * count, frames)
-                # A fast site may have answered them all within a millisecond.
-                if sent > BURST:
-                    break
-            self.check_true(sent > BURST, "more than a burst before the last answer", sent)
-            self.check_counts(site.counts(), lost=0, faults=0, refused=0, short=0)
-
-    def sent_among_answers(self, site, peer, client, asked, frames):
-        """How many frames of a sweep leave before the last one of these questions is answered, all of which wait
-        where it begins."""
-        stop(site.child)
-        waiting(peer)
-        for octets in asked:
-            site.bring(client, octets)
-        time.sleep(3)
-        go_on(site.child)
-        moments = self.whole_sweep(peer, frames)[-SWEPT:]
-        answered = [arrival(client)[0] for _ in asked]
-        return len([moment for moment in moments if moment < answered[-1]])
 
     def test_at_the_end(self):
         """frames that wait when the turns are over are sent then"""

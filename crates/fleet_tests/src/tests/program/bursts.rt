@@ -1,15 +1,15 @@
-//! Datagrams that wait in a port and find no memory.
+//! Datagrams that wait in a port and find no memory, and the time that a pause takes.
 
 use super::loopback::{open, send};
 use crate::tests::refusing::Refusing;
 use crate::tests::sites::addr;
 use fleet_pending::Addr;
-use fleet_program::{UdpPort, bind_port};
-use fleet_site::Port;
+use fleet_program::{SystemSocket, UdpPort, bind_port};
+use fleet_site::{Port, Socket};
 use std::alloc::{Allocator, Global};
 use std::net::UdpSocket;
 use std::process::Abort;
-use std::time;
+use std::time::{self, Duration};
 
 /// How many octets a frame of these tests has: more than a message can have.
 const FRAME: usize = 600;
@@ -87,4 +87,13 @@ fn refuse_each(stop: &impl Abort, rt: &HostRuntime) {
 #[test]
 fn drops_nothing_where_memory_fails(rt: HostRuntime) {
     refuse_each(&rt, &rt)
+}
+
+#[test]
+fn a_pause_passes_on_the_clock(rt: HostRuntime) {
+    let mut socket = SystemSocket::bind(&rt, &rt, addr(0)).expect(&rt, "a socket");
+    let begun = socket.time().expect(&rt, "a clock");
+    socket.pause();
+    let ended = socket.time().expect(&rt, "a clock");
+    assert!(rt; ended.saturating_sub(begun) >= Duration::from_millis(1));
 }
