@@ -24,6 +24,8 @@ ZONE = "churn.example"
 # Where the zone's server listens, and those that are measured.
 PORTS = {"nsd": 15311, "dnsfleet": 15313, "peer": 15314, "unbound": 15315, "dnsmasq": 15316}
 HOUR = 3600
+# How many times a second questions are handed to the client.
+TICKS = 100
 # The names that dnsmasq holds at most.
 DNSMASQ_NAMES = 150_000
 
@@ -103,14 +105,22 @@ class Server:
         self.process.wait()
 
 
-def feed(pipe, count, ttls, seed):
-    """Writes questions for new names of one length, each below the label of one of the TTLs."""
-    words = random.Random(seed)
+def feed(pipe, rate, seconds, ttls, seed):
+    """Writes so many questions a second for new names of one length, each below the label of one of the TTLs. What it
+    or the reader was late for is left out and not made up for: else more than that would come in at once."""
+    words, tick = random.Random(seed), 0
+    now = time.monotonic()
+    following, end = now, now + seconds
     try:
-        for at in range(0, count, 1000):
-            numbers = range(at, min(at + 1000, count))
+        while now < end:
+            numbers = range(rate * tick // TICKS, rate * (tick + 1) // TICKS)
             text = "".join(f"n{number:08d}.t{words.choice(ttls)}.{ZONE} A\n" for number in numbers)
             pipe.write(text.encode())
+            pipe.flush()
+            tick += 1
+            following = max(following + 1 / TICKS, time.monotonic())
+            time.sleep(max(0, following - time.monotonic()))
+            now = time.monotonic()
         pipe.close()
     except BrokenPipeError:
         pass
@@ -118,11 +128,11 @@ def feed(pipe, count, ttls, seed):
 
 def ask(port, rate, seconds, ttls, sample, every):
     """Asks for so many new names a second, and calls `sample` with the seconds so far. Gives what dnsperf says."""
-    words = ["dnsperf", "-s", HOST, "-p", str(port), "-Q", str(rate), "-c", "1", "-T", "1", "-q", "1000"]
+    words = ["dnsperf", "-s", HOST, "-p", str(port), "-c", "1", "-T", "1", "-q", "1000"]
     # A file, since dnsperf has a line for each question that is lost, and waits where nobody reads them.
     with tempfile.TemporaryFile() as told:
         client = subprocess.Popen(words, stdin=subprocess.PIPE, stdout=told, stderr=subprocess.STDOUT)
-        names = threading.Thread(target=feed, args=(client.stdin, rate * seconds, ttls, 1))
+        names = threading.Thread(target=feed, args=(client.stdin, rate, seconds, ttls, 1))
         names.start()
         try:
             began = time.monotonic()
