@@ -145,7 +145,10 @@ pub fn print_report<O: Print>(out: &O, report: &Report) -> io::Result<()> {
 }
 
 /// Serves a number of turns with these settings, over any socket and clock, with the words of a key,
-/// and sends all that waits then.
+/// and sends all that waits then. The site is new: so clause `sockets` of the laws
+/// [`own_replies`](fleet_site::laws::own_replies) and
+/// [`questions_answered`](fleet_site::laws::questions_answered) holds of what the socket received and was
+/// given to send, where socket and log keep their records.
 fn serve_new<S: Socket + Drop, L: CallLog + Drop, C: Clock>(
     alloc: Global,
     port: &mut BurstPort<S, L>,

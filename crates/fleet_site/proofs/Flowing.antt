@@ -99,12 +99,12 @@ hands_same ds (Fault a ∷ ns) c k h = hands_same ds ns c k h
 hands_same ds (PacketSent s ∷ ns) c k h = hands_same ds ns c k h
 hands_same ds (PacketLost s ∷ ns) c k h = hands_same ds ns c k h
 
-port_calls-append : (xs ys : List PortStep) → port_calls (xs ++ ys) ≡ port_calls xs ++ port_calls ys
+pub port_calls-append : (xs ys : List PortStep) → port_calls (xs ++ ys) ≡ port_calls xs ++ port_calls ys
 port_calls-append [] ys = refl
 port_calls-append ((None, calls) ∷ xs) ys = port_calls-append xs ys
 port_calls-append ((Some call, calls) ∷ xs) ys = ap (λ zs. call ∷ zs) (port_calls-append xs ys)
 
-socket_calls-append : (xs ys : List PortStep) → socket_calls (xs ++ ys) ≡ socket_calls xs ++ socket_calls ys
+pub socket_calls-append : (xs ys : List PortStep) → socket_calls (xs ++ ys) ≡ socket_calls xs ++ socket_calls ys
 socket_calls-append [] ys = refl
 socket_calls-append ((call, calls) ∷ xs) ys =
     ap (λ zs. calls ++ zs) (socket_calls-append xs ys)

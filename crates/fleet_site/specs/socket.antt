@@ -9,3 +9,4 @@ pub mod Parts
 pub mod MemorySocket
 pub mod Flow
 pub mod Serving
+pub mod Clients

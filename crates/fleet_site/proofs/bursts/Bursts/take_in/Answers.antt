@@ -1,8 +1,7 @@
 use Rattle.std.proofs.Common.{rules, ap, ◌∙◌, refl, Ok}
-use Rattle.fleet_site.specs.server.PortRecord.{failures_after}
 use Rattle.fleet_site.specs.socket.Parts.{data_of}
 use Rattle.fleet_site.specs.socket.Bursts.{arrived_of}
-use Rattle.fleet_site.proofs.Working.{came_none, came_failed, came_kept, keeping, mode_kept, same_data}
+use Rattle.fleet_site.proofs.Working.{came_none, came_failed, came_kept, keeping, same_data}
 use Rattle.fleet_site.proofs.Busy.{refused, now_quick, room_made, looked_on, failed_on}
 use Rattle.fleet_site.proofs.bursts.Bursts.take_in.Goals as goal
 
