@@ -106,7 +106,7 @@ StaysUntilReplied =
     → IsWaiting n.pending w
     ⊎ ((o : OutcomeData) × (a ≡ Ok o) × (GetsRelay m h.entry w x o ⊎ GetsFailure m h.entry w x o))
 
--- no step of these ran out of memory
+-- the step did not run out of memory
 abbrev pub IsDoneWhole : Action → Type 0
 IsDoneWhole a = IsOk a.answer
 
