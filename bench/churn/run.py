@@ -25,7 +25,7 @@ ZONE = "churn.example"
 PORTS = {"nsd": 15311, "dnsfleet": 15313, "peer": 15314, "unbound": 15315, "dnsmasq": 15316}
 HOUR = 3600
 # How many times a second questions are handed to the client.
-TICKS = 1000
+TICKS = 200
 # The names that dnsmasq holds at most.
 DNSMASQ_NAMES = 150_000
 
