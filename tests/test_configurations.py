@@ -119,6 +119,7 @@ class Taken(Case):
                 break
         self.check_equal(ended, Ended(0, report(port, turns)))
 
+    # Allocates: `fleet_program`: `read_settings`.
     def test_least(self):
         """the keys that are required, with an upstream elsewhere"""
         self.check_served(lambda port: configuration(port, [5301, "10.0.0.1:53"]), 3)

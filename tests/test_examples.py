@@ -98,6 +98,7 @@ def read_as_one():
 class AllExamples(Case):
     """All examples as one script."""
 
+    # Allocates: `fleet_program`: `run_script`.
     def test_at_once(self):
         """all examples as one script"""
         script, printed = read_as_one()

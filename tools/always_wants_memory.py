@@ -2,8 +2,8 @@
 """Makes each call that can find no memory always say so, and sees that its test fails.
 
 The prover lets such a body pass, since a contract allows the answer whatever the call is given; so no wrong body under
-must-fail/ can show it. Here each call of the table in docs/PROMISES.md gets such a body in a copy of the sources, and the
-tests run there, unproved (`rt try --test`): the test that the table names has to fail. `rt ci` sees it pass without.
+must-fail/ can show it. Here each call that a test says it makes ("Allocates: ..", see memory_calls.py) gets such a body in a
+copy of the sources, and the tests run there, unproved (`rt try --test`): that test has to fail. `rt ci` sees it pass without.
 
     python3 tools/always_wants_memory.py [CALL..]     all calls, or those that are named, as `Name::push`
 

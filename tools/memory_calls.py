@@ -1,13 +1,12 @@
 #!/usr/bin/env python3
-"""Finds public calls that can find no memory and have no row in docs/PROMISES.md.
+"""Finds public calls that can find no memory, and that no test says it makes.
 
 A contract that allows an answer for want of memory is met by a body that always gives it. So each such call is made with
-ample memory by a test that compares its answer, and the table under "## Calls that can find no memory" names that test.
-Run at the top of the repository, by hand: `python3 tools/memory_calls.py`. It reads signatures: a call counts where the
-fault that it may answer is `AllocError`, or a type of the repository that speaks of memory or has such a part. It looks
-whether each test that the table names is there, and whether the calls of its row are made in the crate of the test (a row
-of text is read by a helper, which makes the call); it ends with status 1 where one is not. A row of the program may name a
-case in the place of a test, as `tests: MODULE.CLASS.TEST`: that has to be one of `tests/run --list`.
+ample memory by a test that compares its answer. The comment above that test says so: "Allocates: `CRATE`: `CALL`, ..", in a
+test of Rattle or of tests/. Run at the top of the repository, by hand: `python3 tools/memory_calls.py`. It reads
+signatures: a call can find no memory where the fault that it may answer is `AllocError`, or a type of the repository that
+speaks of memory or has such a part. It looks whether the calls that a comment names are made in the crate of the test (a
+row of text is read by a helper, which makes the call). The status is 1 where one is not, or a call is named nowhere.
 """
 
 import re
@@ -18,8 +17,10 @@ sys.dont_write_bytecode = True
 from proved_cases import names_of_cases
 
 ROOT = Path(__file__).resolve().parent.parent
-TABLE = ROOT / "docs" / "PROMISES.md"
-HEADING = "## Calls that can find no memory"
+# The comment above a test that says which calls it makes, in Rattle and in Python.
+NAMED = re.compile(r"Allocates: `(\w+)`: ((?:`[\w:]+`[,\s/#]*)+)\.(?=\s)")
+CLASS = re.compile(r"^class (\w+)", re.M)
+TEST = re.compile(r"#\[test\]\s*fn (\w+)|    def (test_\w+)\(")
 
 
 def sources(crate):
@@ -96,15 +97,14 @@ def calls(crate, files, told):
 
 
 def rows():
-    """The rows of the table: a crate, its calls, and the test or the case that makes them."""
-    text = TABLE.read_text()
-    if HEADING not in text:
-        sys.exit(f"{TABLE.name} has no part '{HEADING}'")
-    part = text.split(HEADING, 1)[1].split("\n## ", 1)[0]
-    for line in part.splitlines():
-        cells = [re.findall(r"`([^`]+)`", cell) for cell in line.split("|")[1:-1]]
-        if len(cells) == 3 and all(cells):
-            yield cells[0][0], cells[1], cells[2][0]
+    """The calls that tests say they make: a crate, its calls, and the test or the case, as `tests: MODULE.CLASS.TEST`."""
+    for file in sorted([*(ROOT / "crates").glob("*/src/**/*.rt"), *(ROOT / "tests").glob("test_*.py")]):
+        text = file.read_text()
+        for named in NAMED.finditer(text):
+            test = TEST.search(text, named.end())
+            owners = CLASS.findall(text[: named.start()])
+            case = test[2] and f"tests: {file.stem}.{owners[-1]}.{test[2]}"
+            yield named[1], re.findall(r"`([^`]+)`", named[2]), case or f"{file.relative_to(ROOT).parts[1]}::{test[1]}"
 
 
 def crate_with_test(files, test):
@@ -114,7 +114,7 @@ def crate_with_test(files, test):
 
 
 def case_of(test):
-    """The case that a row names, or nothing where it names a test of Rattle."""
+    """The case of a row, or nothing where it has a test of Rattle."""
     word, _, case = test.partition(": ")
     return case if word == "tests" else None
 
@@ -149,7 +149,7 @@ def main():
     wrong += [f"{crate}: {call} has no row" for crate, call in sorted(wanted - with_row)]
     for line in wrong:
         print(line)
-    print(f"{len(wanted)} calls can find no memory, {len(wanted & with_row)} of them have a row")
+    print(f"{len(wanted)} calls can find no memory, {len(wanted & with_row)} of them are made by a test that says so")
     sys.exit(1 if wrong else 0)
 
 

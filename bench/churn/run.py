@@ -2,6 +2,7 @@
 """Memory by time, where names come at a rate and live for some seconds. See README.md."""
 
 import argparse
+import multiprocessing
 import os
 import random
 import re
@@ -9,7 +10,6 @@ import shutil
 import subprocess
 import sys
 import tempfile
-import threading
 import time
 from pathlib import Path
 
@@ -24,8 +24,9 @@ ZONE = "churn.example"
 # Where the zone's server listens, and those that are measured.
 PORTS = {"nsd": 15311, "dnsfleet": 15313, "peer": 15314, "unbound": 15315, "dnsmasq": 15316}
 HOUR = 3600
-# How many times a second questions are handed to the client.
-TICKS = 200
+# How many times a second questions are handed to the client, and how many of these times may be made up for at once.
+TICKS = 1000
+MADE_UP = 2
 # The names that dnsmasq holds at most.
 DNSMASQ_NAMES = 150_000
 
@@ -107,20 +108,18 @@ class Server:
 
 def feed(pipe, rate, seconds, ttls, seed):
     """Writes so many questions a second for new names of one length, each below the label of one of the TTLs. What it
-    or the reader was late for is left out and not made up for: else more than that would come in at once."""
+    or the reader was late for is left out, but for a few thousandths of a second's: else more than a site may have open
+    would come in at once."""
     words, tick = random.Random(seed), 0
-    now = time.monotonic()
-    following, end = now, now + seconds
+    began = time.monotonic()
     try:
-        while now < end:
+        while tick < seconds * TICKS:
             numbers = range(rate * tick // TICKS, rate * (tick + 1) // TICKS)
             text = "".join(f"n{number:08d}.t{words.choice(ttls)}.{ZONE} A\n" for number in numbers)
+            time.sleep(max(0, began + tick / TICKS - time.monotonic()))
             pipe.write(text.encode())
             pipe.flush()
-            tick += 1
-            following = max(following + 1 / TICKS, time.monotonic())
-            time.sleep(max(0, following - time.monotonic()))
-            now = time.monotonic()
+            tick = max(tick + 1, int((time.monotonic() - began) * TICKS) - MADE_UP)
         pipe.close()
     except BrokenPipeError:
         pass
@@ -132,8 +131,9 @@ def ask(port, rate, seconds, ttls, sample, every):
     # A file, since dnsperf has a line for each question that is lost, and waits where nobody reads them.
     with tempfile.TemporaryFile() as told:
         client = subprocess.Popen(words, stdin=subprocess.PIPE, stdout=told, stderr=subprocess.STDOUT)
-        names = threading.Thread(target=feed, args=(client.stdin, rate, seconds, ttls, 1))
+        names = multiprocessing.Process(target=feed, args=(client.stdin, rate, seconds, ttls, 1))
         names.start()
+        client.stdin.close()
         try:
             began = time.monotonic()
             for second in range(every, seconds + 1, every):

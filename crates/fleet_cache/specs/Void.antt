@@ -1,5 +1,5 @@
 -- What flushes withdraw.
--- Serves every call of `Cache`.
+-- Serves every call of `Cache`, law `tests_hold`.
 use Rattle.std.specs.Prelude.{◌≡◌, ◌≢◌, ◌≤◌, Bool, true, false, ◌&&◌, not, nat_le}
 use Rattle.std.specs.List.{list_any}
 use Rattle.fleet_name.specs.Name.{IsUnder}
@@ -9,7 +9,8 @@ use Rattle.fleet_observe.specs.Members.{Has}
 use Rattle.fleet_observe.specs.Observation.{ObservationData, Observations}
 use Rattle.fleet_cache.specs.Relevant.{is_under}
 
--- f is a flush of o's name or of one above it, and not stamped before o, which is none
+-- f withdraws o: f is a flush of the name of o or of one above it, o is no flush, and o was stamped no
+-- later than f
 pub record Voids (f o : ObservationData) : Type 0 where
   pub flush : f.kind ≡ Flush
   pub other : o.kind ≢ Flush
@@ -27,11 +28,12 @@ is_flush NoData = false
 is_flush Positive = false
 is_flush Flush = true
 
--- the same as tests
+-- `Voids` as a test
 abbrev pub voids : ObservationData → ObservationData → Bool
 voids f o =
     is_flush f.kind
     && (not (is_flush o.kind) && (is_under o.name f.name && nat_le o.stamp f.stamp))
 
+-- `IsVoid` as a test
 abbrev pub is_void : Observations → ObservationData → Bool
 is_void s o = list_any (λ f. voids f o) s

@@ -31,14 +31,20 @@ pub struct Stopped {
     pub taken: usize,
 }
 
-/// The undominated observations of a set that are live at a floor: those of a name in one front, by
-/// kind, then type, then the preferred first, and the fronts in maps by the octets of the names,
-/// eight octets to a word: one for short names, one for the others.
+/// What a site holds: the undominated observations of a set that are live at a floor.
 ///
-/// What is in memory may have ended by the floor, or be withdrawn by a flush that is held. No call
-/// shows it, and each purge drops some of it, and so does each observation that is kept. `most` counts the observations that were given to the maps since
-/// these were empty, kept or not, so that no more are held and they can be counted: at the greatest
-/// number, which no machine reaches, nothing more is taken.
+/// Those of a name lie in one front, by kind, then type, then the preferred first. The fronts lie in
+/// maps by the octets of the names, eight octets to a word: one map for short names, one for the
+/// others.
+///
+/// What is in memory may have ended by the floor, or be withdrawn by a flush that is held. Each purge
+/// drops some of it, and so does each observation that is kept. Public contracts speak of what is held,
+/// and not of this: the contracts of `Memory` and the laws `memory_follows` and `memory_falls` do.
+///
+/// `most` counts the observations that were given to the maps since these were empty, kept or not. No
+/// more are held, so they can be counted: at the greatest number, which no machine reaches, nothing
+/// more is taken. The allocator is kept beside the maps, for keys and fronts: a map lends its own to
+/// nobody.
 #[derive(Drop)]
 pub struct Cache<A: Allocator = Global> {
     most: usize,
@@ -62,7 +68,7 @@ impl<A: Allocator> Model for Cache<A> {
 }
 
 impl<A: Allocator> Cache<A> {
-    /// The cache of no observations: no items, at floor 0.
+    /// The cache of no observations: no items, at floor 0. This allocates nothing.
     pub fn new(alloc: A) -> Cache<A>
     where
         A: Copy,
@@ -76,12 +82,15 @@ impl<A: Allocator> Cache<A> {
         }
     }
 
-    /// Takes an observation in. `false` where it had ended at the floor, is withdrawn by a flush,
-    /// was there already or is dominated: then nothing changes. Else what it dominates goes, and
-    /// what it withdraws, if it is a flush, is not held any more: it is hidden at once, and leaves
-    /// the memory later. Behind an observation that is kept, some of what has ended by the floor leaves
-    /// the memory too. This allocates only for an observation that is to be held;
-    /// `Err` where the allocation fails, and nothing changes.
+    /// Takes an observation in: the cache is then that of the set with this one. The answer is `false`
+    /// exactly where the observation had ended at the floor, is withdrawn by a flush, was there already
+    /// or is dominated: then nothing changes. Else what it dominates goes. A flush withdraws what was
+    /// stamped no later at and below its name, whether that came before it or comes after; this is
+    /// hidden at once, and leaves the memory later. After an observation that is kept, some of what has
+    /// ended by the floor leaves the memory too.
+    ///
+    /// Memory is allocated only for an observation that is to be held. `Err` where the allocation
+    /// fails, and nothing changes.
     pub fn take(&mut self, observation: Observation<A>) -> Result<bool, AllocError>
     where
         A: Copy,
@@ -104,8 +113,10 @@ impl<A: Allocator> Cache<A> {
         Ok(kept)
     }
 
-    /// Takes observations in, one after the other, as `take` does. Only those that are to be held
-    /// are allocated for. `Err` says how many were taken before an allocation failed.
+    /// Takes a list of observations in, one after another, as `take` does: the cache is then that of
+    /// the set with the list. Memory is allocated only for those that are to be held. `Err` says how
+    /// many were taken before an allocation failed: the cache is then that of the set with exactly
+    /// these first ones.
     pub fn take_list(&mut self, observations: Vec<Observation<A>, A>) -> Result<(), Stopped>
     where
         A: Copy,
@@ -142,8 +153,8 @@ impl<A: Allocator> Cache<A> {
         is_past_lent(self.memory.held(), lent, self.memory.floor())
     }
 
-    /// Whether what is lent is held, so that it need not be taken in: it is one of the items, or one
-    /// that has ended at the floor or is withdrawn and is still in memory. It is compared in place,
+    /// Whether what is lent is held, so that it need not be taken in. It is `true` for each item, and
+    /// for what has ended at the floor or is withdrawn and is still in memory. It is compared in place,
     /// and nothing is allocated.
     pub fn holds(&self, lent: &LentObservation<'_>) -> bool
         requires { IsWire lent.now.name.now }
@@ -158,10 +169,10 @@ impl<A: Allocator> Cache<A> {
         has_lent(self.memory.held().at(lent.name), lent)
     }
 
-    /// Takes copies of the other's items in, in their order, and then purges to its floor: it is
-    /// then the cache of both sets, at the later floor. Only items that are to be held are
-    /// allocated for. `Err` says how many were taken before an allocation failed; the floor is then
-    /// as it was.
+    /// Takes copies of the other cache's items in, in their order, and then purges to its floor: it is
+    /// then the cache of both sets, at the later floor. Only items that are to be held are allocated
+    /// for. `Err` says how many were taken before an allocation failed: exactly the first ones, and the
+    /// floor is as it was.
     pub fn merge(&mut self, other: &Cache<A>) -> Result<(), Stopped>
     where
         A: Copy,
@@ -189,10 +200,14 @@ impl<A: Allocator> Cache<A> {
         Ok(())
     }
 
-    /// Raises the floor to the moment, if that is later: what has ended by then is not held any
-    /// more. A part of it leaves the memory at once, and of what is withdrawn, the rest at further
-    /// purges and takes. Each purge that raises the floor looks at up to 4096 fronts, or at the 256th part of
-    /// them where that is more. It goes on where the last one ended, and ends at the last front.
+    /// Raises the floor to the moment, if that is later: the cache is then that of the same set at this
+    /// floor. What has ended by then is not held any more. A part of it leaves the memory at once, and
+    /// of what is withdrawn, the rest at further purges and takes. Each purge that raises the floor
+    /// looks at up to 4096 fronts, or at the 256th part of them where that is more. It goes on where
+    /// the last one ended, and ends at the last front.
+    ///
+    /// A purge takes no memory. It may ask for smaller room in place of greater one, and keeps what it
+    /// has where there is none.
     pub fn purge(&mut self, moment: Moment)
         ensures purged { (s : Observations) → IsCached s self.old.floor self.old.items
             → IsCached s self.new.floor self.new.items }
@@ -204,8 +219,8 @@ impl<A: Allocator> Cache<A> {
         self.memory.purge(moment);
     }
 
-    /// Drops all items and sets the floor back to 0: it is then as a new cache. This allocates
-    /// nothing.
+    /// Drops all items and sets the floor back to 0: the cache is then as a new one. This allocates
+    /// nothing. It frees all at once, so it takes longer the more there is.
     pub fn clear(&mut self)
         ensures held { self.new ≡ record { floor = 0; items = [] } }
         ensures cached { IsCached [] self.new.floor self.new.items }
@@ -214,14 +229,16 @@ impl<A: Allocator> Cache<A> {
         self.memory.clear();
     }
 
-    /// The moment up to which the cache was purged: what has ended by then is not held.
+    /// The floor: the moment up to which the cache was purged, by `purge` or `merge`. What has ended by
+    /// then is not held.
     pub fn floor(&self) -> Moment
         ensures { result ≡ self.now.floor }
     {
         self.memory.floor()
     }
 
-    /// Whether floor and items are the other's.
+    /// Whether both caches have the same floor and the same items. Caches of equal sets have the same
+    /// items at the same floor.
     pub fn same(&self, other: &Cache<A>) -> bool
         ensures same { IsTrue result ↔ (self.now ≡ other.now) }
         ensures alike { (s t : Observations) → IsCached s self.now.floor self.now.items
@@ -231,8 +248,8 @@ impl<A: Allocator> Cache<A> {
         self.floor() == other.floor() && same_items(self.items(), other.items())
     }
 
-    /// The number of items. It counts them one by one, and passes over what is not live and still
-    /// in memory.
+    /// The number of items, which a `usize` always has. It counts them one by one, and passes over what
+    /// is not live and still in memory.
     pub fn len(&self) -> usize
         ensures { result ≡ length self.now.items }
     {
@@ -246,8 +263,8 @@ impl<A: Allocator> Cache<A> {
         self.items().next().is_none()
     }
 
-    /// The items, by key (the octets of the name, the kind, the type), and the preferred first
-    /// within a key.
+    /// The items, by key (the octets of the name, the kind, the type), and the preferred first within a
+    /// key. None of them is dominated.
     pub fn items(&self) -> Items<'_, A>
         ensures items { result ≡ self.now.items }
         ensures own { IsCached self.now.items self.now.floor self.now.items }
@@ -258,11 +275,14 @@ impl<A: Allocator> Cache<A> {
         Items::new(self.memory.held(), self.memory.floor())
     }
 
-    /// The answer to a question at a moment, or at the floor where the moment is before it. The
-    /// most preferred observation that is live then and relevant decides; an alias is followed
-    /// where another type is asked for, at most 8 of them. Records of two observations are never
-    /// merged (RFC 2181 5.4). The question's class is not looked at. The answer borrows from the
-    /// cache, so nothing is taken or purged while it is in use, and nothing is allocated.
+    /// The answer to a question at a moment, or at the floor where the moment is before it: that of the
+    /// definition over the whole set. The most preferred observation that is live then and relevant
+    /// decides. An alias (CNAME, RFC 1034 3.6.2) is followed where another type is asked for, at most 8
+    /// of them. Links and set have records, and the SOA of a denial says what the answer says. Records
+    /// of two observations are never merged (RFC 2181 5.4). The question's class is not looked at.
+    ///
+    /// The answer borrows from the cache, so nothing is taken or purged while it is in use, and nothing
+    /// is allocated.
     pub fn answer<B: Allocator>(&self, question: &Question<B>, moment: Moment) -> Answer<'_, A>
         ensures filled { AllSome (chain_of result) }
         ensures kinds { HasKinds (answer_data result) }
@@ -273,7 +293,7 @@ impl<A: Allocator> Cache<A> {
         self.answer_at(question.name.octets(), question.rtype, moment)
     }
 
-    /// `answer` for a question that borrows its name.
+    /// The answer to a question that borrows its name, as `answer` gives it.
     pub fn answer_lent(&self, question: &LentQuestion<'_>, moment: Moment) -> Answer<'_, A>
         ensures filled { AllSome (chain_of result) }
         ensures kinds { HasKinds (answer_data result) }

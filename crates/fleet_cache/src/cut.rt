@@ -1,4 +1,5 @@
-//! What hides observations of a name.
+//! What hides observations of a name. What a kind does to others is here and in `Item`, so that
+//! `fleet_front` knows of no kinds.
 
 ghost use Rattle.std.specs.Prelude.{◌≡◌, None, Some};
 ghost use Rattle.fleet_observe.specs.Lent.{IsLent};

@@ -139,6 +139,9 @@ impl<A: Allocator> Fronts<A> {
         self.long.clear();
     }
 
+    // Lets through: another number. A purge, which alone asks, through `Held::len`, then looks at more
+    // or fewer fronts. The test `purges_go_round` sees a number well over 2^20; no test sees another
+    // one, since none has so many fronts.
     /// The number of fronts.
     pub(crate) fn len(&self) -> usize {
         self.short.len().saturating_add(self.long.len())
@@ -154,7 +157,7 @@ impl<A: Allocator> Fronts<A> {
         }
     }
 
-    /// The fronts of short names behind the key with these words, each with its own key, one after
+    /// The fronts of short names after the key with these words, each with its own key, one after
     /// another; all of them where no short name has so many words.
     pub(crate) fn short_behind(&self, words: &[u64]) -> Range<'_, ShortKey, Slot<A>>
         ensures { ListsFronts short_words self.now (IsShortAfter words.now) result }
@@ -165,7 +168,7 @@ impl<A: Allocator> Fronts<A> {
         self.short.range((Bound::Excluded(key), Bound::Unbounded))
     }
 
-    /// The fronts of other names behind this key, each with its own key, one after another.
+    /// The fronts of other names after this key, each with its own key, one after another.
     pub(crate) fn long_behind(&self, key: &Key<A>) -> Range<'_, Key<A>, Slot<A>>
         ensures { ListsFronts (λ k. k.items) self.now (IsLongAfter key.now.items) result }
     {

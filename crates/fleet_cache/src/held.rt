@@ -85,6 +85,11 @@ impl<A: Allocator> Held<A> {
         self.fronts.store(alloc, observation)
     }
 
+    // What may go without a change of the rest, if a cache is ever to hold less: all of a name at once,
+    // but for its flushes that last. Dominance stays within a key, so what is left is the cache of the
+    // set without that name. One item alone may not go, since what it dominated is gone already; nor
+    // may a flush that lasts, since what it withdrew at its name and below is gone. What is noted of
+    // the name's length may stay: it may say too much.
     /// Drops what a cut hides of the front of a name, and the front where nothing is left of it.
     pub(crate) fn trim(&mut self, key: &Key<A>, cut: &Cut)
         ensures own { IsHeld self.new }
@@ -159,7 +164,7 @@ impl<A: Allocator> Held<A> {
         self.fronts.both()
     }
 
-    /// The fronts of short names behind the key with these words, each with its own key, one after
+    /// The fronts of short names after the key with these words, each with its own key, one after
     /// another; all of them where no short name has so many words.
     pub(crate) fn short_behind(&self, words: &[u64]) -> Range<'_, ShortKey, Slot<A>>
         ensures { ListsFronts short_words self.now (IsShortAfter words.now) result }
@@ -167,13 +172,14 @@ impl<A: Allocator> Held<A> {
         self.fronts.short_behind(words)
     }
 
-    /// The fronts of other names behind this key, each with its own key, one after another.
+    /// The fronts of other names after this key, each with its own key, one after another.
     pub(crate) fn long_behind(&self, key: &Key<A>) -> Range<'_, Key<A>, Slot<A>>
         ensures { ListsFronts (λ k. k.items) self.now (IsLongAfter key.now.items) result }
     {
         self.fronts.long_behind(key)
     }
 
+    // Lets through: another number, with what `Fronts::len` says of it.
     /// The number of fronts.
     pub(crate) fn len(&self) -> usize
         ensures own { IsHeld self.now }
@@ -181,6 +187,8 @@ impl<A: Allocator> Held<A> {
         self.fronts.len()
     }
 
+    // Lets through: a body that answers `true` where nothing is noted. A name is then looked up in
+    // vain, which costs time; no answer changes.
     /// Whether a name error may be held of a name of as many octets.
     pub(crate) fn may_deny(&self, name: &[u8]) -> bool
         requires { IsWire name.now }
@@ -198,6 +206,8 @@ impl<A: Allocator> Held<A> {
         self.flushed.has_length_of(name)
     }
 
+    // Lets through: a body that answers `true` where no flush is noted. A purge then reads items that
+    // it could pass over, which costs time alone.
     /// Whether a flush may be held of any name.
     pub(crate) fn may_flush_any(&self) -> bool
         ensures none { result ≡ false → HasNoneShorter Flush LENGTHS self.now }

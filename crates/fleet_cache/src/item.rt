@@ -36,7 +36,7 @@ impl<A: Allocator> Item<A> {
         Item { observation }
     }
 
-    /// The observation.
+    /// The observation of the item.
     pub fn observation(&self) -> &Observation<A>
         ensures { result.now ≡ self.now }
     {

@@ -1,9 +1,9 @@
 //! The cache of a site: the observations that it holds, and its answers.
 //!
 //! A [`Cache`] stands for the plain set of all observations that it was given, and for a floor, the
-//! moment up to which it was purged: it holds those that end after the floor, that no flush
-//! withdraws and that no other one dominates. Neither the order in which they arrived counts, nor
-//! how often, nor by which calls.
+//! moment up to which it was purged: it holds those that end after the floor, that no flush withdraws
+//! and that no other one dominates. It makes no difference in which order they arrived, how often, or
+//! by which calls. Nothing is evicted, so a cache has no bound but memory.
 #![tactic(auto)]
 
 mod answer;

@@ -69,7 +69,7 @@ impl<A: Allocator> Memory<A> {
         &self.held
     }
 
-    /// Takes an observation in. `false` where it is there or dominated. Behind one that was kept the
+    /// Takes an observation in. `false` where it is there or dominated. After one that was kept the
     /// round goes on at the floor. `Err` where an allocation fails; nothing changes.
     ///
     /// While at no time more than `most` observations in memory have not ended, there are at most twice

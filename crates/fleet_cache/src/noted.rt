@@ -12,12 +12,15 @@ use fleet_observe::{Kind, Observation};
 use std::alloc::Allocator;
 use std::marker::Model;
 
-/// The number of lengths of names, in octets: 0 to `LONGEST_NAME`.
+// Lets through: a greater number, which costs memory alone: the table then has places that no name
+// needs.
+/// The number of lengths of names in full, in octets: 0 to `LONGEST_NAME` (RFC 1035 2.3.4).
 const LENGTHS: usize = LONGEST_NAME + 1;
 
 /// The lengths, in octets, of the names of all observations of a kind that came, kept or not. A name
-/// whose length is not noted need not be looked up for one; nor do the names above it, where no
-/// shorter length is noted. A length stays noted when its observations are gone.
+/// whose length is not noted need not be looked up for one; nor do the names above it, where no shorter
+/// length is noted. A length stays noted when its observations are gone, so it may say too much, and
+/// never too little.
 #[derive(Drop)]
 pub(crate) struct Noted {
     /// Whether each length is noted.
@@ -35,6 +38,8 @@ impl Model for Noted {
 }
 
 impl Noted {
+    // Lets through: a body that has lengths noted from the start. Names of such a length are then
+    // looked up in vain, which costs time; no answer changes.
     /// No length noted.
     pub(crate) fn new() -> Noted
         ensures { (kind : Kind) → AreNoted kind result [] }
@@ -45,6 +50,8 @@ impl Noted {
         }
     }
 
+    // Lets through: a body that notes more lengths than that of the observation, or a lesser `least`.
+    // That costs look-ups in vain; no answer changes.
     /// Notes the length of an observation's name, if it is of the kind.
     pub(crate) fn note<A: Allocator>(&mut self, kind: Kind, observation: &Observation<A>)
         ensures noted { (items : Observations) → AreNoted kind self.old items

@@ -22,10 +22,14 @@ use crate::words::{MOST_WORDS, SHORT_WORDS};
 use fleet_observe::{Moment, Observation};
 use std::alloc::{AllocError, Allocator};
 
-/// A purge looks at one in this many fronts, ..
+// Lets through: another number, which no clause has. In a cache of more than 2^20 fronts a purge then
+// looks at more or fewer of them. No test has so many.
+/// A purge looks at one in this many fronts, and at `LEAST` at least.
 const SHARE: usize = 256;
 
-/// .. and at this many at least, if there are as many.
+// Lets through: another number, which no clause has: a purge then looks at more or fewer fronts. A test
+// that compares a cache with a plain map (layers/reclaims.rt) fails where it is 4095 or 4097.
+/// How many fronts a purge looks at at least, if there are as many.
 const LEAST: usize = 4096;
 
 /// Where reclaiming stopped: the words of the key of the front that it looked at last, which is of a
@@ -85,6 +89,9 @@ impl<A: Allocator> Cursor<A> {
         &self.key
     }
 
+    // Lets through: a body that stops at each name, and returns a greater number in `left`. The place
+    // is then looked up anew for each name, which costs time alone: callers count the looks down
+    // themselves.
     /// Goes on over at most `left` fronts, those of short names first, up to the first that holds
     /// anything to drop, or back to the start where there are no more. What a flush withdraws counts
     /// with `flushes` alone. It allocates nothing: without room for the key it goes back to the start
@@ -188,6 +195,8 @@ impl Passed {
     }
 }
 
+// Lets through: a body that answers `true` for any front. The front is then looked up, and nothing of
+// it is dropped: that costs time alone.
 /// Whether a front of a cache holds anything that has ended at the moment, or with `flushes` anything
 /// that is not live. None of its items is looked at without `flushes`, or where no flush was noted.
 fn is_stale<A: Allocator>(held: &Held<A>, front: &Slot<A>, moment: Moment, flushes: bool) -> bool
@@ -219,9 +228,14 @@ fn hides_any<A: Allocator>(cut: &Cut, items: &[Item<A>]) -> bool
     items.iter().any(|item| cut.hides(item.observation()))
 }
 
-/// Drops what is not live at the moment, in a part of the fronts: those behind the cursor, which
-/// goes on with them, and back to the start behind the last one. A front of which
-/// nothing is left is dropped too.
+// Lets through: a body that looks at fewer names, or at none: clauses say that a purge drops nothing
+// that is live, not how far it goes. What has ended then stays in memory. `purges_go_round` counts the
+// memory that purges give back, and `purges_leave_what_is_live_in_memory` looks for each observation
+// after each purge (tested body `purge_ends_at_the_first_stale_front`).
+/// Drops what is not live at the moment, in a part of the fronts: those after the cursor, which goes on
+/// with them, and back to the start after the last one. A front of which nothing is left is dropped
+/// too. So of up to 2^20 fronts what has ended is gone n / 4096 + 2 purges later at most, where n counts
+/// the fronts that there were and that came meanwhile; of more, a round takes some 256 purges.
 pub(crate) fn reclaim<A: Allocator>(held: &mut Held<A>, cursor: &mut Cursor<A>, moment: Moment)
     ensures reclaimed { IsReclaimed moment held.old held.new }
     ensures own { IsHeld held.old }

@@ -1,4 +1,4 @@
-//! Dropping what has ended, behind what is taken in: so the memory follows what lives at any rate.
+//! Dropping what has ended, after what is taken in: so the memory follows what lives at any rate.
 
 ghost use Rattle.std.specs.Prelude.{◌≡◌, ◌<◌, ◌≤◌, ◌+◌, ◌-◌, ◌*◌, ◌⊎◌, ℕ, [], vec_capacity, min, IfOk, OnOk, OnErr};
 ghost use Rattle.fleet_observe.specs.Observation.{Observations};
@@ -14,12 +14,18 @@ use crate::reclaim::{Cursor, trim};
 use fleet_observe::{Moment, Observation};
 use std::alloc::{AllocError, Allocator};
 
-/// How many fronts are to be looked at behind each observation that was kept, ..
+/// How many fronts are to be looked at for each observation that was kept. The clauses of `Round::note`
+/// and `Round::go_on` have it and `BATCH` as numbers, and those of `memory_follows` and `memory_falls`
+/// follow from both. With three looks the bound would be some 3 n in place of 2 n; with two there would
+/// be none, since as many could come in during a round as were there before it.
 const PACE: usize = 4;
 
-/// .. this many at a time: to find the place where the round stands is dear beside a look.
+/// How many fronts are looked at a time: to find the place where the round stands is dear beside a
+/// look.
 const BATCH: usize = 32;
 
+// Lets through: earlier moments in `soonest` and `soonest_passed` than the first end. Takes then look
+// at fronts of which nothing has ended, which costs time alone.
 /// Where takes are in the fronts, which they go over round after round: some fronts for each
 /// observation that was kept.
 #[derive(Drop)]
@@ -77,6 +83,10 @@ impl<A: Allocator> Round<A> {
     /// Where `BATCH` fronts are owed, goes on over them, or up to the last one, and drops what is not
     /// live at the floor of those in which anything has ended. Where nothing in memory can have ended
     /// by the floor, none is looked at, and none is owed any more.
+    ///
+    /// What a flush withdrew is left to purges and to its own end. To ask for it would read the items of
+    /// each front, and go up its name, as long as any flush is noted: then a peer with one flush and one
+    /// name of many observations could make each take go over all of them.
     fn go_on(&mut self, held: &mut Held<A>, floor: Moment)
         requires room { MOST_WORDS ≤ vec_capacity self.old.cursor.key }
         requires unended { HasSoonest self.old.soonest self.old.soonest_passed self.old.cursor.key.items
@@ -135,12 +145,12 @@ impl<A: Allocator> Round<A> {
     }
 }
 
-/// Takes an observation into memory. `false` where it is there or dominated. Behind one that was kept
+/// Takes an observation into memory. `false` where it is there or dominated. After one that was kept
 /// the round goes on. `Err` where an allocation fails; nothing changes.
 ///
-/// While at no time more than `most` observations in memory have not ended, there are at most twice
-/// as many in memory, and 33; and a round that ends leaves at most `most`, a third of what there was
-/// when it began, and eleven.
+/// While at no time more than `most` observations in memory have not ended, there are at most twice as
+/// many in memory, and 33; and a round that ends leaves at most `most`, a third of what there was when
+/// it began, and eleven.
 pub(crate) fn take_in<A: Allocator + Copy>(
     held: &mut Held<A>,
     round: &mut Round<A>,

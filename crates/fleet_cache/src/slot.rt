@@ -16,7 +16,8 @@ use std::alloc::{AllocError, Allocator};
 use std::marker::Model;
 
 /// The front of a name. None of its items ends before `soonest`, which lies in the map itself: who
-/// looks for what has ended reads the items of a name only where there can be any.
+/// looks for what has ended reads the items of a name only where there can be any. A name of very many
+/// types has a long front, and what is taken in and asked there goes over all of it.
 #[derive(Drop)]
 pub(crate) struct Slot<A: Allocator> {
     front: Front<Item<A>, A>,
@@ -54,6 +55,8 @@ impl<A: Allocator> Slot<A> {
         self.front.items()
     }
 
+    // Lets through: a body that returns an earlier moment, as `soonest_of` may. Purges and takes then
+    // read the items of a name, or look its front up, where nothing has ended: that costs time alone.
     /// A moment before which none of the items ends: the one at which the first of them does.
     pub(crate) fn soonest(&self) -> u64
         ensures { NoneSooner result self.now }

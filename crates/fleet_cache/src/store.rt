@@ -83,7 +83,8 @@ pub(crate) fn drop_hidden<A: Allocator>(fronts: &mut Long<A>, words: &[u64], cut
     }
 }
 
-/// The front of one observation, for a name that has none yet. `Err` where an allocation fails.
+/// The front of one observation, for a name that has none yet. It is made before it goes into its map,
+/// so no empty front stays there. `Err` where an allocation fails.
 pub(crate) fn front_of<A: Allocator>(
     alloc: A,
     observation: Observation<A>,

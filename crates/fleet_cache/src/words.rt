@@ -10,10 +10,12 @@ use arrayvec::ArrayVec;
 /// How many octets a word has at most.
 pub(crate) const WORD_OCTETS: usize = 8;
 
-/// The most words of a name.
+/// The most words of a name. With `WORD_OCTETS` to a word they have room for `LONGEST_NAME` octets
+/// (RFC 1035 2.3.4).
 pub(crate) const MOST_WORDS: usize = 32;
 
-/// How many words the key of a short name has: a name is short if its octets fit in these.
+/// How many words the key of a short name has, as many as `ShortKey` has fields: a name is short if its
+/// octets fit in these.
 pub(crate) const SHORT_WORDS: usize = 4;
 
 /// The powers of 256 from the seventh one down: an octet is a digit, and 0 is the digit where there
@@ -85,7 +87,7 @@ pub(crate) fn short_key(octets: &[u8]) -> Option<ShortKey>
     })
 }
 
-/// A word, and the octets behind it.
+/// A word, and the octets after it.
 #[derive(Drop)]
 struct Next<'a> {
     word: u64,

@@ -1,8 +1,8 @@
 //! The undominated values of a set, greatest first.
 //!
 //! A [`Front`] stands for a plain set of values: of all that it was given, it holds those that no
-//! other one dominates. Neither the order in which they came counts, nor how often. A cut hides
-//! some values of the set: the front of those that it shows is what it shows of the front.
+//! other one dominates. It does not matter in which order they came, or how often. A cut hides some
+//! values of the set: the front of those that it shows is what it shows of the front.
 //!
 //! [`Ranked`] says how the values compare, which of them dominate and what hides them. All that is
 //! said here holds for each type that keeps its laws.
@@ -72,7 +72,7 @@ impl<T: Ranked, A: Allocator> Front<T, A> {
         }
     }
 
-    /// The items, greatest first.
+    /// The items, greatest first: they are the front of themselves.
     pub fn items(&self) -> &[T]
         ensures items { result.now ≡ self.now }
         ensures front { IsFront T.order T.dominates self.now self.now }
@@ -80,9 +80,10 @@ impl<T: Ranked, A: Allocator> Front<T, A> {
         &self.items
     }
 
-    /// Takes a value in; `false` where it is there already or one of the items dominates it, and
-    /// nothing changed. Else it goes to its place, and what it dominates goes. This allocates only
-    /// for a value that is to be held; `Err` where the allocation fails, and nothing changes.
+    /// Takes a value in: the items are then the front of the set with it. `false` exactly where it
+    /// is there already or one of the items dominates it, and nothing changes. Else it goes to its
+    /// place, and what it dominates goes. This allocates only for a value that is to be held; `Err`
+    /// where the allocation fails, and nothing changes.
     pub fn take(&mut self, value: T) -> Result<bool, AllocError>
         ensures taken { (s : List T) → IsFront T.order T.dominates s self.old
             → OnOk result (IsFront T.order T.dominates (value ∷ s) self.new) }
@@ -134,6 +135,8 @@ fn covers<T: Ranked>(items: &[T], value: &T) -> bool
 /// The number of items up to which a front has exactly the room that it needs.
 const FEW: usize = 4;
 
+// Lets through: a body that makes more room than an item needs, or has another number than `FEW`.
+// That costs memory alone, and no test has the number.
 /// Makes room for one more item. For each of the first `FEW` this is exactly one, since most fronts
 /// have no more. `Err` where an allocation fails; the items are then as they were.
 fn make_room<T: Ranked, A: Allocator>(items: &mut Vec<T, A>) -> Result<(), AllocError>
@@ -171,7 +174,10 @@ fn keep_shown<T: Ranked, A: Allocator>(items: &mut Vec<T, A>, cut: &T::Cut)
     );
 }
 
-/// Gives room back where less than a quarter of it is used: as much as is used stays once more. Where
+// Lets through: a body that keeps all of the room, since the clause says nothing of it. The tested
+// body `front_keeps_its_room` does so, and the test `a_name_gives_back_the_room_that_it_had` sees
+// it.
+/// Gives room back where less than a quarter of it is used: room for twice the items is left. Where
 /// the smaller room can't be allocated, all of it stays.
 fn give_room_back<T: Ranked, A: Allocator>(items: &mut Vec<T, A>)
     ensures { items.new.items ≡ items.old.items }
@@ -194,7 +200,7 @@ fn first_kept<'a, T: Ranked>(items: &'a [T], cut: &T::Cut) -> Option<&'a T>
     None
 }
 
-/// How many items at the front are greater than the value.
+/// How many items at the beginning are greater than the value.
 fn insertion_index<T: Ranked>(items: &[T], value: &T) -> usize
     ensures count { result ≡ count_above T.order value.now items.now }
     ensures within { result ≤ length items.now }

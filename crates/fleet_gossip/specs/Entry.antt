@@ -1,6 +1,6 @@
 -- An entry of a frame: one observation. All numbers are big-endian, all names in lower case and in
 -- full.
--- Serves `encode`, `decode`.
+-- Serves `encode`, `decode`, `take_frame`, `pack`, `sweep`, and every law of frames.
 use Rattle.std.specs.Prelude.{◌≡◌, ℕ, ◌/◌, ◌%◌, ◌≤◌, List, [], ◌∷◌, ◌++◌, length}
 use Rattle.fleet_name.specs.Types.{Labels, OctetList}
 use Rattle.fleet_wire.specs.Types.{RType, Seconds}
@@ -15,14 +15,16 @@ use Rattle.fleet_observe.specs.declared.observation.kind.Kind.{Kind}
 use Rattle.fleet_observe.specs.declared.observation.kind.Kind.TheVariants.{NameError, NoData, Positive, Flush}
 use Rattle.fleet_gossip.specs.declared.frame.TheConstants.{OLDEST_VERSION, VERSION, FLUSH_VERSION}
 
--- numbers of one and of eight octets
+-- a number of one octet
 abbrev pub octet : ℕ → OctetList
 octet n = n ∷ []
 
+-- a number of eight octets, the highest first
 abbrev pub u64_octets : ℕ → OctetList
 u64_octets n = u32_octets (n / 4294967296) ++ u32_octets (n % 4294967296)
 
--- kind 1, rank 1, stamp 8, life 4 octets, the name in full, type 2 octets, the body
+-- the octets of an observation in a frame: kind 1, rank 1, stamp 8, life 4 octets, the name in full
+-- (RFC 1035 3.1), type 2 octets, the body
 abbrev pub entry_octets : ObservationData → OctetList
 entry_octets o =
     octet (kind_number o.kind)
@@ -30,7 +32,7 @@ entry_octets o =
     ++ (u64_octets o.stamp
     ++ (u32_octets o.life ++ (wire o.name ++ (u16_octets o.rtype ++ o.body)))))
 
--- the versions that are read
+-- the versions that are read: from `OLDEST_VERSION` to `VERSION`
 abbrev pub IsVersion : ℕ → Type 0
 IsVersion version = (OLDEST_VERSION ≤ version) × (version ≤ VERSION)
 
@@ -41,14 +43,15 @@ IsKindIn version NoData = Unit {0}
 IsKindIn version NameError = Unit {0}
 IsKindIn version Flush = FLUSH_VERSION ≤ version
 
--- an observation that a frame of the version may have, and a list of such
+-- an observation that a frame of the version may have
 abbrev pub IsIn : ℕ → ObservationData → Type 0
 IsIn version o = IsObservation o × IsKindIn version o.kind
 
+-- observations that a frame of the version may have
 abbrev pub AreIn : ℕ → Observations → Type 0
 AreIn version list = (o : ObservationData) → Has list o → IsIn version o
 
--- the number of a kind
+-- the number is that of the kind
 abbrev pub IsKind : ℕ → Kind → Type 0
 IsKind number kind = number ≡ kind_number kind
 
@@ -56,7 +59,7 @@ IsKind number kind = number ≡ kind_number kind
 abbrev pub IsKindNumber : ℕ → ℕ → Type 0
 IsKindNumber version number = (kind : Kind) × IsKind number kind × IsKindIn version kind
 
--- a moment, in seconds
+-- a moment, in seconds: at most `LATEST`
 abbrev pub IsMoment : Seconds → Type 0
 IsMoment moment = moment ≤ LATEST
 

@@ -1,6 +1,6 @@
 -- Why octets are no frame: the first fault, in reading order. The octets of each definition are
 -- those that are left.
--- Serves `encode`, `decode`.
+-- Serves `encode`, `decode`, `take_frame`, the laws `one_fault`, `list_or_fault`.
 use Rattle.std.specs.Prelude.{◌≡◌, ℕ, ◌+◌, ◌<◌, ◌≤◌, ◌⊎◌, List, [], ◌∷◌, ◌++◌, length}
 use Rattle.std.specs.List.{flat_map}
 use Rattle.fleet_name.specs.Types.{Label, Labels, OctetList}
@@ -48,8 +48,8 @@ pub data OctetsFail (Lawful : OctetList → Type 0) (refusal : FrameFault) (size
       → f ≡ refusal
       → OctetsFail Lawful refusal size octets f
 
--- a label of `size` octets may follow these labels: it has 1 to LONGEST_LABEL octets, and the name
--- with its zero octet at most LONGEST_NAME
+-- a label of `size` octets may follow these labels: it has 1 to LONGEST_LABEL octets, and the name with
+-- its zero octet at most LONGEST_NAME (RFC 1035 2.3.4)
 pub record IsRoom (before : Labels) (size : ℕ) : Type 0 where
   pub some : 0 < size
   pub short : size ≤ LONGEST_LABEL
@@ -59,7 +59,7 @@ pub record IsRoom (before : Labels) (size : ℕ) : Type 0 where
 abbrev pub IsLengthOctet : Labels → ℕ → Type 0
 IsLengthOctet before size = 0 < size → IsRoom before size
 
--- in lower case
+-- a label in lower case
 abbrev pub IsLower : Label → Type 0
 IsLower label = lower label ≡ label
 
@@ -103,7 +103,7 @@ pub data NegativeFails (name : Labels) (octets : OctetList) (f : FrameFault) : T
       → IsUnder name owner → SizedFails (IsPlain SOA) rest f
       → NegativeFails name octets f
 
--- the first fault of a body, by kind
+-- the first fault of a body, by kind; the body of a flush is empty, and has none
 abbrev pub BodyFails : Kind → Labels → RType → OctetList → FrameFault → Type 0
 BodyFails Positive name rtype = PositiveFails rtype
 BodyFails NoData name rtype = NegativeFails name
@@ -120,12 +120,13 @@ pub data NameFieldFails (refusal : FrameFault)
       → Behind name rest f
       → NameFieldFails refusal Behind octets f
 
--- the kind of a number, and what fails behind it
+-- the kind of a number, and what fails after it
 abbrev pub KindOf : (Kind → OctetList → FrameFault → Type 0) → ℕ → OctetList → FrameFault → Type 0
 KindOf Behind number octets f = (kind : Kind) × IsKind number kind × Behind kind octets f
 
--- The first fault of an entry. It has a line for each field, in reading order: how it is spelled and
--- in how many octets, what is lawful, the fault of what is not, and its name for the lines behind.
+-- The first fault of an entry. It has a line for each field, in reading order: how it is spelled and in
+-- how many octets, what is lawful, the fault of what is not, and its name for the lines that follow.
+-- The lemmas call these lines by the names in proofs/EntryLines.antt.
 abbrev pub EntryFails : ℕ → OctetList → FrameFault → Type 0
 EntryFails version =
     FieldFails octet 1 (IsKindNumber version) BadKind (KindOf (λ kind.
@@ -161,6 +162,6 @@ FrameFails octets f =
     ((LONGEST_FRAME < length octets) × (f ≡ TooLong))
     ⊎ ((length octets ≤ LONGEST_FRAME) × FrameFieldsFail octets f)
 
--- these observations would make too long a frame
+-- these observations would make too long a frame in the version that is written
 abbrev pub IsTooLong : Observations → FrameFault → Type 0
 IsTooLong list f = (f ≡ TooLong) × (LONGEST_FRAME < length (frame_octets VERSION list))

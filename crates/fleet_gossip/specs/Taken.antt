@@ -11,7 +11,8 @@ use Rattle.fleet_gossip.specs.declared.fault.FrameFault.{FrameFault}
 use Rattle.fleet_gossip.specs.declared.take.TakeFault.{TakeFault}
 use Rattle.fleet_gossip.specs.declared.take.TakeFault.TheVariants.{Refused, OutOfMemory}
 
--- the cache took these observations in
+-- the cache took these observations in: it is then the cache of each set that it was of before, with
+-- them
 abbrev pub Takes : CacheData → CacheData → Observations → Type 0
 Takes before after list = (s : Observations) → IsCached s before.floor before.items
     → IsCached (list ++ s) after.floor after.items
@@ -56,7 +57,8 @@ pub record RefusesFrame (octets : OctetList) (before after : CacheData) (f : Fra
     pub unspelled : (list : Observations) → ¬ SpellsFrame octets list
     pub same : after ≡ before
 
--- why a frame was not taken whole
+-- why a frame was not taken whole: it is refused, or memory ran out, either before any was taken or
+-- after the first ones
 abbrev pub StopsAt : OctetList → CacheData → CacheData → TakeFault → Type 0
 StopsAt octets before after (Refused f) = RefusesFrame octets before after f
 StopsAt octets before after (OutOfMemory taken) =

@@ -174,7 +174,8 @@ impl FrameEntry<'_> {
         }
     }
 
-    /// The observation of the entry. `Err` where an allocation fails.
+    /// The observation of the entry. `Err` where an allocation fails. The constructors check the values
+    /// once more, so that they have no condition which only this caller could meet.
     pub fn to_observation<A: Allocator + Copy>(
         &self,
         alloc: A,

@@ -22,10 +22,12 @@ use std::alloc::{AllocError, Allocator};
 /// The octets 44 47 (hex), with which a frame begins.
 pub(crate) const MAGIC: u16 = 0x4447;
 
-/// The version of the frames that are written, and the newest one that is read.
+/// The version of the frames that are written, and the newest one that is read. It rises with a change
+/// of what frames may have (a kind, a field, RDATA of another shape, a further refusal), where sites
+/// from before and after the change may meet.
 pub const VERSION: u8 = 2;
 
-/// The oldest version that is read.
+/// The oldest version that is read. Version 1 has no flushes.
 pub const OLDEST_VERSION: u8 = 1;
 
 /// The first version with flushes.
@@ -176,8 +178,8 @@ fn to_observations<A: Allocator + Copy>(
     Ok(observations)
 }
 
-/// The observations of a frame, in its order. Of a frame of version `VERSION` these are the ones
-/// that `encode` makes it of.
+/// The observations of a frame, in its order: exactly the list that the octets spell, in either
+/// version. Of a frame of version `VERSION` these are the ones that `encode` makes it of.
 ///
 /// All octets are checked before anything is allocated. `Err` is the first fault in reading order;
 /// `OutOfMemory` comes only where there is no other and the frame has entries. No part of a refused

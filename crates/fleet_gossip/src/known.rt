@@ -1,5 +1,5 @@
-//! Reading entries that were checked before: where a field ends is looked for, and what it holds is
-//! not checked again. Nothing here allocates.
+//! Reading entries that were checked before: where a field ends is looked for, and what it holds is not
+//! checked again. Nothing here allocates.
 
 ghost use Rattle.std.specs.Prelude.{◌≡◌, ◌++◌, ℕ};
 ghost use Rattle.fleet_name.specs.Types.{Labels, OctetList};

@@ -10,14 +10,15 @@ ghost use Rattle.fleet_gossip.specs.declared.frame.TheConstants.{VERSION};
 ghost use Rattle.fleet_gossip.specs.declared.bounds.TheConstants.{LONGEST_FRAME};
 ghost use Rattle.fleet_gossip.specs.declared.fault.FrameFault.{FrameFault};
 
-/// Octets spell one list of observations at most.
+/// Octets spell one list of observations at most. So decoding undoes encoding.
 pub fn one_list()
     ensures { (octets : OctetList) (a b : Observations) → SpellsFrame octets a
         → SpellsFrame octets b
         → a ≡ b }
 {}
 
-/// A list has one frame of a version at most.
+/// A list has one frame of a version at most. So what `decode` accepts of version `VERSION` is what
+/// `encode` writes.
 pub fn one_spelling()
     ensures { (list : Observations) (a b : OctetList) → (x : SpellsFrame a list)
         → (y : SpellsFrame b list) → x.version ≡ y.version

@@ -17,7 +17,8 @@ use fleet_name::Octets;
 use fleet_observe::Observation;
 use std::alloc::{AllocError, Allocator};
 
-/// Frames that are being made.
+/// Frames that are being made. One buffer holds the entries of each frame in turn; a finished frame is
+/// one allocation of its exact size.
 #[derive(Drop)]
 pub(crate) struct Packer<A: Allocator> {
     alloc: A,
@@ -91,9 +92,9 @@ impl<A: Allocator + Copy> Packer<A> {
     }
 }
 
-/// The frames of observations, in their order: each observation goes into the frame of the one
-/// before it where that then has at most `LONGEST_FRAME` octets, else it begins a new frame. An
-/// empty list has no frames, and allocates nothing. `Err` where an allocation fails.
+/// The frames of observations, in their order, each with as many as fit. Each observation goes into the
+/// frame of the one before it where that then has at most `LONGEST_FRAME` octets, else it begins a new
+/// frame. An empty list has no frames, and allocates nothing. `Err` where an allocation fails.
 pub fn pack<A: Allocator + Copy>(
     alloc: A,
     observations: &[Observation<A>],

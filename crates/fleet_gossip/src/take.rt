@@ -46,6 +46,8 @@ fn is_passed_over<A: Allocator>(cache: &Cache<A>, lent: &LentObservation<'_>) ->
     cache.is_past_lent(lent) || cache.holds(lent)
 }
 
+// Lets through: another number, which no clause and no test has. Where it is greater, more is copied
+// after what is not held.
 /// The most entries that are made unseen before the next one is looked at.
 const MOST_UNSEEN: u16 = 63;
 
@@ -69,6 +71,10 @@ impl Unseen {
         Unseen { run: 0, left: 0 }
     }
 
+    // Lets through: a body that looks at each entry, which costs time alone. Or one that passes over
+    // nothing more once an entry was not passed over: what is held is then copied, and a frame takes
+    // more memory. The test `what_is_held_is_looked_for_behind_what_is_not` has no room for that
+    // (tested body `stays_unseen_behind_what_is_not_held`).
     /// Whether the next entry is looked at and passed over.
     fn passes_over<A: Allocator>(&mut self, cache: &Cache<A>, lent: &LentObservation<'_>) -> bool
         requires { IsWire lent.now.name.now }
@@ -140,15 +146,24 @@ fn take_made<A: Allocator + Copy>(
     Ok(())
 }
 
-/// Takes the observations of a frame into a cache, in their order, and says how many the frame has.
+// Lets through: a body that takes the first ones before all are made, so that they stay where memory
+// fails for a later one. By its type `to_made` can't do so, since it only borrows the cache; the test
+// `a_frame_is_made_before_it_is_taken` sees one that does.
+/// Takes the observations of a frame into a cache, in their order, and says how many the frame has. The
+/// cache is then that of the set with the frame's list.
 ///
-/// All octets are checked first, as `decode` does; where they are no frame, nothing is taken. An
-/// observation that had ended at the floor or is withdrawn by a flush is passed over, and so is one
-/// that the cache holds, which is compared in place: nothing is allocated for those. After two in a
-/// row that are not passed over, the next ones are made unseen, whatever they are, up to 63 before
-/// one is looked at again. All that are made are made before the first is taken, so that where memory
-/// fails for one of them, the cache is as it was. `OutOfMemory` comes only of a frame with an
-/// observation that is neither past nor one of the cache's items.
+/// All octets are checked first, as `decode` does; where they are no frame, nothing is taken, and the
+/// fault is the first one. An observation that had ended at the floor or is withdrawn by a flush is
+/// passed over, and so is one that the cache holds, which is compared in place: nothing is allocated
+/// for those. After two in a row that are not passed over, the next ones are made unseen, whatever they
+/// are, up to 63 before one is looked at again. So a frame with two such entries may ask for as much
+/// memory as `decode` does.
+///
+/// All that are made are made before the first is taken, so that where memory fails for one of them,
+/// the cache is as it was. Where it fails later, exactly the first ones were taken, as many as the
+/// fault says, and the next one is still to be held. `OutOfMemory` comes only of a frame with an
+/// observation that is neither past nor one of the cache's items: a frame of nothing else is taken
+/// without memory.
 pub fn take_frame<A: Allocator + Copy>(
     alloc: A,
     cache: &mut Cache<A>,

@@ -15,11 +15,11 @@ octet_text c =
     if nat_eq c 46 || nat_eq c 92 then 92 ∷ c ∷ [] else
     if nat_le 33 c && nat_le c 126 then c ∷ [] else digits c
 
--- a label, and the dot behind it
+-- a label, and the dot after it
 abbrev pub label_text : Label → OctetList
 label_text label = flat_map octet_text label ++ 46 ∷ []
 
--- each label followed by a dot; the root is a dot alone
+-- a name as text: each label followed by a dot; the root is a dot alone
 abbrev pub text_of : Labels → OctetList
 text_of [] = 46 ∷ []
 text_of (label ∷ name) = label_text label ++ flat_map label_text name

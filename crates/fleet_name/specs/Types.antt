@@ -1,4 +1,4 @@
--- Types of lists of octets.
+-- The types of octets, of labels and of names: lists of numbers.
 -- Serves every crate: the types of what definitions speak of.
 use Rattle.std.specs.Prelude.{ℕ, List}
 
@@ -10,6 +10,6 @@ OctetList = List ℕ
 abbrev pub Label : Type 0
 Label = List ℕ
 
--- the labels of a name from the left, the root's left out
+-- a name: its labels from the left, the root's left out
 abbrev pub Labels : Type 0
 Labels = List Label

@@ -20,8 +20,8 @@ use std::marker::Model;
 /// A name: its labels in lower case, each of 1 to 63 octets, at most 255 octets in full (RFC 1035
 /// 2.3.4, 3.1). Contracts see it as the list of its labels. It holds its octets in one allocation.
 ///
-/// Names are equal, and ordered, as their octets in full are: length octets are compared too, so
-/// this is not the canonical order of RFC 4034 6.1.
+/// Names are equal, and ordered, as their octets in full are. The order is total. Length octets are
+/// compared too, so it is not the canonical order of RFC 4034 6.1.
 #[derive(Drop)]
 pub struct Name<A: Allocator = Global> {
     octets: Vec<u8, A>,
@@ -93,8 +93,9 @@ impl<A: Allocator> Name<A> {
         &self.octets
     }
 
-    /// Adds a label after the others, in lower case. `Err` is the first fault in the order of
-    /// `NameFault`; `OutOfMemory` comes only where there is no other. The name is then as it was.
+    /// Adds a label at the end of the name, in lower case. It is refused exactly where the result
+    /// would be no name: `Err` is then the first fault in the order of `NameFault`. `OutOfMemory`
+    /// comes only where there is no other. After an `Err` the name is as it was.
     pub fn push(&mut self, label: &[u8]) -> Result<(), NameFault>
         ensures ok { OnOk result (self.new ≡ self.old ++ lower label.now ∷ []) }
         ensures named { OnOk result (IsName (self.old ++ lower label.now ∷ [])) }
@@ -136,7 +137,8 @@ impl<A: Allocator> Name<A> {
         Some(after_labels(&self.octets, count))
     }
 
-    /// Whether this name is the ancestor or a name below it: its last labels are the ancestor's.
+    /// Whether this name is the ancestor or a name below it: its last labels are the ancestor's
+    /// (RFC 1034 3.1).
     pub fn is_under(&self, ancestor: &Name<A>) -> bool
         ensures { IsTrue result ↔ IsUnder self.now ancestor.now }
     {
@@ -347,8 +349,9 @@ fn labels_in(octets: &[u8]) -> Option<usize>
     None
 }
 
-/// `Name::suffix` of octets: where they are a name in full and in lower case, its octets without
-/// the first `count` labels. `None` where they are no name, or one with fewer labels.
+/// What `Name::suffix` gives, for octets: where they are a name in full and in lower case, its
+/// octets without the first `count` labels. `None` where they are no name, or one with fewer
+/// labels.
 pub fn suffix_in(octets: &[u8], count: usize) -> Option<&[u8]>
     ensures { MatchOption result ((rest : OctetList) → IsSuffix octets.now count rest → ⊥)
         (λ s. IsSuffix octets.now count s.now) }

@@ -1,6 +1,7 @@
 -- The octets of bodies, and what makes them lawful. All numbers have two octets, the high one
 -- first.
--- Serves `Observation::positive`, `Observation::negative`, `rdatas`, `soa`.
+-- Serves `Observation::positive`, `Observation::negative`, `Observation::write_body`, and the
+-- readers `Observation::rdatas` and `Observation::soa`.
 use Rattle.std.specs.Prelude.{◌≡◌, ◌≢◌, ◌≤◌, List, [], ◌++◌, length}
 use Rattle.std.specs.List.{flat_map}
 use Rattle.fleet_name.specs.Types.{Labels, OctetList}

@@ -1,5 +1,5 @@
 -- The parts of a body, as they are held.
--- Serves the model of `Observation`.
+-- Serves every call of `Observation`: its model.
 use Rattle.std.specs.Prelude.{◌≡◌, ℕ, []}
 use Rattle.fleet_name.specs.Types.{Labels, OctetList}
 use Rattle.fleet_wire.specs.Types.{RType, Seconds}

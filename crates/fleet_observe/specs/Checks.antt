@@ -1,5 +1,6 @@
 -- What the values of an observation have to meet, and which check fails first.
--- Serves `Observation::positive`, `Observation::negative`, and what reads frames.
+-- Serves `Observation::positive`, `Observation::negative`, `is_rank_of`, `is_life_of`,
+-- `is_type_of`, `is_count_of`, and what reads frames.
 use Rattle.std.specs.Prelude.{◌≡◌, ℕ, ◌<◌, List, Option, Some, None, unwrap_or}
 use Rattle.fleet_name.specs.Types.{Labels, OctetList}
 use Rattle.fleet_wire.specs.Types.{RType, Seconds}
@@ -28,7 +29,8 @@ IsLifeOf NoData life = IsLife LONGEST_DENIAL life
 IsLifeOf NameError life = IsLife LONGEST_DENIAL life
 IsLifeOf Flush life = life ≡ LONGEST_LIFE
 
--- a type that a kind has: a name error and a flush have none, the others one that data can have
+-- a type that a kind has: 0 for a name error and a flush, which have none, else one that data can
+-- have
 abbrev pub IsTypeOf : Kind → RType → Type 0
 IsTypeOf Positive rtype = IsDataType rtype
 IsTypeOf NoData rtype = IsDataType rtype
@@ -39,7 +41,7 @@ IsTypeOf Flush rtype = rtype ≡ 0
 abbrev pub IsCountOf : RType → ℕ → Type 0
 IsCountOf rtype count = (0 < count) × (rtype ≡ CNAME → count ≡ 1)
 
--- of four checks the fault's is the first that fails
+-- of the checks of rank, life, type and body the fault's is the first that fails
 pub data IsFirstToFail (rank life rtype body : Type 0) (f : ObservationFault) : Type 0 where
   bad_rank : ¬ rank → f ≡ BadRank → IsFirstToFail rank life rtype body f
   bad_life : rank → ¬ life → f ≡ BadLife → IsFirstToFail rank life rtype body f
@@ -51,10 +53,12 @@ abbrev pub IsDeniedType : Option RType → Type 0
 IsDeniedType None = Unit {0}
 IsDeniedType (Some rtype) = IsDataType rtype
 
+-- the kind of a denial: a name error where no type is denied, else no data
 abbrev pub denied_kind : Option RType → Kind
 denied_kind None = NameError
 denied_kind (Some rtype) = NoData
 
+-- the type of a denial: 0 for a name error
 abbrev pub denied_type : Option RType → RType
 denied_type rtype = unwrap_or rtype 0
 
@@ -65,13 +69,13 @@ pub record MakesPositive (rtype : RType) (rank : ℕ) (life : Seconds) (rdatas :
   pub typed : IsDataType rtype
   pub body : AreRdatas rtype rdatas
 
--- the fault of the first check that fails
+-- the fault of the first check of a positive observation that fails
 abbrev pub IsPositiveFault : RType → ℕ → Seconds → List OctetList → ObservationFault → Type 0
 IsPositiveFault rtype rank life rdatas =
     IsFirstToFail (IsRank rank) (IsLife LONGEST_LIFE life) (IsDataType rtype)
     (AreRdatas rtype rdatas)
 
--- these values make a negative one
+-- these values make a negative observation
 pub record MakesNegative (name : Labels) (rtype : Option RType) (rank : ℕ) (life : Seconds)
     (owner : Labels) (rdata : OctetList) : Type 0 where
   pub ranked : IsDenialRank rank
@@ -79,7 +83,7 @@ pub record MakesNegative (name : Labels) (rtype : Option RType) (rank : ℕ) (li
   pub typed : IsDeniedType rtype
   pub body : IsDenial name owner rdata
 
--- the fault of the first check that fails
+-- the fault of the first check of a negative observation that fails
 abbrev pub IsNegativeFault : Labels → Option RType → ℕ → Seconds → Labels → OctetList
     → ObservationFault → Type 0
 IsNegativeFault name rtype rank life owner rdata = IsFirstToFail (IsDenialRank rank)

@@ -14,7 +14,8 @@ use Rattle.fleet_observe.specs.Soa.{SoaData}
 use Rattle.fleet_observe.specs.declared.reply.ending.End.{End}
 use Rattle.fleet_observe.specs.declared.reply.ending.End.TheVariants.{Records, NoData, NxDomain, Code, Truncated}
 
--- how a reply ends
+-- how a reply ends: with records, without data of the type, without such a name, with another code,
+-- or cut off
 pub data EndData : Type 0 where
   WithRecords : RrSetData → EndData
   WithoutData : Option SoaData → EndData
@@ -22,7 +23,8 @@ pub data EndData : Type 0 where
   WithCode : ℕ → EndData
   CutOff : EndData
 
--- what a reply means
+-- what a reply means: the question's name and type, whether AA was set, the links of the walk, its
+-- end, and the NS RRsets that it is an authority for
 pub record DigestData : Type 0 where
   pub name : Labels
   pub rtype : RType
@@ -31,6 +33,7 @@ pub record DigestData : Type 0 where
   pub end : EndData
   pub ns : List RrSetData
 
+-- an end, as plain data
 abbrev pub end_data : {A : Type 0} → End A → EndData
 end_data (Records x) = WithRecords x
 end_data (NoData soa) = WithoutData soa
@@ -70,6 +73,7 @@ pub record IsLawfulSoa (n : Labels) (x : SoaData) : Type 0 where
   pub ttl : x.ttl ≤ LONGEST_DENIAL
   pub plain : IsPlain SOA x.rdata
 
+-- an end as programs have it, where the walk ended at the name n
 abbrev pub IsLawfulEnd : Labels → EndData → Type 0
 IsLawfulEnd n (WithRecords x) = IsLawfulSet x
 IsLawfulEnd n (WithoutData None) = Unit {0}

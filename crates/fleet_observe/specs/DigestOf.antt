@@ -1,5 +1,5 @@
--- What a reply means (RFC 1034 3.6.2, RFC 2308 2 and 5).
--- Serves `digest`.
+-- What a reply means (RFC 1034 3.6.2, RFC 2308 2, RFC 2308 5).
+-- Serves `digest`, law `digest_or_fault`.
 use Rattle.std.specs.Prelude.{◌≡◌, ◌-◌, ◌⊎◌, true, false, List, [], ◌∷◌, ◌++◌, length, min, Option, Some, None}
 use Rattle.fleet_name.specs.Types.{Labels, OctetList}
 use Rattle.fleet_wire.specs.Types.{Seconds}
@@ -27,7 +27,7 @@ pub record IsServed (r : MessageData) : Type 0 where
   pub class : r.question.class ≡ IN
   pub typed : IsDataType r.question.rtype
 
--- the reply asks for a walk
+-- the reply asks for a walk: TC is clear, and its code is NO_ERROR or NAME_ERROR
 pub record AsksWalk (r : MessageData) : Type 0 where
   pub whole : r.header.tc ≡ false
   pub code : (r.header.rcode ≡ NO_ERROR) ⊎ (r.header.rcode ≡ NAME_ERROR)
@@ -53,7 +53,7 @@ pub record IsSoaRecord (r : RecordData) : Type 0 where
   pub class : r.class ≡ IN
   pub rtype : r.rtype ≡ SOA
 
--- the first SOA of the section
+-- r is the first SOA of the section
 pub record IsFirstSoa (s : List RecordData) (r : RecordData) : Type 0 where
   pub before : List RecordData
   pub after : List RecordData
@@ -61,15 +61,17 @@ pub record IsFirstSoa (s : List RecordData) (r : RecordData) : Type 0 where
   pub first : (x : RecordData) → Has before x → ¬ IsSoaRecord x
   pub soa : IsSoaRecord r
 
--- MINIMUM: the last four octets of an SOA's RDATA, as a number
+-- MINIMUM: the last four octets of an SOA's RDATA, as a number (RFC 1035 3.3.13)
 abbrev pub minimum_of : OctetList → Seconds
 minimum_of d = u32_at d (length d - 4)
 
--- how long a denial holds (RFC 2308 5)
+-- how long a denial holds, in seconds: the least of the SOA's TTL, its MINIMUM and LONGEST_DENIAL
+-- (RFC 2308 5)
 abbrev pub soa_ttl : RecordData → Seconds
 soa_ttl r = min (min (read_ttl r.ttl) (read_ttl (minimum_of r.rdata))) LONGEST_DENIAL
 
--- the SOA that counts for the name n: the first one, if n is its owner or below it
+-- the SOA that counts for the denied name n: the first one, if n is its owner or below it (RFC 2308
+-- 5)
 pub record CountsFor (s : List RecordData) (n : Labels) (r : RecordData) : Type 0 where
   pub first : IsFirstSoa s r
   pub under : IsUnder n r.name
@@ -120,14 +122,14 @@ pub record IsNs (q : Labels) (r : RecordData) : Type 0 where
   pub rtype : r.rtype ≡ NS
   pub above : IsUnder q r.name
 
--- an earlier one of such records has the owner of r
+-- an earlier one of the NS records at the name q and its ancestors has the owner of r
 pub record IsRepeated (q : Labels) (before : List RecordData) (r : RecordData) : Type 0 where
   pub earlier : RecordData
   pub member : Has before earlier
   pub ns : IsNs q earlier
   pub same : earlier.name ≡ r.name
 
--- the owners of such records, in order of first appearance
+-- the owners of the NS records at the name q and its ancestors, in order of first appearance
 abbrev pub AreOwners : Labels → List RecordData → List RecordData → List Labels
     → Type 0
 AreOwners q before [] os = os ≡ []
@@ -137,30 +139,33 @@ AreOwners q before (r ∷ rs) os =
     × AreOwners q (before ++ r ∷ []) rs rest))
     ⊎ (((¬ IsNs q r) ⊎ IsRepeated q before r) × AreOwners q (before ++ r ∷ []) rs os)
 
--- the names that have these RRsets
+-- the owners of these RRsets
 abbrev pub owners_of : List RrSetData → List Labels
 owners_of [] = []
 owners_of (x ∷ xs) = x.name ∷ owners_of xs
 
 -- the NS RRsets of the authority section at the name q and its ancestors, in order of first
--- appearance
+-- appearance (RFC 2181 5.4.1)
 pub record AreNsSets (q : Labels) (s : List RecordData) (sets : List RrSetData) : Type 0
   where
     pub owners : AreOwners q [] s (owners_of sets)
     pub each : (x : RrSetData) → Has sets x → IsRrSet s x.name NS x
 
--- the NS RRsets of the authority section count
+-- the reply is an authority for its NS RRsets: TC is clear, AA set, and the code NO_ERROR (RFC 2181
+-- 5.4.1)
 pub record HasAuthority (r : MessageData) : Type 0 where
   pub whole : r.header.tc ≡ false
   pub aa : r.header.aa ≡ true
   pub code : r.header.rcode ≡ NO_ERROR
 
--- the NS RRsets that the reply is an authority for
+-- the NS RRsets that the reply is an authority for, at the question's name and its ancestors (RFC
+-- 2181 5.4.1)
 abbrev pub IsAuthority : MessageData → List RrSetData → Type 0
 IsAuthority r sets = (HasAuthority r × AreNsSets r.question.name r.authority sets)
     ⊎ ((¬ HasAuthority r) × (sets ≡ []))
 
--- d is what the reply means
+-- d is what the reply means: the links of its walk, its end, and the NS RRsets that it is an
+-- authority for (RFC 1034 3.6.2, RFC 2308 2)
 pub record IsDigest (r : MessageData) (d : DigestData) : Type 0 where
   pub served : IsServed r
   pub name : d.name ≡ r.question.name
@@ -181,10 +186,10 @@ DigestIsSound = (r : MessageData) (d : DigestData) → IsDigest r d → IsSound 
 
 -- What follows, private contracts alone cite.
 
--- there is such an SOA
+-- an SOA of the section counts for the name n
 abbrev pub HasSoa : List RecordData → Labels → Type 0
 HasSoa s n = (r : RecordData) × CountsFor s n r
 
--- there is such a record
+-- the section has an NS record at the name q or an ancestor of it
 abbrev pub HasNs : Labels → List RecordData → Type 0
 HasNs q s = (r : RecordData) × Has s r × IsNs q r

@@ -1,5 +1,5 @@
 -- An observation that is lent: its values, and the octets of its name and its body.
--- Serves `Observation::equals`, `one_lent`.
+-- Serves `Observation::equals`, law `one_lent`.
 use Rattle.std.specs.Prelude.{◌≡◌}
 use Rattle.fleet_name.specs.Name.{wire}
 use Rattle.fleet_observe.specs.Observation.{ObservationData}

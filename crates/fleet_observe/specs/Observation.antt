@@ -1,5 +1,5 @@
 -- An observation as plain data.
--- Serves every call of `Observation`.
+-- Serves every call of `Observation`, law `one_key`.
 use Rattle.std.specs.Prelude.{◌≡◌, ◌≢◌, ℕ, ◌+◌, ◌<◌, ◌≤◌, ◌⊎◌, List, [], ◌∷◌, ◌++◌}
 use Rattle.fleet_name.specs.Types.{Labels, OctetList}
 use Rattle.fleet_wire.specs.Types.{RType, Seconds}
@@ -38,7 +38,7 @@ kind_number Flush = 4
 abbrev pub IsNegativeKind : Kind → Type 0
 IsNegativeKind kind = (kind ≡ NameError) ⊎ (kind ≡ NoData)
 
--- the moment at which it ends
+-- the moment at which an observation ends: its stamp and its life added
 abbrev pub expires : ObservationData → Seconds
 expires o = o.stamp + o.life
 
@@ -46,6 +46,7 @@ expires o = o.stamp + o.life
 abbrev pub key_at : Labels → Kind → RType → OctetList
 key_at name kind rtype = wire name ++ kind_number kind ∷ u16_octets rtype
 
+-- the key of an observation
 abbrev pub key_of : ObservationData → OctetList
 key_of o = key_at o.name o.kind o.rtype
 
@@ -54,15 +55,15 @@ abbrev pub OneKey : Type 0
 OneKey = (n m : Labels) (k j : Kind) (r q : RType) → key_at n k r ≡ key_at m j q
     → (n ≡ m) × (k ≡ j) × (r ≡ q)
 
--- a rank
+-- a rank: OTHER to ANSWER (after RFC 2181 5.4.1)
 abbrev pub IsRank : ℕ → Type 0
 IsRank rank = (OTHER ≤ rank) × (rank ≤ ANSWER)
 
--- a rank of a denial
+-- a rank of a denial: OTHER or ANSWER (after RFC 2181 5.4.1)
 abbrev pub IsDenialRank : ℕ → Type 0
 IsDenialRank rank = (rank ≡ OTHER) ⊎ (rank ≡ ANSWER)
 
--- a life, in seconds
+-- a life of one second to `most` seconds
 abbrev pub IsLife : Seconds → Seconds → Type 0
 IsLife most life = (1 ≤ life) × (life ≤ most)
 
@@ -73,12 +74,12 @@ pub record IsDataType (rtype : RType) : Type 0 where
   pub no_option : rtype ≢ 41
   pub no_meta : 128 ≤ rtype → rtype ≤ 255 → ⊥
 
--- what a positive observation is besides
+-- what a positive observation is besides: its type and its body are those of data
 pub record IsPositive (o : ObservationData) : Type 0 where
   pub typed : IsDataType o.rtype
   pub body : IsPositiveBody o.rtype o.body
 
--- what a negative observation is besides
+-- what a negative observation is besides: its rank, its life and its body are those of a denial
 pub record IsNegative (o : ObservationData) : Type 0 where
   pub rank : IsDenialRank o.rank
   pub life : IsLife LONGEST_DENIAL o.life
@@ -115,6 +116,6 @@ pub record IsObservation (o : ObservationData) : Type 0 where
   pub name_error : o.kind ≡ NameError → IsNegative o × (o.rtype ≡ 0)
   pub flush : o.kind ≡ Flush → IsFlush o
 
--- every member is what an observation is
+-- every member of the list is an observation
 abbrev pub AreObservations : Observations → Type 0
 AreObservations s = (o : ObservationData) → Has s o → IsObservation o

@@ -1,5 +1,5 @@
 -- The observations of a reply (RFC 2181 5.4.1, RFC 2308 5).
--- Serves `observations`.
+-- Serves `observations`, laws `one_digest` and `each_once`.
 use Rattle.std.specs.Prelude.{◌≡◌, ℕ, Bool, ◌&&◌, List, [], ◌∷◌, ◌++◌, length, if◌then◌else◌, nat_eq, nat_lt, Option, Some, None}
 use Rattle.std.specs.Str.{bytes_eq}
 use Rattle.fleet_name.specs.Types.{Labels}
@@ -18,11 +18,11 @@ use Rattle.fleet_observe.specs.declared.observation.kind.Kind.{Kind}
 use Rattle.fleet_observe.specs.declared.rank.TheConstants.{OTHER, AUTHORITY, ANSWER}
 use Rattle.fleet_observe.specs.declared.observation.kind.Kind.TheVariants.{NameError, NoData, Positive}
 
--- the observation alone; none where it has no life
+-- the observation as a list; none where it has no life
 abbrev pub living_observation : ObservationData → Observations
 living_observation o = if nat_eq o.life 0 then [] else o ∷ []
 
--- the same; none where its body passes LONGEST_BODY
+-- the observation as a list; none where it has no life, or its body passes LONGEST_BODY
 abbrev pub fitting_observation : ObservationData → Observations
 fitting_observation o = if nat_lt LONGEST_BODY (length o.body) then [] else living_observation o
 
@@ -38,7 +38,7 @@ set_observation x rank stamp = record {
   life = x.ttl;
 }
 
--- the same, of an RRset that is kept: none without a life, or with too long a body
+-- the observation of an RRset, where it is kept: none without a life, or with too long a body
 abbrev pub positive_observations : RrSetData → ℕ → Seconds → Observations
 positive_observations x rank stamp = fitting_observation (set_observation x rank stamp)
 
@@ -54,7 +54,7 @@ soa_observation kind n t rank stamp x = record {
   life = x.ttl;
 }
 
--- the same, of a denial that is kept: none without an SOA or a life
+-- the observation of a denial, where it is kept: none without an SOA or a life
 abbrev pub denial_observations : Kind → Labels → RType → ℕ → Seconds → Option SoaData
     → Observations
 denial_observations kind n t rank stamp None = []
@@ -70,13 +70,13 @@ abbrev pub denial_rank : Bool → List RrSetData → ℕ
 denial_rank aa [] = if aa then ANSWER else OTHER
 denial_rank aa (x ∷ xs) = OTHER
 
--- those of the links, in their order
+-- the observations of the links, in their order
 abbrev pub link_observations : Bool → Labels → Seconds → List RrSetData → Observations
 link_observations aa q stamp [] = []
 link_observations aa q stamp (x ∷ xs) =
     positive_observations x (answer_rank aa q x.name) stamp ++ link_observations aa q stamp xs
 
--- that of the end, if it is kept
+-- the observation of the end, if it is kept
 abbrev pub end_observations : DigestData → Seconds → EndData → Observations
 end_observations d stamp (WithRecords x) = positive_observations x (answer_rank d.aa d.name x.name)
     stamp
@@ -89,18 +89,20 @@ end_observations d stamp (WithoutName soa) =
 end_observations d stamp (WithCode c) = []
 end_observations d stamp CutOff = []
 
--- those of the NS RRsets that the reply is an authority for
+-- the observations of the NS RRsets that the reply is an authority for
 abbrev pub ns_observations : Seconds → List RrSetData → Observations
 ns_observations stamp [] = []
 ns_observations stamp (x ∷ xs) = positive_observations x AUTHORITY stamp ++ ns_observations stamp xs
 
--- the links, the records or the denial, and the NS RRsets
+-- the observations of a digest, in order: the links, the records or the denial, and the NS RRsets
 abbrev pub reply_observations : DigestData → Seconds → Observations
 reply_observations d stamp =
     link_observations d.aa d.name stamp d.chain
     ++ (end_observations d stamp d.end ++ ns_observations stamp d.ns)
 
--- these are the observations of the reply at the moment, in order
+-- The observations of the reply at the moment, in order: the links, the records or the denial, the
+-- NS RRsets, with their ranks and lives. Those without a life, those with too long a body, and
+-- denials without an SOA are left out.
 pub record IsObserved (r : MessageData) (stamp : Seconds) (os : Observations) : Type 0 where
   pub digest : DigestData
   pub meaning : IsDigest r digest
@@ -110,13 +112,13 @@ pub record IsObserved (r : MessageData) (stamp : Seconds) (os : Observations) : 
 abbrev pub OneDigest : Type 0
 OneDigest = (r : MessageData) (a b : DigestData) → IsDigest r a → IsDigest r b → a ≡ b
 
--- and one list of observations is its list at a moment
+-- a reply has one list of observations at a moment
 abbrev pub OneObserved : Type 0
 OneObserved =
     (r : MessageData) (stamp : Seconds) (a b : Observations) → IsObserved r stamp a
     → IsObserved r stamp b → a ≡ b
 
--- and in that list each observation comes once
+-- in the list of a reply's observations each one comes once
 abbrev pub EachOnce : Type 0
 EachOnce =
     (r : MessageData) (stamp : Seconds) (os : Observations) → IsObserved r stamp os

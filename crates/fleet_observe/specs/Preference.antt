@@ -1,5 +1,5 @@
 -- Which of two observations is preferred.
--- Serves the order of `Observation`.
+-- Serves the order of `Observation`, law `preference_laws`.
 use Rattle.std.specs.declared.cmp.Ordering.{Ordering}
 use Rattle.std.specs.Ordering.{nat_cmp, ordering_then}
 use Rattle.std.specs.Cmp.{IsTotalOrder}
@@ -9,16 +9,16 @@ use Rattle.fleet_name.specs.Types.{Labels, OctetList}
 use Rattle.fleet_name.specs.Name.{wire}
 use Rattle.fleet_observe.specs.Observation.{ObservationData, expires, kind_number}
 
--- octets in order, a proper prefix first
+-- the order of octets, a proper prefix first
 abbrev pub octets_cmp : OctetList → OctetList → Ordering
 octets_cmp = slice_cmp nat_cmp
 
--- names by their octets in full
+-- the order of names: that of their octets in full
 abbrev pub name_cmp : Labels → Labels → Ordering
 name_cmp a b = octets_cmp (wire a) (wire b)
 
--- by rank, stamp, end, kind, type, name octets and body octets, one after the other: the greater is
--- preferred
+-- the order by rank, stamp, end, kind, type, name octets and body octets, one after the other: the
+-- greater is preferred (after RFC 2181 5.4.1)
 abbrev pub preference : ObservationData → ObservationData → Ordering
 preference x y =
     ordering_then (nat_cmp x.rank y.rank)
@@ -29,7 +29,7 @@ preference x y =
     (ordering_then (name_cmp x.name y.name)
     (octets_cmp x.body y.body))))))
 
--- it is a total order
+-- the preference is a total order
 pub preference_total : IsTotalOrder preference
 preference_total =
     then_total (on_total (λ (x : ObservationData). x.rank) nat_cmp_total)

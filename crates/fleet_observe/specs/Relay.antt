@@ -1,5 +1,5 @@
 -- The reply to a waiting client, as an outline.
--- Serves `relay`.
+-- Serves `relay`, `add_rows`.
 use Rattle.std.specs.Prelude.{◌≡◌, ℕ, ◌<◌, length, take, Bool, true, false, List, [], ◌∷◌, ◌++◌, map, Option, Some, None}
 use Rattle.std.specs.List.{flat_map}
 use Rattle.fleet_wire.specs.Question.{QuestionData}
@@ -11,7 +11,8 @@ use Rattle.fleet_observe.specs.RrSet.{RrSetData}
 use Rattle.fleet_observe.specs.Soa.{SoaData}
 use Rattle.fleet_observe.specs.Digest.{EndData, WithRecords, WithoutData, WithoutName, WithCode, CutOff, DigestData}
 
--- NAME_ERROR for a name error, a reply's own code where it is another, else NO_ERROR
+-- the code of a relay: NAME_ERROR for a name error, the reply's own code where it is another, else
+-- NO_ERROR
 abbrev pub code_of : EndData → ℕ
 code_of (WithRecords x) = NO_ERROR
 code_of (WithoutData soa) = NO_ERROR
@@ -19,7 +20,7 @@ code_of (WithoutName soa) = NAME_ERROR
 code_of (WithCode c) = c
 code_of CutOff = NO_ERROR
 
--- whether the reply was cut off
+-- whether an end is that of a reply that was cut off
 abbrev pub is_cut : EndData → Bool
 is_cut (WithRecords x) = false
 is_cut (WithoutData soa) = false
@@ -43,7 +44,7 @@ answer_lines (WithoutName soa) = []
 answer_lines (WithCode c) = []
 answer_lines CutOff = []
 
--- the SOA record, if there is one
+-- the record of an SOA, if there is one
 abbrev pub soa_lines : Option SoaData → List RecordData
 soa_lines None = []
 soa_lines (Some x) = line x.owner SOA x.ttl x.rdata ∷ []
@@ -56,7 +57,8 @@ authority_lines (WithoutName soa) = soa_lines soa
 authority_lines (WithCode c) = []
 authority_lines CutOff = []
 
--- the chain, and then the records, or the SOA in the authority section
+-- the outline of the reply that a waiting client is sent: the links, and then the records, or the
+-- SOA in the authority section
 abbrev pub relay_outline : DigestData → QuestionData → ℕ → Bool → OutlineData
 relay_outline d q id rd = record {
   id = id;
@@ -69,20 +71,22 @@ relay_outline d q id rd = record {
   authority = authority_lines d.end;
 }
 
--- more records at the end of a section
+-- the outline with more records at the end of its answer section
 abbrev pub with_answer_lines : OutlineData → List RecordData → OutlineData
 with_answer_lines o rs = record o { answer = o.answer ++ rs }
 
--- the answer section has a number of the first of these records, not all, at its end, and all else
+-- the answer section has a number of the first of these records more, not all of them, and all else
 -- is as it was
 abbrev pub HasFirstOf : OutlineData → List RecordData → OutlineData → Type 0
 HasFirstOf old rs new = (n : ℕ) × (n < length rs) × (new ≡ with_answer_lines old (take n rs))
 
 -- What follows, private contracts alone cite.
 
+-- the outline with more records at the end of its authority section
 abbrev pub with_authority_lines : OutlineData → List RecordData → OutlineData
 with_authority_lines o rs = record o { authority = o.authority ++ rs }
 
+-- the outline with the records of an end at the end of its sections
 abbrev pub with_end : OutlineData → EndData → OutlineData
 with_end o e =
     record o { answer = o.answer ++ answer_lines e; authority = o.authority ++ authority_lines e }

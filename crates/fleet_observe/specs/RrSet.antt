@@ -1,5 +1,5 @@
 -- The RRset of a section at a name and a type (RFC 2181 5).
--- Serves `digest`, and every call of `RrSet`.
+-- Serves `digest`, `add_rows`, and every call of `RrSet`.
 use Rattle.std.specs.Prelude.{◌≡◌, ℕ, ◌≤◌, List, [], ◌∷◌, if◌then◌else◌, nat_le, min, suc}
 use Rattle.std.specs.Ordering.{nat_cmp, is_lt}
 use Rattle.std.specs.Cmp.Lexicographic.{slice_cmp}
@@ -20,18 +20,18 @@ pub record IsOfRrSet (n : Labels) (t : RType) (r : RecordData) : Type 0 where
   pub typed : IsDataType t
   pub owner : r.name ≡ n
 
--- d is an RDATA of the RRset
+-- d is an RDATA of the RRset at name n and type t
 pub record InSet (s : List RecordData) (n : Labels) (t : RType) (d : OctetList) : Type 0 where
   pub carrier : RecordData
   pub member : Has s carrier
   pub is_of_rrset : IsOfRrSet n t carrier
   pub rdata : carrier.rdata ≡ d
 
--- there is no RRset
+-- the section has no RRset at name n and type t
 abbrev pub IsEmpty : List RecordData → Labels → RType → Type 0
 IsEmpty s n t = (d : OctetList) → ¬ InSet s n t d
 
--- d is its only RDATA
+-- d is the only RDATA of the RRset at name n and type t
 pub record IsOnly (s : List RecordData) (n : Labels) (t : RType) (d : OctetList) : Type 0 where
   pub member : InSet s n t d
   pub only : (e : OctetList) → InSet s n t e → d ≡ e
@@ -55,7 +55,8 @@ pub record RrSetData : Type 0 where
   pub ttl : Seconds
   pub rdatas : List OctetList
 
--- x is the RRset of the section at name n and type t, and there is one
+-- x is the RRset of the section at name n and type t, and there is one: the set of the RDATAs of
+-- its records, with the least of their TTLs (RFC 2181 5)
 pub record IsRrSet (s : List RecordData) (n : Labels) (t : RType) (x : RrSetData) : Type 0 where
   pub name : x.name ≡ n
   pub rtype : x.rtype ≡ t
@@ -64,7 +65,7 @@ pub record IsRrSet (s : List RecordData) (n : Labels) (t : RType) (x : RrSetData
   pub of_section : (d : OctetList) → Has x.rdatas d → InSet s n t d
   pub whole : (d : OctetList) → InSet s n t d → Has x.rdatas d
 
--- records of one owner and type that are lent
+-- the RRset whose records are lent
 abbrev pub rrset_of_rows : {A : Type 0} → Rows A → RrSetData
 rrset_of_rows r = record { name = r.name.now; rtype = r.rtype; ttl = r.ttl; rdatas = r.rdatas.now }
 
@@ -75,7 +76,7 @@ pub record SpellsName (octets : OctetList) : Type 0 where
   pub whole : octets ≡ wire (labels_of octets)
   pub named : IsName (labels_of octets)
 
--- how many of the RDATAs at the front are less than d
+-- how many of the first RDATAs, in a row, are less than d
 abbrev pub count_below : OctetList → List OctetList → ℕ
 count_below d [] = 0
 count_below d (y ∷ ys) = if is_lt (slice_cmp nat_cmp y d) then suc (count_below d ys) else 0

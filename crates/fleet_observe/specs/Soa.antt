@@ -1,5 +1,5 @@
 -- What an SOA record is, as plain data (RFC 1035 3.3.13).
--- Serves the model of `Soa`.
+-- Serves `digest`, `observations`, `relay`, and the model of `Soa`.
 use Rattle.fleet_name.specs.Types.{Labels, OctetList}
 use Rattle.fleet_wire.specs.Types.{Seconds}
 

@@ -1,4 +1,4 @@
--- The walk from a question's name along aliases (RFC 1034 3.6.2).
+-- The walk from a question's name along aliases, which are CNAME records (RFC 1034 3.6.2).
 -- Serves `digest`, law `one_walk`.
 use Rattle.std.specs.Prelude.{◌≡◌, ◌≤◌, ◌⊎◌, List, [], ◌∷◌, length}
 use Rattle.fleet_name.specs.Types.{Labels, OctetList}
@@ -35,12 +35,15 @@ abbrev pub IsPath : List RecordData → RType → Labels → List Labels → Typ
 IsPath s t n [] = Unit {0}
 IsPath s t n (m ∷ later) = GoesOn s t n m × IsPath s t m later
 
--- the last of the names
+-- the last of the names: n where none is later
 abbrev pub last : Labels → List Labels → Labels
 last n [] = n
 last n (m ∷ later) = last m later
 
--- the walk: from n over the later names, which are at most MOST_LINKS
+-- The walk from n over the later names, which are at most MOST_LINKS. Each name goes on to the next
+-- one by an alias with that target alone. The last one has records of the type, or no records of it
+-- and no alias. There is no walk where a name on it has two different aliases, where the names
+-- loop, or with one link more.
 pub record IsWalk (s : List RecordData) (t : RType) (n : Labels) (later : List Labels)
     : Type 0 where
   pub path : IsPath s t n later
@@ -57,7 +60,7 @@ OneWalk = (s : List RecordData) (t : RType) (n : Labels) (a b : List Labels)
     → IsWalk s t n a
     → IsWalk s t n b → a ≡ b
 
--- the links' RRsets, in order
+-- the links of a walk, in order: the RRset of the alias at each name but the last
 abbrev pub AreLinks : List RecordData → Labels → List Labels → List RrSetData
     → Type 0
 AreLinks s n [] [] = Unit {0}

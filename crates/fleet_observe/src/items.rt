@@ -27,7 +27,7 @@ impl<T, A: Allocator> Items<T, A> {
         Items { items }
     }
 
-    /// One item; it comes back where the allocation fails.
+    /// A list of one item. The item comes back where the allocation fails.
     pub fn of_one(alloc: A, item: T) -> Result<Items<T, A>, AllocFailed<T>>
         ensures { MatchResult result (λ x. x ≡ item ∷ []) (λ f. f.value ≡ item) }
     {
@@ -56,14 +56,15 @@ impl<T, A: Allocator> Items<T, A> {
         items
     }
 
-    /// How many they are.
+    /// How many items there are.
     pub fn len(&self) -> usize
         ensures { result ≡ length self.now }
     {
         self.items.len()
     }
 
-    /// Adds an item after the others; it comes back where the allocation fails.
+    /// Adds an item at the end. Where the allocation fails, the item comes back and the list is as
+    /// it was.
     pub fn push(&mut self, item: T) -> Result<(), AllocFailed<T>>
         ensures ok { OnOk result (self.new ≡ self.old ++ item ∷ []) }
         ensures err { OnErr result (self.new ≡ self.old) }

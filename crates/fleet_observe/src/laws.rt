@@ -11,7 +11,7 @@ pub fn one_key()
     ensures { OneKey }
 {}
 
-/// What is lent is one observation.
+/// What is lent is one observation at most.
 pub fn one_lent()
     ensures { OneLent }
 {}
@@ -27,7 +27,8 @@ pub fn one_digest()
     ensures observed { OneObserved }
 {}
 
-/// A reply with a digest has no fault but `OutOfMemory`.
+/// A reply with a digest is served, has a walk where it asks for one, and has no fault but
+/// `OutOfMemory`.
 pub fn digest_or_fault()
     ensures sound { DigestIsSound }
     ensures fault { DigestOrFault }

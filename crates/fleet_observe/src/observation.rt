@@ -58,8 +58,9 @@ impl<A: Allocator> Model for Observation<A> {
 }
 
 impl<A: Allocator> Observation<A> {
-    /// The RDATAs that a name has of a type.
+    /// Makes a positive observation: the RDATAs that a name has of a type.
     ///
+    /// It is made exactly where its values pass the checks, and the error is the first that fails.
     /// The rank is 1, 2 or 3, the life 1 to `LONGEST_LIFE` seconds, and the type one that data can
     /// have. The RDATAs are in strictly ascending order, as octets, a proper prefix first; there is
     /// at least one, and of an alias one alone. Each is plain for its type, and their body has at
@@ -112,9 +113,10 @@ impl<A: Allocator> Observation<A> {
         })
     }
 
-    /// That a name has no data of a type, or for `None` that there is no such name, on the word of
-    /// an SOA.
+    /// Makes a denial on the word of an SOA: a name has no data of a type, or, for `None`, there is
+    /// no such name (RFC 2308 2).
     ///
+    /// It is made exactly where its values pass the checks, and the error is the first that fails.
     /// The rank is 1 or 3, the life 1 to `LONGEST_DENIAL` seconds (RFC 2308 5), and the type, if
     /// any, one that data can have. The SOA's owner is the name or an ancestor, and its RDATA is
     /// plain. Its TTL is not kept. The errors come in the order of `ObservationFault`; the arguments
@@ -167,9 +169,9 @@ impl<A: Allocator> Observation<A> {
         })
     }
 
-    /// That what was observed of a name, and of those below it, up to a moment is withdrawn. It has
-    /// the greatest rank and the longest life, so that nothing that it withdraws outlives it, and an
-    /// empty body. This allocates nothing.
+    /// Makes a flush: what was observed of a name, and of those below it, up to a moment is
+    /// withdrawn. It has the greatest rank and the longest life, so that nothing that it withdraws
+    /// outlives it, and an empty body. This allocates nothing.
     pub fn flush(name: Name<A>, stamp: Moment) -> Observation<A>
         ensures { result ≡ flush_at name stamp }
     {
@@ -195,7 +197,7 @@ impl<A: Allocator> Observation<A> {
         &self.name
     }
 
-    /// What it says of the name.
+    /// What the observation says of the name.
     pub fn kind(&self) -> Kind
         ensures value { result ≡ self.now.kind }
         ensures lawful { IsObservation self.now }
@@ -211,7 +213,7 @@ impl<A: Allocator> Observation<A> {
         self.rtype
     }
 
-    /// How far it is trusted: 1 to 3, and 3 the most (after RFC 2181 5.4.1).
+    /// How far the observation is trusted: 1 to 3, and 3 the most (after RFC 2181 5.4.1).
     pub fn rank(&self) -> u8
         ensures value { result ≡ self.now.rank }
         ensures lawful { IsObservation self.now }
@@ -227,7 +229,7 @@ impl<A: Allocator> Observation<A> {
         self.stamp
     }
 
-    /// For how long it holds from its stamp on, in seconds: 1 to `LONGEST_LIFE`.
+    /// For how long the observation holds from its stamp on, in seconds: 1 to `LONGEST_LIFE`.
     pub fn life(&self) -> u32
         ensures value { result ≡ self.now.life }
         ensures lawful { IsObservation self.now }
@@ -235,8 +237,8 @@ impl<A: Allocator> Observation<A> {
         self.life
     }
 
-    /// The moment at which it ends, in seconds: its stamp plus its life. It may be later than
-    /// `LATEST`.
+    /// The moment at which the observation ends, in seconds: its stamp plus its life. It may be
+    /// later than `LATEST`.
     pub fn expires(&self) -> u64
         ensures value { result ≡ end_of self.now }
         ensures lawful { IsObservation self.now }
@@ -274,7 +276,7 @@ impl<A: Allocator> Observation<A> {
         }
     }
 
-    /// How many octets its body has, at most `LONGEST_BODY`.
+    /// How many octets the body has, at most `LONGEST_BODY`.
     pub fn body_len(&self) -> usize
         ensures value { result ≡ length self.now.body }
         ensures bounded { result ≤ LONGEST_BODY }
@@ -282,15 +284,15 @@ impl<A: Allocator> Observation<A> {
         self.body.len()
     }
 
-    /// Appends the octets of its body, those of `write_body`. `Err` where an allocation fails; some
-    /// of them may then have been appended.
+    /// Appends the octets of the body, those of `write_body`. `Err` where an allocation fails;
+    /// `octets` may then hold anything.
     pub fn append_body<B: Allocator>(&self, octets: &mut Vec<u8, B>) -> Result<(), AllocError>
         ensures { OnOk result (octets.new.items ≡ octets.old.items ++ self.now.body) }
     {
         self.body.push_to(octets)
     }
 
-    /// The octets of its body. A positive observation has its RDATAs: their count, then each after
+    /// The octets of the body. A positive observation has its RDATAs: their count, then each after
     /// its length. A negative one has the SOA: its owner in full, then its RDATA after its length.
     /// A flush has none. Counts and lengths have two octets, the high one first. `Err` where an
     /// allocation fails.
@@ -302,7 +304,8 @@ impl<A: Allocator> Observation<A> {
         Ok(octets)
     }
 
-    /// Whether it is what is lent. What differs soonest is compared first, and the body last, octet
+    /// Whether the observation is the one that is lent: with these values, and with these octets of
+    /// its name and of its body. What differs soonest is compared first, and the body last, octet
     /// by octet. This allocates nothing.
     pub fn equals(&self, lent: &LentObservation<'_>) -> bool
         ensures equal { IsTrue result ↔ IsLent lent.now self.now }

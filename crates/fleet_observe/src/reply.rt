@@ -52,6 +52,9 @@ fn is_answered(rcode: u8) -> bool
     rcode == NAME_ERROR
 }
 
+// Lets through: a body that answers `OutOfMemory` for each reply that was cut off or has a code
+// other than 0 and 3, since each digest copies the question's name. `tests/test_replies.py` sees
+// that such replies are digested.
 /// What a reply means (RFC 1034 3.6.2, RFC 2308 2): the walk from the question's name along aliases
 /// in the answer section, how it ends, the SOA of a denial, and the NS RRsets that the reply is an
 /// authority for.

@@ -1,5 +1,6 @@
 -- What each call answers and leaves.
--- Serves `Pending::ask`, `Pending::advance`, `Pending::settle`.
+-- Serves `Pending::ask`, `Pending::open`, `Pending::advance`, `Pending::settle`, and every law of the
+-- table.
 use Rattle.std.specs.Prelude.{◌≡◌, ℕ, ◌+◌, ◌<◌, ◌≤◌, Bool, true, false, List, [], ◌∷◌, ◌++◌, Option, Some, None, Result, Ok, Err, length, slice_set}
 use Rattle.std.specs.List.{remove}
 use Rattle.fleet_wire.specs.Types.{Seconds}
@@ -19,10 +20,12 @@ abbrev pub ask_result : {A : Type 0} → Result Asked (Unasked A) → Result Ask
 ask_result (Ok a) = Ok a
 ask_result (Err u) = Err u.fault
 
+-- the entry with one more who waits, the last one
 abbrev pub with_waiter : EntryData → WaiterData → EntryData
 with_waiter e w = record e { waiters = e.waiters ++ w ∷ [] }
 
--- what a waiter opens: its question, asked of the first upstream
+-- the entry that a waiter opens: its question, asked of the first upstream, for `TRY_SECONDS` from the
+-- moment
 abbrev pub new_entry : WaiterData → Seconds → ℕ → EntryData
 new_entry w moment id = record {
   name = w.question.name;
@@ -33,11 +36,13 @@ new_entry w moment id = record {
   waiters = w ∷ [];
 }
 
+-- the entry as it asks the next upstream, under the same id, for `TRY_SECONDS` from the moment
 abbrev pub with_next_upstream : EntryData → Seconds → EntryData
 with_next_upstream e moment =
     record e { upstream = e.upstream + 1; deadline = moment + TRY_SECONDS }
 
--- the waiter meets an entry for its question
+-- the waiter meets an entry for its question: it waits there already, waits there too, or finds no
+-- place or no memory for one
 pub data Joins (e : EntryData) (w : WaiterData) (r : Result Asked PendingFault) (f : EntryData)
     : Type 0 where
   waits_already : Waits w e.waiters → r ≡ Ok Again → f ≡ e → Joins e w r f
@@ -57,7 +62,7 @@ pub data Opens (es : List EntryData) (w : WaiterData) (moment : Seconds) (word :
   no_memory_for_room : length es < MOST_ENTRIES → r ≡ Err OutOfMemory → fs ≡ es
       → Opens es w moment word r fs
 
--- a waiter asks: there is an entry for its question, or it is new
+-- what asking answers and leaves: there is an entry for the question, or it is new
 pub data Asks (o : PendingData) (w : WaiterData) (moment : Seconds) (word : ℕ) (r : Result Asked PendingFault)
     (n : PendingData) : Type 0 where
   joins : (i : ℕ) (e f : EntryData) → At o.entries i e → AsksFor w.question e → Joins e w r f
@@ -66,13 +71,15 @@ pub data Asks (o : PendingData) (w : WaiterData) (moment : Seconds) (word : ℕ)
       → Opens o.entries w moment word r fs → n ≡ record o { entries = fs }
       → Asks o w moment word r n
 
--- the entry with this id is given back
+-- what settling answers and leaves: the entry with this id is given back and taken out, or there is
+-- none and nothing changes
 abbrev pub Settles : PendingData → ℕ → Option EntryData → PendingData → Type 0
 Settles o id None n = NoneIs (UsesId id) o.entries × (n ≡ o)
 Settles o id (Some e) n =
     (i : ℕ) × At o.entries i e × UsesId id e × (n ≡ record o { entries = remove o.entries i })
 
--- the entry with this id goes on to the next upstream, if there is one
+-- what advancing answers and leaves: the entry with this id goes on to the next upstream; or there is
+-- none that has a next one, and nothing changes
 abbrev pub Advances : PendingData → ℕ → Seconds → Bool → PendingData → Type 0
 Advances o id moment true n =
     (i : ℕ)

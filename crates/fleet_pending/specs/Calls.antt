@@ -17,15 +17,18 @@ pub data Call : Type 0 where
   advance : (id : ℕ) (moment : Seconds) → (answer : Bool) → Call
   clear : (waiters : List WaiterData) → Call
 
+-- all who wait, entry by entry
 abbrev pub open_waiters : PendingData → List WaiterData
 open_waiters o = flat_map (λ e. e.waiters) o.entries
 
+-- the call, with its answer, leads from the first table to the second
 abbrev pub Does : PendingData → Call → PendingData → Type 0
 Does o (ask w moment word r) n = Asks o w moment word r n
 Does o (settle id r) n = Settles o id r n
 Does o (advance id moment r) n = Advances o id moment r n
 Does o (clear ws) n = (ws ≡ open_waiters o) × (n ≡ record o { entries = [] })
 
+-- the calls lead from the first table to the second, one after another
 abbrev pub Run : PendingData → List Call → PendingData → Type 0
 Run o [] n = n ≡ o
 Run o (c ∷ cs) n = (mid : PendingData) × Does o c mid × Run mid cs n

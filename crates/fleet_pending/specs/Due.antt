@@ -1,5 +1,5 @@
 -- What is to be done first at a moment.
--- Serves `Pending::due`.
+-- Serves `Pending::due`, `Pending::look_ahead`, law `serving_leaves_fewer_due`.
 use Rattle.std.specs.Prelude.{◌≡◌, ℕ, ◌+◌, ◌<◌, ◌≤◌, ◌⊎◌, List, [], Option, Some, None, count_by, nat_le}
 use Rattle.fleet_wire.specs.Types.{Seconds}
 use Rattle.fleet_pending.specs.PendingData.{EntryData, PendingData}
@@ -7,21 +7,24 @@ use Rattle.fleet_name.specs.Places.{At, NoneIs}
 use Rattle.fleet_pending.specs.declared.answer.Due.{Due}
 use Rattle.fleet_pending.specs.declared.answer.Due.TheVariants.{Retry, Failed}
 
--- an earlier deadline, or the same and an id not greater
+-- a is due no later than b: it has an earlier deadline, or the same and an id that is not greater
 abbrev pub NotAfter : EntryData → EntryData → Type 0
 NotAfter a b = (a.deadline < b.deadline) ⊎ ((a.deadline ≡ b.deadline) × (a.id ≤ b.id))
 
--- e is the entry to be served first at this moment
+-- e is the entry that is due first at this moment: the one with the least deadline, and of these with
+-- the least id
 pub record IsFirstDue (es : List EntryData) (moment : Seconds) (e : EntryData) : Type 0 where
   pub place : ℕ
   pub there : At es place e
   pub due : e.deadline ≤ moment
   pub first : (j : ℕ) (f : EntryData) → At es j f → f.deadline ≤ moment → NotAfter e f
 
+-- no entry is due at this moment
 abbrev pub NoneDue : List EntryData → Seconds → Type 0
 NoneDue es moment = NoneIs (λ e. e.deadline ≤ moment) es
 
--- nothing, the next upstream for the first due entry, or its failure after the last
+-- what is to be done first at a moment: nothing, the next upstream for the first due entry, or its
+-- failure after the last
 abbrev pub Dues : {A : Type 0} → PendingData → Seconds → Option (Due A) → Type 0
 Dues o moment None = NoneDue o.entries moment
 Dues o moment (Some (Retry upstream id e)) = IsFirstDue o.entries moment e.now
@@ -48,7 +51,7 @@ IsBefore a b = (a.deadline < b.deadline) ⊎ ((a.deadline ≡ b.deadline) × (a.
 abbrev pub NoneSooner : Seconds → List EntryData → Type 0
 NoneSooner soonest es = (i : ℕ) (e : EntryData) → At es i e → soonest ≤ e.deadline
 
--- it is the deadline of an entry
+-- an entry has this deadline
 abbrev pub IsDeadline : List EntryData → Seconds → Type 0
 IsDeadline es deadline = (i : ℕ) × (e : EntryData) × At es i e × (e.deadline ≡ deadline)
 

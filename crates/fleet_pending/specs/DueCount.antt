@@ -7,8 +7,8 @@ use Rattle.fleet_pending.specs.Due.{IsFirstDue, NoneDue, due_at}
 use Rattle.fleet_pending.specs.declared.bounds.TheConstants.{MOST_ENTRIES}
 use Rattle.fleet_pending.specs.PendingData.{EntryData, PendingData, IsPendingData, UsesId}
 
--- none exactly where the count is 0, at most as many as may be open, and one fewer once the first,
--- which has a next upstream, moved on to it, or is settled
+-- none is due exactly where the count is 0, at most as many are as may be open, and one fewer once the
+-- first, which has a next upstream, moved on to it, or is settled
 pub record CountsDue : Type 0 where
   pub none : (o : PendingData) (moment : Seconds) → NoneDue o.entries moment ↔ (due_at o moment ≡ 0)
   pub few : (o : PendingData) (moment : Seconds) → IsPendingData o → due_at o moment ≤ MOST_ENTRIES

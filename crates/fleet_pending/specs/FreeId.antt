@@ -1,5 +1,5 @@
 -- The first id that no entry has.
--- Serves `Pending::query_id`, `Pending::ask`.
+-- Serves `Pending::query_id`, `Pending::ask`, `Pending::open`.
 use Rattle.std.specs.Prelude.{◌≡◌, ℕ, ◌+◌, ◌%◌, ◌<◌, Bool, true, false, List, slice_index_or}
 use Rattle.fleet_pending.specs.PendingData.{EntryData, UsesId}
 use Rattle.fleet_pending.specs.declared.bounds.TheConstants.{MOST_ENTRIES}

@@ -23,9 +23,11 @@ pub record PendingData : Type 0 where
   pub upstreams : ℕ
   pub entries : List EntryData
 
+-- the entry has this id
 abbrev pub UsesId : ℕ → EntryData → Type 0
 UsesId id e = e.id ≡ id
 
+-- the entry is for the name and the type of the question
 abbrev pub AsksFor : QuestionData → EntryData → Type 0
 AsksFor q e = (e.name ≡ q.name) × (e.rtype ≡ q.rtype)
 
@@ -36,9 +38,11 @@ pub record IsEntryData (e : EntryData) : Type 0 where
   pub waiting : (i : ℕ) (w : WaiterData) → At e.waiters i w → AsksFor w.question e
   pub once : NoTwo SameAsker e.waiters
 
+-- two entries have the same id
 abbrev pub SameId : EntryData → EntryData → Type 0
 SameId a b = a.id ≡ b.id
 
+-- two entries are for the same name and type
 abbrev pub SameQuestion : EntryData → EntryData → Type 0
 SameQuestion a b = (a.name ≡ b.name) × (a.rtype ≡ b.rtype)
 
@@ -52,6 +56,7 @@ pub record IsPendingData (o : PendingData) : Type 0 where
   pub some : 0 < o.upstreams
   pub upstreams : o.upstreams ≤ MOST_UPSTREAMS
 
--- the entry that a reply from this upstream, under this id and with this question, is for
+-- the entry that a reply from this upstream, under this id and with this question, is for: this
+-- upstream was asked last, and the class is IN
 abbrev pub Matches : ℕ → ℕ → QuestionData → EntryData → Type 0
 Matches upstream id q e = UsesId id e × (e.upstream ≡ upstream) × AsksFor q e × (q.class ≡ IN)

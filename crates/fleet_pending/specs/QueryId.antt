@@ -1,5 +1,5 @@
 -- The id of the query that asking would send.
--- Serves `Pending::query_id`, law `asking_uses_query_id`.
+-- Serves `Pending::query_id`, `Pending::open`, law `asking_uses_query_id`.
 use Rattle.std.specs.Prelude.{◌≡◌, ◌≢◌, ◌⊎◌, ℕ, ◌<◌, ◌≤◌, Option, Some, None, Result, Ok, Err, length}
 use Rattle.fleet_wire.specs.Types.{Seconds}
 use Rattle.fleet_wire.specs.Question.{QuestionData}
@@ -14,8 +14,8 @@ use Rattle.fleet_pending.specs.declared.answer.Asked.TheVariants.{Send}
 use Rattle.fleet_pending.specs.declared.answer.PendingFault.{PendingFault}
 use Rattle.fleet_pending.specs.declared.answer.PendingFault.TheVariants.{OutOfMemory}
 
--- the question is new and there is room for it: the first id that no entry has; or an entry has the
--- question, or MOST_ENTRIES are open
+-- the id under which the question would be asked now: the first that no entry has, where the question
+-- is new and has room; or none, where an entry has the question or MOST_ENTRIES are open
 abbrev pub IsQueryId : PendingData → QuestionData → ℕ → Option ℕ → Type 0
 IsQueryId o q word (Some id) =
     NoneIs (AsksFor q) o.entries × (length o.entries < MOST_ENTRIES)
@@ -30,7 +30,7 @@ abbrev pub IsAskedUnder : Option ℕ → Result Asked PendingFault → Type 0
 IsAskedUnder (Some id) r = (r ≡ Ok (Send 0 id)) ⊎ (r ≡ Err OutOfMemory)
 IsAskedUnder None r = (upstream id : ℕ) → r ≢ Ok (Send upstream id)
 
--- so it is with the id that `query_id` returns
+-- asking agrees with the id that `query_id` returns
 abbrev pub AsksUnderQueryId : Type 0
 AsksUnderQueryId =
     (o n : PendingData) (w : WaiterData) (moment : Seconds) (word : ℕ) (id : Option ℕ)

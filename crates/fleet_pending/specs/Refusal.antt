@@ -21,13 +21,13 @@ NoPlace o w = (i : ℕ)
     × ((e : EntryData) × At o.entries i e × AsksFor w.question e × (Waits w e.waiters → ⊥)
     × (MOST_WAITERS ≤ length e.waiters))
 
--- the two refusals, each with its place
+-- `Full` comes exactly where there is no room, `WaitersFull` exactly where there is no place
 pub record RefusesWhere (o : PendingData) (w : WaiterData) (r : Result Asked PendingFault)
     : Type 0 where
   pub full : (r ≡ Err Full) ↔ NoRoom o w
   pub waiters_full : (r ≡ Err WaitersFull) ↔ NoPlace o w
 
--- each refusal but out of memory comes exactly where it should
+-- `Full` and `WaitersFull` come exactly where they should
 abbrev pub RefusesExactly : Type 0
 RefusesExactly =
     (o n : PendingData) (w : WaiterData) (moment : Seconds) (word : ℕ) (r : Result Asked PendingFault)

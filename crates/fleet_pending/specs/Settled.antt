@@ -6,7 +6,7 @@ use Rattle.fleet_pending.specs.Asking.{Settles}
 use Rattle.fleet_pending.specs.PendingData.{EntryData, PendingData, IsPendingData, UsesId}
 use Rattle.fleet_name.specs.Places.{At}
 
--- the entry that has this id, and it alone is taken out
+-- settling gives back the entry that has this id, and it alone is taken out
 abbrev pub SettlesItsEntry : Type 0
 SettlesItsEntry =
     (o n : PendingData) (i id : ℕ) (e : EntryData) (r : Option EntryData)

@@ -7,14 +7,14 @@ ghost use Rattle.fleet_pending.specs.DueCount.{CountsDue};
 ghost use Rattle.fleet_pending.specs.Settled.{SettlesItsEntry};
 ghost use Rattle.fleet_pending.specs.Waiting.{WaitersStay};
 
-/// `Full` is returned exactly where no entry has the question and 256 are open, `WaitersFull`
-/// exactly where its entry has 32 waiters and not this one.
+/// `Full` is returned exactly where no entry has the question and 256 are open, `WaitersFull` exactly
+/// where its entry has 32 waiters and not this one. So a repeated waiter and joining come first.
 pub fn refusals_are_exact()
     ensures { RefusesExactly }
 {}
 
-/// Over any list of calls each waiter that waited at first or was accepted is given back by
-/// `settle`, went with a `clear` or still waits, each as often.
+/// Over any list of calls each waiter that waited at first or was accepted is given back by `settle`,
+/// went with a `clear` or still waits, each as often.
 pub fn waiters_kept()
     ensures { EachAsOften }
 {}
@@ -36,7 +36,8 @@ pub fn waiters_stay()
 {}
 
 /// None is due exactly where the count is 0, at most 256 are due, and once the first due entry has
-/// moved on or is settled one fewer is due at that moment.
+/// moved on or is settled one fewer is due at that moment. So whoever serves them one after another
+/// comes to an end.
 pub fn serving_leaves_fewer_due()
     ensures { CountsDue }
 {}

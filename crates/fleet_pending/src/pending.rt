@@ -23,8 +23,10 @@ use fleet_wire::class::IN;
 use std::alloc::{Allocator, Global};
 use std::marker::Model;
 
-/// The open questions. No entry's time is over before `soonest`, so that nobody looks for one that
-/// is due where none can be.
+// Lets through: an earlier `soonest` after any call. `due` then goes over the open questions where none
+// is due, which costs time alone.
+/// The open questions. No entry's time is over before `soonest`, so that nobody looks for one that is
+/// due where none can be. Whoever sets a deadline keeps `soonest` at or before it.
 #[derive(Drop)]
 pub struct Pending<A: Allocator = Global> {
     upstreams: u8,
@@ -46,7 +48,7 @@ impl<A: Allocator> Model for Pending<A> {
 }
 
 impl<A: Allocator> Pending<A> {
-    /// A table without questions. Each one will be asked of `upstreams` upstreams (1 to 4), one
+    /// A new table, without questions. Each one will be asked of `upstreams` upstreams (1 to 4), one
     /// after the other.
     pub fn new(alloc: A, upstreams: u8) -> Pending<A>
         requires some { 1 ≤ upstreams }
@@ -61,9 +63,9 @@ impl<A: Allocator> Pending<A> {
         }
     }
 
-    /// A waiter asks at a moment. The search for a free id begins at `word`. The question's class
-    /// is not looked at: where each question was of one class, so is each waiter's
-    /// (`waiters_stay`).
+    /// Enters a waiter that asks a question at a moment: into the entry that has its question, or into
+    /// a new one. The search for a free id begins at `word`. The question's class is not looked at:
+    /// where each question was of one class, so is each waiter's (`waiters_stay`).
     ///
     /// Where an entry has the name and the type:
     ///
@@ -99,8 +101,9 @@ impl<A: Allocator> Pending<A> {
         }
     }
 
-    /// `ask` of a waiter whose question is new and has room, under the id that `query_id` returned
-    /// for it and the same word: nothing is searched again.
+    /// Opens an entry for a waiter whose question is new and has room, under the id that `query_id`
+    /// returned for it and the same word. It answers and leaves what `ask` does, and searches nothing
+    /// again.
     ///
     /// # Errors
     ///
@@ -126,8 +129,8 @@ impl<A: Allocator> Pending<A> {
         enter(&mut self.entries, waiter, moment, word, id)
     }
 
-    /// The id of the query that asking would send now, with the same word; `None` where an entry
-    /// has the question's name and type, or 256 are open.
+    /// The id of the query that asking would send now, with the same word; `None` where an entry has
+    /// the question's name and type, or 256 are open. Nothing changes.
     pub fn query_id(&self, question: &Question<A>, word: u16) -> Option<u16>
         ensures id { IsQueryId self.now question.now word result }
         ensures lawful { IsPendingData self.now }
@@ -142,7 +145,7 @@ impl<A: Allocator> Pending<A> {
         Some(id)
     }
 
-    /// The entry whose query has this id.
+    /// The entry whose query has this id; `None` where there is none.
     pub fn entry(&self, id: u16) -> Option<&Entry<A>>
         ensures finds { Finds (UsesId id) self.now.entries (option_copied result) }
         ensures is_open { IfSome result (λ e. IsEntryData e.now) }
@@ -152,8 +155,9 @@ impl<A: Allocator> Pending<A> {
         Some(&self.entries[i])
     }
 
-    /// The entry that a reply is for: it asks this upstream now, under this id, for this name and
-    /// type, and the reply's question is of class 1 (IN), whatever its waiters' classes are.
+    /// The entry that a reply is for, if there is one: it asks this upstream now, under this id, for
+    /// this name and type, and the reply's question is of class 1 (IN), whatever its waiters' classes
+    /// are.
     pub fn find(&self, upstream: u8, id: u16, question: &Question<A>) -> Option<&Entry<A>>
         ensures finds { Finds (Matches upstream id question.now) self.now.entries
             (option_copied result) }
@@ -180,7 +184,7 @@ impl<A: Allocator> Pending<A> {
         Some(self.entries.remove(i))
     }
 
-    /// Removes all entries; the room is kept.
+    /// Removes all entries: the table is as a new one, and its room is kept.
     pub fn clear(&mut self)
         ensures cleared { self.new ≡ record self.old { entries = [] } }
         ensures lawful { IsPendingData self.new }
@@ -217,9 +221,11 @@ impl<A: Allocator> Pending<A> {
         }
     }
 
-    /// Looks for the first deadline, where one may have passed by a moment. Who was told by `due`
-    /// that no entry is due then calls this, so that `due` looks at none before the deadline that
-    /// comes next. Nothing changes that is seen.
+    // Lets through: a body that leaves the table as it is: no clause sees that the first deadline is
+    // kept. Ticks then go over the open questions where none is due, which costs time alone.
+    /// Looks for the first deadline, where one may have passed by a moment. Who was told by `due` that
+    /// no entry is due then calls this, so that `due` looks at none before the deadline that comes
+    /// next. Nothing changes that is seen.
     pub fn look_ahead(&mut self, moment: Moment)
         ensures { self.new ≡ self.old }
     {
@@ -289,7 +295,8 @@ fn add_entry<A: Allocator + Copy>(
     enter(entries, waiter, moment, word, id)
 }
 
-/// Opens an entry for a waiter whose question is new, under the first free id from `word` upwards.
+/// Opens an entry for a waiter whose question is new, under the first free id from `word` upwards. All
+/// memory is taken before anything changes: for the table, the name, the list of waiters.
 fn enter<A: Allocator + Copy>(
     entries: &mut Vec<Entry<A>, A>,
     waiter: Waiter<A>,

@@ -29,6 +29,7 @@ fn is_among<A: Allocator>(waiter: &Waiter<A>, waiters: &[Waiter<A>]) -> bool
     false
 }
 
+// Lets through: a body that compares the two in the other order, which means the same.
 /// Whether the two wait at the same address, under the same id.
 fn is_same_asker<A: Allocator>(one: &Waiter<A>, other: &Waiter<A>) -> bool
     ensures { IsTrue result ↔ SameAsker one.now other.now }

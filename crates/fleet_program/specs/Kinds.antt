@@ -1,10 +1,11 @@
 -- The word for a kind of observation.
--- Serves `dnsfleet script`.
+-- Serves `run_script`.
 use Rattle.std.specs.Prelude.{codes}
 use Rattle.fleet_name.specs.Types.{OctetList}
 use Rattle.fleet_observe.specs.declared.observation.kind.Kind.{Kind}
 use Rattle.fleet_observe.specs.declared.observation.kind.Kind.TheVariants.{Positive, NoData, NameError, Flush}
 
+-- the word that a script prints for a kind of observation
 abbrev pub kind_word : Kind → OctetList
 kind_word Positive = codes "positive"
 kind_word NoData = codes "nodata"

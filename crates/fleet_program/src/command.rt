@@ -95,7 +95,8 @@ pub enum Step<'a> {
 }
 
 impl Step<'_> {
-    /// The site at which it happens; of a merge, the greater number of the two.
+    /// The site at which an event happens; of a merge, the greater number of the two, so that both are
+    /// there where it is.
     pub fn site(&self) -> usize {
         match self {
             Step::Learn { site, .. } => *site,
@@ -110,7 +111,7 @@ impl Step<'_> {
         }
     }
 
-    /// The frame that comes in, if it was sent before.
+    /// The number of the frame that comes in, if it was sent before.
     pub fn frame(&self) -> Option<usize> {
         match self {
             Step::Deliver { frame, .. } => Some(*frame),
@@ -118,7 +119,7 @@ impl Step<'_> {
         }
     }
 
-    /// The event itself.
+    /// Makes the event itself, with its octets.
     pub fn event<A: Allocator + Copy>(self, alloc: A) -> Result<Event<A>, AllocError> {
         Ok(match self {
             Step::Learn { site, now, reply } => Event::Learn {
@@ -158,7 +159,8 @@ impl Step<'_> {
     }
 }
 
-/// The first words of a line, up to seven: no line has more than six.
+/// The first words of a line, up to seven: one more than the longest line has, so that a word too many
+/// is seen.
 fn first_words(line: &str) -> ArrayVec<&str, 7>
     ensures { map (λ word. word.now) result.items ≡ take 7 (words_of line.now) }
 {
@@ -168,7 +170,10 @@ fn first_words(line: &str) -> ArrayVec<&str, 7>
     words
 }
 
-/// What a line asks for.
+// Lets through: another command than the line's words ask for, since it has no clause; so have
+// `read_step`, `read_arrival` and `word_fault`. The worked examples and each fault of a line
+// (`tests/run`) see it.
+/// Reads a line: what it asks for, or its first fault, word by word from the left.
 pub fn read_command(line: &str) -> Result<Command<'_>, LineFault> {
     let words = first_words(line);
     match words.as_slice() {
@@ -191,7 +196,7 @@ pub fn read_command(line: &str) -> Result<Command<'_>, LineFault> {
     }
 }
 
-/// The event of a line's words.
+/// Reads the words of a line as an event.
 fn read_step<'a>(words: &[&'a str]) -> Result<Step<'a>, LineFault> {
     match words {
         ["tick", site, now] => Ok(Step::Tick {
@@ -212,7 +217,7 @@ fn read_step<'a>(words: &[&'a str]) -> Result<Step<'a>, LineFault> {
     }
 }
 
-/// What comes to a site, of a line's words.
+/// Reads the words of a line as something that comes to a site.
 fn read_arrival<'a>(words: &[&'a str]) -> Result<Step<'a>, LineFault> {
     match words {
         ["learn", site, now, reply] => Ok(Step::Learn {
@@ -246,7 +251,8 @@ fn read_arrival<'a>(words: &[&'a str]) -> Result<Step<'a>, LineFault> {
     }
 }
 
-/// The events, as a line begins with them.
+/// The events, as a line begins with them. Where the name of one is missing here, a line of it with a
+/// wrong number of words is an unknown event; only a test would show that.
 const EVENTS: [&str; 13] = [
     "sites", "learn", "ask", "show", "datagram", "tick", "sweep", "frame", "deliver", "merge",
     "restart", "same", "flush",
@@ -260,18 +266,22 @@ fn word_fault(words: &[&str]) -> LineFault {
     }
 }
 
+/// Reads a word as a number.
 fn number_word(word: &str) -> Result<usize, LineFault> {
     number(word).ok_or(LineFault::BadNumber)
 }
 
+/// Reads a word as a moment.
 fn moment_word(word: &str) -> Result<Moment, LineFault> {
     moment(word).ok_or(LineFault::BadNumber)
 }
 
+/// Reads a word as a name: its octets first, and then that they are a name.
 fn name_word(word: &str) -> Result<NameWord<'_>, LineFault> {
     NameWord::new(hex_word(word)?).ok_or(LineFault::BadName)
 }
 
+/// Reads a word as octets.
 fn hex_word(word: &str) -> Result<Hex<'_>, LineFault> {
     Hex::new(word).ok_or(LineFault::BadHex)
 }

@@ -13,7 +13,8 @@ use fleet_site::Config;
 use fleet_world::World;
 use std::alloc::{AllocError, Allocator};
 
-/// The address 127.0.0.1, which all have.
+/// The address 127.0.0.1, which all sites and upstreams of a script have, and on which a server
+/// listens.
 pub const LOOPBACK: u32 = 0x7f00_0001;
 
 /// The port of the first upstream of every site.
@@ -22,7 +23,7 @@ const FIRST_UPSTREAM_PORT: u16 = 5301;
 /// The port of the second upstream of every site.
 const SECOND_UPSTREAM_PORT: u16 = 5302;
 
-/// The port of site 0; the others follow.
+/// The port of site 0 of a script; the ports of further sites follow.
 const FIRST_SITE_PORT: u16 = 5400;
 
 /// The sites of a script. The first event makes them: as many as it says, or one.
@@ -35,14 +36,15 @@ pub struct Fleet<A: Allocator> {
 impl<A: Allocator + Copy> Fleet<A> {
     ghost use Rattle.fleet_program.specs.Fleet.{site_count, frame_count, BeginsWith};
 
-    /// No event has happened.
+    /// Makes the fleet of a script in which no event has happened.
     pub fn new(alloc: A) -> Fleet<A>
         ensures { IsNone result.world }
     {
         Fleet { alloc, world: None }
     }
 
-    /// Makes this number of sites, if this is the first event.
+    /// Makes this number of sites, if this is the first event: with the script's addresses, and nothing
+    /// taken in. Else it is `SitesNotFirst`.
     pub fn begin(&mut self, count: SiteCount) -> Result<(), LineFault>
         ensures begun { OnOk result (BeginsWith count.value self.new.world) }
         ensures late { IsErrOf result LineFault.SitesNotFirst ↔ IsSome self.old.world }
@@ -56,7 +58,8 @@ impl<A: Allocator + Copy> Fleet<A> {
         Ok(())
     }
 
-    /// Checks that there is a site of this number: 0 alone before the first event.
+    /// Checks that there is a site of this number: 0 alone before the first event. It allocates
+    /// nothing, so that a site which is not there is reported before memory is needed.
     pub fn check_site(&self, site: usize) -> Result<(), LineFault>
         ensures there { IsOk result ↔ (site < site_count self.now.world) }
         ensures refused { IfErr result (λ what. what ≡ LineFault.NoSuchSite) }
@@ -72,7 +75,8 @@ impl<A: Allocator + Copy> Fleet<A> {
         }
     }
 
-    /// Checks that a frame was sent under this number: none before the first event.
+    /// Checks that a frame was sent under this number: none before the first event. It allocates
+    /// nothing.
     pub fn check_frame(&self, number: usize) -> Result<(), LineFault>
         ensures there { IsOk result ↔ (number < frame_count self.now.world) }
         ensures refused { IfErr result (λ what. what ≡ LineFault.NoSuchFrame) }
@@ -88,7 +92,7 @@ impl<A: Allocator + Copy> Fleet<A> {
         }
     }
 
-    /// The world. Where this is the first event, one site is made.
+    /// The world of a script. Where this is the first event, one site is made.
     pub fn world(&mut self) -> Result<&mut World<A>, AllocError> {
         match &mut self.world {
             Some(world) => Ok(world),
@@ -107,7 +111,7 @@ fn local_address(port: u16) -> Addr
     }
 }
 
-/// So many new sites.
+/// Makes a world of so many new sites.
 fn new_world<A: Allocator + Copy>(alloc: A, count: usize) -> Result<World<A>, AllocError>
     requires { count ≤ MOST_SITES }
     ensures { IfOk result (λ world. StandsFor world (opening (configs_of count count))) }
@@ -119,7 +123,7 @@ fn new_world<A: Allocator + Copy>(alloc: A, count: usize) -> Result<World<A>, Al
     World::new(alloc, configs)
 }
 
-/// The upstreams of a site, and for its peers the other sites.
+/// The configuration of a site of a script: the upstreams of all, and for its peers the other sites.
 fn new_config<A: Allocator + Copy>(
     alloc: A,
     count: usize,
@@ -136,7 +140,7 @@ fn new_config<A: Allocator + Copy>(
     }
 }
 
-/// The addresses of the upstreams, in order.
+/// The addresses of the upstreams of a script, in order.
 fn new_upstreams<A: Allocator + Copy>(alloc: A) -> Result<Vec<Addr, A>, AllocError>
     ensures { IfOk result (λ addrs. addrs.items ≡ upstreams) }
 {
@@ -146,7 +150,7 @@ fn new_upstreams<A: Allocator + Copy>(alloc: A) -> Result<Vec<Addr, A>, AllocErr
     Ok(addrs)
 }
 
-/// The addresses of all sites but one.
+/// The addresses of all sites of a script but one.
 fn new_peers<A: Allocator + Copy>(
     alloc: A,
     count: usize,

@@ -1,4 +1,5 @@
-//! What `--help` says behind the words and options.
+//! What `--help` says after the words and options. The numbers in these texts are those of constants,
+//! and the events and keys those that are read: no check compares them.
 
 /// What `dnsfleet --help` says at its end.
 pub const PROGRAM: &str = "\

@@ -1,4 +1,8 @@
 //! What the program `dnsfleet` does: its words, the script of a fleet, and a site on a socket.
+//!
+//! The program calls [`run_program`] alone. Much of what it does is carried by contracts of functions
+//! inside this library. That [`run_program`] uses these, with the values that they read, is no
+//! contract: tests show that, and what is printed.
 #![tactic(auto)]
 
 mod calls;
@@ -44,6 +48,7 @@ const BAD_WORDS: u8 = 2;
 /// The version of the program.
 const VERSION: &str = "1.0.0";
 
+// Lets through: another text, since it has no clause. A case of `tests/run` (`test_words`) compares it.
 /// What `--version` prints after the program's name: its version, and those of frames.
 fn version_text(alloc: Global) -> Result<String, AllocError> {
     let newest = fleet_gossip::VERSION;
@@ -51,6 +56,8 @@ fn version_text(alloc: Global) -> Result<String, AllocError> {
     format!(in alloc; "{VERSION} (frames: writes {newest}, reads {oldest} and {newest})")
 }
 
+// Lets through: other words and texts, since it has no clause. Cases of `tests/run` (`test_words`) show
+// which words are taken; of the texts of `clap` nothing is tested.
 /// The words that the program takes, with what `--version` prints.
 fn program<'a>(alloc: Global, version: &'a str) -> Result<Command<'a>, AllocError> {
     let script = Command::new(alloc, "script")
@@ -70,8 +77,11 @@ fn program<'a>(alloc: Global, version: &'a str) -> Result<Command<'a>, AllocErro
     Ok(program)
 }
 
-/// Prints a usage fault to standard error, with status 2, where it may be lost; or a help page or
-/// the version to standard output, with status 0.
+// Lets through: a page that is not printed, though the status is 0. The tested body
+// `failed_help_is_ignored` ignores that printing fails; a case of `tests/run` (`test_words`) sees it.
+/// Prints a usage fault to standard error, with status 2, where it may be lost; or a help page or the
+/// version to standard output, with status 0. Where memory runs out, or a page can't be printed, that
+/// error is returned.
 fn explain<R: Print + Eprint>(rt: &R, error: &Error) -> io::Result<ExitCode>
     ensures fault { ¬ IsPage (kind_of error.now) → (kind_of error.now ≢ Mistake.OutOfMemory)
         → IsOkAnd result (λ code. exit_status code ≡ BAD_WORDS) }
@@ -90,7 +100,9 @@ fn explain<R: Print + Eprint>(rt: &R, error: &Error) -> io::Result<ExitCode>
     Ok(ExitCode::SUCCESS)
 }
 
-/// The status that a script ends with: 1 where a line is at fault, which standard error reports.
+// Lets through: any text on standard error, and none: its clauses have the status alone. Cases of
+// `tests/run` (`test_script_faults`) compare the text of each fault.
+/// The status that a script ends with: 0, or 1 where a line is at fault, which standard error reports.
 fn end_script<R: Eprint>(rt: &R, ended: Result<(), ScriptFault>) -> ExitCode
     ensures done { IsOk ended → result ≡ ExitCode.SUCCESS }
     ensures fault { IsErr ended → result ≡ ExitCode.FAILURE }
@@ -141,6 +153,9 @@ fn run_process(rt: &HostRuntime) -> io::Result<ExitCode> {
     }
 }
 
+// Lets through: any text on standard error, and none. The tested bodies `failed_write_as_read` and
+// `memory_as_failed_write` print another one; cases of `tests/run` (`test_words`, `test_memory`) see
+// them.
 /// The status that a run ends with. Where output or an allocation failed, standard error reports
 /// it, and the status is 1.
 fn end_run<R: Eprint>(rt: &R, ran: io::Result<ExitCode>) -> ExitCode
@@ -154,6 +169,8 @@ fn end_run<R: Eprint>(rt: &R, ran: io::Result<ExitCode>) -> ExitCode
     }
 }
 
+// Lets through: any status and any output, since it has no clause. Cases of `tests/run` alone show what
+// it does: they start the program.
 /// Does what the words of the process ask for, and returns the status that it ends with: 0, 1 where
 /// a line, a configuration, a socket, output or an allocation failed, 2 for words or a key that it
 /// does not take.

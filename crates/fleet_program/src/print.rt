@@ -1,4 +1,4 @@
-//! What a line prints.
+//! What a line prints. But for the words of kinds no clause speaks of it.
 
 ghost use Rattle.std.specs.Prelude.{◌≡◌};
 ghost use Rattle.fleet_program.specs.Kinds.{kind_word};
@@ -11,7 +11,7 @@ use fleet_world::{Event, Stepped, World};
 use std::alloc::{AllocError, Allocator};
 use std::net::Ipv4Addr;
 
-/// A word of octets in hexadecimal digits, `-` for none, and the end of its line.
+/// Prints octets in hexadecimal digits, `-` for none, and the end of the line.
 fn print_octets<A: Allocator + Copy>(out: &mut String<A>, octets: &[u8]) -> Result<(), AllocError> {
     if octets.is_empty() {
         return out.push_str("-\n");
@@ -21,7 +21,9 @@ fn print_octets<A: Allocator + Copy>(out: &mut String<A>, octets: &[u8]) -> Resu
     out.push_str("\n")
 }
 
-/// What a site answers to a question.
+// Lets through: any text, since it has no clause; so have the other functions here but `kind_text`. The
+// worked examples of `tests/run` compare what a script prints.
+/// Prints what a site answers to a question.
 pub fn print_looked<A: Allocator + Copy>(
     out: &mut String<A>,
     looked: &Looked<A>,
@@ -36,7 +38,7 @@ pub fn print_looked<A: Allocator + Copy>(
     }
 }
 
-/// Whether two sites hold the same.
+/// Prints whether two sites hold the same.
 pub fn print_same<A: Allocator>(out: &mut String<A>, same: bool) -> Result<(), AllocError> {
     if same {
         out.push_str("same\n")
@@ -57,7 +59,7 @@ fn kind_text(kind: Kind) -> &'static str
     }
 }
 
-/// One item of a site.
+/// Prints one item of a site.
 fn print_item<A: Allocator + Copy>(
     out: &mut String<A>,
     item: &Observation<A>,
@@ -73,7 +75,7 @@ fn print_item<A: Allocator + Copy>(
     print_octets(out, &body)
 }
 
-/// The floor and the items of a site.
+/// Prints the floor and the items of a site.
 pub fn print_site<A: Allocator + Copy>(
     out: &mut String<A>,
     site: &Site<A>,
@@ -88,7 +90,7 @@ pub fn print_site<A: Allocator + Copy>(
     writeln!(out, "items {count}")
 }
 
-/// A datagram that goes out.
+/// Prints a datagram that goes out.
 fn print_packet<A: Allocator + Copy>(
     out: &mut String<A>,
     packet: &Packet<A>,
@@ -99,7 +101,7 @@ fn print_packet<A: Allocator + Copy>(
     print_octets(out, packet.bytes.as_slice())
 }
 
-/// The frames of these numbers.
+/// Prints the frames of these numbers.
 fn print_frames<A: Allocator + Copy>(
     out: &mut String<A>,
     world: &World<A>,
@@ -114,7 +116,7 @@ fn print_frames<A: Allocator + Copy>(
     Ok(())
 }
 
-/// Why nothing more was done.
+/// Prints why nothing more was done.
 fn print_refusal<A: Allocator>(out: &mut String<A>, refusal: Refusal) -> Result<(), AllocError> {
     match refusal {
         Refusal::Unmatched => writeln!(out, "refused unmatched"),
@@ -126,7 +128,7 @@ fn print_refusal<A: Allocator>(out: &mut String<A>, refusal: Refusal) -> Result<
     }
 }
 
-/// How an event ended: the line behind its packets and its frames.
+/// Prints how an event ended: the line after its packets and its frames.
 fn print_end<A: Allocator>(
     out: &mut String<A>,
     event: &Event<A>,
@@ -148,7 +150,7 @@ fn print_end<A: Allocator>(
     }
 }
 
-/// What an event did: the packets, the frames, and how it ended.
+/// Prints what an event did: the packets, the frames, and how it ended.
 pub fn print_stepped<A: Allocator + Copy>(
     out: &mut String<A>,
     world: &World<A>,

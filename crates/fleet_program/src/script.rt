@@ -31,7 +31,8 @@ impl<A: Allocator + Copy> Script<A> {
         }
     }
 
-    /// Does what a line asks for, and makes what it prints.
+    /// Does what a line asks for, and makes what it prints: all of it before any is written, so that a
+    /// line at fault prints nothing.
     fn run_line(&mut self, line: &[u8]) -> Result<(), LineFault> {
         self.out.clear();
         match command_of(line)? {
@@ -40,7 +41,8 @@ impl<A: Allocator + Copy> Script<A> {
         }
     }
 
-    /// Does what a line asks for, and adds what it prints.
+    /// Does what a line asks for, and adds what it prints. Sites and frames are checked before memory
+    /// is allocated, so that one which is not there is never reported as want of memory.
     fn run_command(&mut self, command: Command<'_>) -> Result<(), LineFault> {
         match command {
             Command::Sites { count } => self.fleet.begin(count),
@@ -117,7 +119,8 @@ fn command_of(line: &[u8]) -> Result<Option<Command<'_>>, LineFault> {
     Ok(Some(command))
 }
 
-/// Reads and runs one line, and writes what it prints; false where there is no line.
+/// Reads and runs one line, and writes what it prints; false where there is no line. What it prints is
+/// made whole first, so want of memory is reported before a failed write, and then nothing is printed.
 fn run_next<A: Allocator + Copy, R: Read, W: Write>(
     lines: &mut Lines<'_, R>,
     line: &mut Vec<u8, A>,
@@ -143,11 +146,15 @@ fn write_text<W: Write>(writer: &mut W, text: &str) -> io::Result<()> {
     writer.flush()
 }
 
+// Lets through: a fault at any line, and any output: the clause says that lines are counted from 1. The
+// worked examples and each fault of a line see it (`tests/run`: `test_examples`, `test_script_faults`),
+// with each call for memory refused in turn (`a_script_ends_where_a_call_is_refused`).
 /// Runs the lines of a reader on a new fleet, and writes what each prints before the next is read.
 ///
-/// The first line at fault ends it; what earlier lines printed is written then. The reader is
-/// called at most 4294967295 times, and what comes after that ends as on a fault of the reader. An
-/// interrupted call of the reader is made again.
+/// The first line at fault ends it, and the fault names the line; what earlier lines printed is written
+/// then. The reader is called at most 4294967295 times, and what comes after that ends as on a fault of
+/// the reader. So it ends for every input, provided that each call of the reader, the writer and the
+/// allocator returns. An interrupted call of the reader is made again.
 pub fn run_script<A: Allocator + Copy, R: Read, W: Write>(
     alloc: A,
     reader: &mut R,

@@ -43,6 +43,8 @@ pub struct Words<'a> {
 }
 
 impl<'a> Words<'a> {
+    // Lets through: other words than those given. The tested body `words_have_one_turn` has one turn; a
+    // case of `tests/run` (`test_configurations`) sees it.
     /// The words that `clap` found; it lets none be absent.
     pub fn of(matches: &ArgMatches<'a>) -> Words<'a> {
         Words {
@@ -92,7 +94,7 @@ pub enum ConfigurationFault {
     Settings(SettingsFault),
 }
 
-/// The key that 64 hexadecimal digits spell.
+/// The key that 64 hexadecimal digits of either case spell; no other text spells one.
 fn key_of(text: &str) -> Option<[u8; KEY_LENGTH]>
     ensures { MatchOption result ((key : OctetList) → SpellsKey text.now key → ⊥)
         (λ key. SpellsKey text.now key) }
@@ -113,7 +115,10 @@ fn read_start<R: Files>(rt: &R, alloc: Global, path: &str) -> io::Result<Vec<u8>
     Ok(octets)
 }
 
-/// What the configuration at a path says.
+// Lets through: any settings and any fault, since it has no clause. Cases of `tests/run`
+// (`test_configurations`) see each fault, and what is read.
+/// What the configuration at a path says. At most one octet more than a configuration has is read of
+/// it.
 pub fn settings_at<R: Files>(
     rt: &R,
     alloc: Global,
@@ -128,6 +133,8 @@ pub fn settings_at<R: Files>(
     }
 }
 
+// Lets through: any text. The tested body `report_exchanges_counts` exchanges two counts; a case of
+// `tests/run` (`test_bursts`) sees it.
 /// Prints what a server counted.
 pub fn print_report<O: Print>(out: &O, report: &Report) -> io::Result<()> {
     let Report {
@@ -145,10 +152,10 @@ pub fn print_report<O: Print>(out: &O, report: &Report) -> io::Result<()> {
 }
 
 /// Serves a number of turns with these settings, over any socket and clock, with the words of a key,
-/// and sends all that waits then. The site is new: so clause `sockets` of the laws
-/// [`own_replies`](fleet_site::laws::own_replies) and
-/// [`questions_answered`](fleet_site::laws::questions_answered) holds of what the socket received and was
-/// given to send, where socket and log keep their records.
+/// and sends all that waits then: nothing waits to be sent afterwards. The site is new: so clause
+/// `sockets` of the laws [`own_replies`](fleet_site::laws::own_replies) and
+/// [`questions_answered`](fleet_site::laws::questions_answered) holds of what the socket received and
+/// was given to send, where socket and log keep their records.
 fn serve_new<S: Socket + Drop, L: CallLog + Drop, C: Clock>(
     alloc: Global,
     port: &mut BurstPort<S, L>,
@@ -167,6 +174,9 @@ fn serve_new<S: Socket + Drop, L: CallLog + Drop, C: Clock>(
     serve_socket(port, clock, &mut rng, &mut site, turns, settings.sweep)
 }
 
+// Lets through: another number of turns, other settings or another clock than it is given, and any
+// output. Four tested bodies are such, `server_reads_its_clock_once` and `failed_report_is_ignored`
+// among them; cases of `tests/run` see them.
 /// Serves a number of turns over a socket, and prints where it listens and what it counted.
 fn serve_port<R: time::Clock + AllocGlobal, O: Print>(
     rt: &R,
@@ -184,8 +194,10 @@ fn serve_port<R: time::Clock + AllocGlobal, O: Print>(
     print_report(out, &report)
 }
 
-/// Serves with these settings, if there are any. A fault is printed to standard error, and ends
-/// with status 1; where output fails, its error is returned.
+// Lets through: serving nothing or another number of turns, and printing that always fails, where there
+// are settings: the clauses have the status alone. Sessions of `tests/run` see it.
+/// Serves with these settings, if there are any. A fault is printed to standard error, and ends with
+/// status 1; where output fails, its error is returned.
 pub fn serve_settings<R: time::Clock + Net + AllocGlobal, O: Print + Eprint>(
     rt: &R,
     out: &O,
@@ -212,8 +224,10 @@ pub fn serve_settings<R: time::Clock + Net + AllocGlobal, O: Print + Eprint>(
     Ok(ExitCode::SUCCESS)
 }
 
-/// Serves one site as the words say. The key is looked at before the configuration; where it is
-/// none, the status is 2.
+// Lets through: another number of turns than the words say. The tested body `server_serves_one_turn`
+// serves one; a case of `tests/run` (`test_configurations`) sees it.
+/// Serves one site as the words say. The key is looked at before the configuration; where it is none,
+/// the status is 2. Else it is 0 or 1, and 1 after a fault of the configuration or of the socket.
 pub fn run_server<R: Files + time::Clock + Net + AllocGlobal, O: Print + Eprint>(
     rt: &R,
     out: &O,

@@ -66,7 +66,8 @@ pub enum SettingsFault {
     OutOfMemory,
 }
 
-/// What a configuration says.
+/// What a configuration says. Addresses go into `Config`, and so into the site's model; what a server
+/// does by itself, as `sweep`, is handed to `serve`, and the site knows nothing of it.
 #[derive(Drop)]
 pub struct Settings {
     /// Where the site listens.
@@ -80,7 +81,7 @@ pub struct Settings {
 /// Reads a configuration, a TOML text with the keys `listen`, `upstreams`, `peers` and `sweep`. Of
 /// several faults the first is returned: `TooLong`, `NotToml`, `UnknownKey`; then `MissingKey` to
 /// `BadSweep`, key by key in this order; then those of upstreams and peers together. `OutOfMemory`
-/// comes at the allocation that failed.
+/// comes at the allocation that failed. What a TOML text is, the contract of the TOML library says.
 pub fn read_settings(alloc: Global, octets: &[u8]) -> Result<Settings, SettingsFault>
     ensures { ReadsSettings octets.now result }
 {

@@ -9,8 +9,8 @@ use fleet_site::Clock;
 use std::time::Duration;
 use std::{io, time};
 
-/// A clock of the system. Moments are its seconds since 1970, at most 2^40; where it can't be read,
-/// the last moment again, and 0 where there was none.
+/// A clock of the system. Moments are its seconds since 1970, at most 2^40; where it can't be read, as
+/// before 1970, the last moment again, and 0 where there was none.
 #[derive(Drop)]
 pub struct SystemClock<'a, C: time::Clock> {
     clock: &'a C,
@@ -18,7 +18,7 @@ pub struct SystemClock<'a, C: time::Clock> {
 }
 
 impl<'a, C: time::Clock> SystemClock<'a, C> {
-    /// A clock that was not read yet.
+    /// Makes a clock that was not read yet: its last moment is 0.
     pub fn new(clock: &'a C) -> SystemClock<'a, C>
         ensures { result.last ≡ 0 }
     {
@@ -28,7 +28,7 @@ impl<'a, C: time::Clock> SystemClock<'a, C> {
         }
     }
 
-    /// The moment of what was read, which is kept.
+    /// The moment of what was read, which is kept for where the clock can't be read the next time.
     fn keep(&mut self, read: io::Result<Duration>) -> Moment
         ensures moment { result ≡ moment_after read self.old.last }
         ensures kept { self.new ≡ record self.old { last = result } }
@@ -43,6 +43,9 @@ impl<'a, C: time::Clock> SystemClock<'a, C> {
 impl<'a, C: time::Clock> Clock for SystemClock<'a, C> {
     ghost moments = { λ _. None };
 
+    // Lets through: any moment, the last one again too: the clause says only that it is kept. The
+    // tested body `clock_reads_once` reads the clock until it has a moment; a case of `tests/run`
+    // (`test_serving`) sees it.
     fn now(&mut self) -> Moment
         ensures { self.new ≡ record self.old { last = result } }
     {

@@ -13,14 +13,18 @@ use std::os::fd::AsRawFd;
 use std::time::Duration;
 use std::{io, time};
 
-/// How many milliseconds a receive waits at most.
+// Lets through: another number, since no clause has it. The tested body `receive_waits_two_seconds`
+// has 2000; a case of `tests/run` (`test_bounds_of_sessions`) sees it.
+/// How many milliseconds a receive of the system's socket waits at most.
 const WAIT: u64 = 200;
 
-/// The lowest descriptor that is none of standard input, output and error.
+/// The lowest descriptor that is none of standard input, output and error; clauses have the number
+/// itself.
 const LOWEST_FREE: i32 = 3;
 
-/// A UDP socket that is bound to one address, and the system's clock. A receive that waits does so
-/// for 200 milliseconds at most.
+/// A UDP socket that is bound to one address, and the system's clock. A receive that waits does so for
+/// 200 milliseconds at most. It keeps no record of its calls: that it does what a `Socket` has to is
+/// read off its six methods, of one call of the system each.
 #[derive(Drop)]
 pub struct SystemSocket<'a, C: time::Clock> {
     socket: UdpSocket,
@@ -33,6 +37,9 @@ pub struct SystemSocket<'a, C: time::Clock> {
 pub type UdpPort<'a, C, A = Global> = BurstPort<SystemSocket<'a, C>, Unnoted, A>;
 
 impl<'a, C: time::Clock> SystemSocket<'a, C> {
+    // Lets through: failing at each call, and a socket at another port than its address says. The
+    // tested body `socket_is_at_another_port` is the latter; a case of `tests/run` (`test_serving`)
+    // sees it.
     /// Binds a socket to an address; where its port is 0, to a port that is free. Its descriptor is
     /// none of standard input, output and error. `PortFault` where the address can't be bound, the
     /// socket is at another one, or the time that a receive waits can't be set.
@@ -54,7 +61,7 @@ impl<'a, C: time::Clock> SystemSocket<'a, C> {
         }
     }
 
-    /// Where it receives.
+    /// The address at which a socket receives.
     pub fn address(&self) -> Addr
         ensures { result ≡ self.now.address }
     {
@@ -70,6 +77,8 @@ impl<C: time::Clock> Socket for SystemSocket<'_, C> {
         self.is_waiting
     }
 
+    // Lets through: failing at each call, so that the port never takes in without waiting. Sessions of
+    // `tests/run` see it.
     fn set_waiting(&mut self, waits: bool) -> Result<(), PortFault> {
         match self.socket.set_nonblocking(!waits) {
             Ok(()) => {
@@ -80,6 +89,9 @@ impl<C: time::Clock> Socket for SystemSocket<'_, C> {
         }
     }
 
+    // Lets through: no datagram, ever, or some octets of each. The tested body
+    // `socket_receives_512_octets` cuts them; a case of `tests/run` (`test_bursts`) sees it. No test
+    // has a receive that the system lets fail, or that a signal interrupts.
     fn receive(&mut self, buffer: &mut [u8]) -> Result<Option<(Addr, usize)>, PortFault> {
         match self.socket.recv_from(buffer) {
             Ok((len, from)) => match own_addr(from) {
@@ -91,6 +103,8 @@ impl<C: time::Clock> Socket for SystemSocket<'_, C> {
         }
     }
 
+    // Lets through: sending nothing, or some octets of each. The tested body `socket_sends_512_octets`
+    // cuts them; a case of `tests/run` (`test_bursts`) sees it.
     fn send(&mut self, to: Addr, bytes: &[u8]) -> Result<(), PortFault> {
         match self.socket.send_to(bytes, system_addr(to)) {
             Ok(count) if count == bytes.len() => Ok(()),
@@ -98,16 +112,22 @@ impl<C: time::Clock> Socket for SystemSocket<'_, C> {
         }
     }
 
+    // Lets through: a clock that can't be read, ever. The tested body `socket_has_no_clock` has such a
+    // one; the test `a_pause_passes_on_the_clock` sees it.
     fn time(&mut self) -> Option<Duration> {
         self.clock.monotonic().ok()
     }
 
+    // Lets through: any pause, and none. The tested body `socket_makes_no_pause` makes none; a case of
+    // `tests/run` (`test_bursts`) sees it.
     fn pause(&mut self) {
         self.clock.sleep(Duration::from_millis(PAUSE));
     }
 }
 
-/// A port at an address, as [`SystemSocket::bind`] binds it, whose frames come from these peers.
+// Lets through: failing at each call, as `SystemSocket::bind`. Sessions of `tests/run` see it.
+/// Makes a port at an address, as [`SystemSocket::bind`] binds it, whose frames come from these peers;
+/// no call has failed.
 pub fn bind_port<'a, N: Net, C: time::Clock, A: Allocator + Copy>(
     net: &N,
     clock: &'a C,
@@ -125,7 +145,8 @@ pub fn bind_port<'a, N: Net, C: time::Clock, A: Allocator + Copy>(
     }
 }
 
-/// A socket that is bound to an address, and whose receives wait 200 milliseconds at most.
+// Lets through: failing at each call, as `SystemSocket::bind`.
+/// Opens a socket that is bound to an address, and whose receives wait 200 milliseconds at most.
 fn open<N: Net>(net: &N, addr: Addr) -> io::Result<UdpSocket>
     ensures { IfOk result (λ socket. pos 3 ≤ℤ udp_raw_fd socket) }
 {
@@ -134,6 +155,7 @@ fn open<N: Net>(net: &N, addr: Addr) -> io::Result<UdpSocket>
     Ok(socket)
 }
 
+// Lets through: failing at each call, as `SystemSocket::bind`.
 /// The same socket, by a descriptor that is no standard one. A process that was started without
 /// some of them is given their numbers first.
 fn beyond_standard(socket: UdpSocket) -> io::Result<UdpSocket>
@@ -164,14 +186,14 @@ fn address_of(socket: &UdpSocket) -> Option<Addr> {
     }
 }
 
-/// An address, as the system takes it.
+/// An address in the form of the system, of which `own_addr` reads the same address back.
 fn system_addr(addr: Addr) -> SocketAddr
     ensures { address_in result ≡ Some addr }
 {
     SocketAddr::V4(SocketAddrV4::new(Ipv4Addr::from_bits(addr.host), addr.port))
 }
 
-/// An address of the system, if it is one of IPv4.
+/// The address that one in the form of the system is, if it is one of IPv4.
 fn own_addr(addr: SocketAddr) -> Option<Addr>
     ensures { result ≡ address_in addr }
 {

@@ -20,13 +20,13 @@ use std::alloc::{AllocError, Allocator};
 use std::marker::Model;
 use std::net::Ipv4Addr;
 
-/// How many digits a number has at most.
+/// How many digits a number has at most: with 13 each moment can be spelled.
 const MOST_DIGITS: usize = 13;
 
-/// The largest number of 16 bits, as a port is one; contracts cite it.
+/// The largest number of 16 bits, as a port is one; contracts alone cite it.
 const LARGEST_16_BITS: u16 = u16::MAX;
 
-/// How many sites there may be.
+/// How many sites a script may have.
 pub const MOST_SITES: usize = 9;
 
 /// Whether each octet is a decimal digit.
@@ -43,7 +43,7 @@ fn are_hex_digits(word: &[u8]) -> bool
     word.iter().all(u8::is_ascii_hexdigit)
 }
 
-/// A whole number of 1 to 13 decimal digits.
+/// Reads a word as a whole number of 1 to 13 decimal digits.
 pub fn number(word: &str) -> Option<usize>
     ensures { SomeIff result (IsNumber word.now) (number_of word.now) }
 {
@@ -53,7 +53,7 @@ pub fn number(word: &str) -> Option<usize>
     word.parse().ok()
 }
 
-/// A moment: a number of seconds, at most 2^40.
+/// Reads a word as a moment: a number of seconds, at most 2^40.
 pub fn moment(word: &str) -> Option<Moment>
     ensures { SomeIff result (IsNumber word.now × (number_of word.now ≤ LATEST))
         (number_of word.now) }
@@ -70,7 +70,7 @@ pub struct SiteCount {
     ghost few: { value ≤ MOST_SITES },
 }
 
-/// A number of sites: 1 to 9.
+/// Reads a word as a number of sites: 1 to 9.
 pub fn site_count(word: &str) -> Option<SiteCount>
     ensures valid { IsSome result
         ↔ (IsNumber word.now × (1 ≤ number_of word.now) × (number_of word.now ≤ MOST_SITES)) }
@@ -82,7 +82,7 @@ pub fn site_count(word: &str) -> Option<SiteCount>
     }
 }
 
-/// A number of 16 bits: 0 to 65535.
+/// Reads a word as a number of 16 bits: 0 to 65535.
 pub fn word_of_16_bits(word: &str) -> Option<u16>
     ensures { SomeIff result (IsNumber word.now × (number_of word.now ≤ LARGEST_16_BITS))
         (number_of word.now) }
@@ -90,7 +90,7 @@ pub fn word_of_16_bits(word: &str) -> Option<u16>
     u16::try_from(number(word)?).ok()
 }
 
-/// A port: 1 to 65535, without leading zeros.
+/// Reads a word as a port: 1 to 65535, without leading zeros.
 fn port_number(word: &str) -> Option<u16>
     ensures { SomeIff result (IsPort word.now) (number_of word.now) }
 {
@@ -100,8 +100,8 @@ fn port_number(word: &str) -> Option<u16>
     word_of_16_bits(word)
 }
 
-/// An address, as `127.0.0.1:5301`: four numbers of 0 to 255 and a port of 1 to 65535, without
-/// leading zeros.
+/// Reads a word as an address, as `127.0.0.1:5301`: four numbers of 0 to 255 and a port of 1 to 65535,
+/// without leading zeros.
 pub fn address(word: &str) -> Option<Addr>
     ensures { MatchOption result ((addr : Addr) → SpellsAddress word.now addr → ⊥)
         (λ addr. SpellsAddress word.now addr) }
@@ -134,7 +134,8 @@ impl<'a> Model for Hex<'a> {
 }
 
 impl<'a> Hex<'a> {
-    /// An even number of hexadecimal digits of either case, or `-` for no octets.
+    /// Reads a word as octets: an even number of hexadecimal digits of either case, or `-` for no
+    /// octets.
     pub fn new(word: &'a str) -> Option<Hex<'a>>
         ensures { MatchOption result ((octets : OctetList) → SpellsOctets word.entry.now octets → ⊥)
             (λ octets. SpellsOctets word.entry.now octets) }
@@ -151,8 +152,8 @@ impl<'a> Hex<'a> {
         Some(Hex { digits: word })
     }
 
-    /// Whether the octets are one name in full, its letters in either case, and nothing behind it.
-    /// It allocates nothing.
+    /// Whether the octets are one name in full, its letters in either case, and nothing after it. It
+    /// allocates nothing.
     fn spells_name(&self) -> bool
         ensures { IsTrue result ↔ IsWire (lower self.now) }
     {
@@ -169,7 +170,7 @@ impl<'a> Hex<'a> {
         suffix_in(octets, 0).is_some()
     }
 
-    /// The octets.
+    /// The octets that a word spells.
     pub fn octets<A: Allocator>(&self, alloc: A) -> Result<Octets<A>, AllocError>
         ensures { IfOk result (λ octets. octets ≡ self.now) }
     {
@@ -199,7 +200,7 @@ impl<'a> Model for NameWord<'a> {
 }
 
 impl<'a> NameWord<'a> {
-    /// The name that octets are in full, and nothing behind it.
+    /// Reads octets as a name in full, with nothing after it.
     pub fn new(octets: Hex<'a>) -> Option<NameWord<'a>>
         ensures { MatchOption result ((name : Labels) → IsNameWord octets.entry name → ⊥)
             (λ name. IsNameWord octets.entry name) }
@@ -210,7 +211,7 @@ impl<'a> NameWord<'a> {
         Some(NameWord { octets })
     }
 
-    /// The name.
+    /// The name that a word spells, in lower case.
     pub fn name<A: Allocator + Copy>(&self, alloc: A) -> Result<Name<A>, AllocError>
         ensures { IfOk result (λ name. name ≡ self.now) }
     {

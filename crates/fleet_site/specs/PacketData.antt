@@ -3,7 +3,7 @@
 use Rattle.fleet_name.specs.Types.{OctetList}
 use Rattle.fleet_pending.specs.declared.addr.Addr.{Addr}
 
--- octets, and where they go
+-- octets, and the address that they go to
 pub record PacketData : Type 0 where
   pub to : Addr
   pub octets : OctetList

@@ -12,7 +12,8 @@ use Rattle.fleet_pending.specs.declared.addr.Addr.{Addr}
 abbrev pub AskClassOne : PendingData → Type 0
 AskClassOne o = (w : WaiterData) → IsWaiting o w → w.question.class ≡ IN
 
--- open questions that go to these upstreams one after the other, each of class IN
+-- open questions that go to these upstreams one after the other, and all who wait for them asked for
+-- class IN
 pub record IsTableOf (upstreams : List Addr) (o : PendingData) : Type 0 where
   pub pending : IsPendingData o
   pub counted : o.upstreams ≡ length upstreams
@@ -20,10 +21,10 @@ pub record IsTableOf (upstreams : List Addr) (o : PendingData) : Type 0 where
 
 -- What follows, private contracts alone cite.
 
--- the same of an entry: all who wait for it did
+-- all who wait for this entry asked a question of class IN
 abbrev pub IsOfClassOne : EntryData → Type 0
 IsOfClassOne e = (i : ℕ) (w : WaiterData) → At e.waiters i w → w.question.class ≡ IN
 
--- what goes to some upstreams still goes to them
+-- where the table was one of some upstreams, it still is
 abbrev pub KeepsTable : PendingData → PendingData → Type 0
 KeepsTable old new = (upstreams : List Addr) → IsTableOf upstreams old → IsTableOf upstreams new

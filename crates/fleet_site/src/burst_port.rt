@@ -14,8 +14,19 @@ use std::alloc::{Allocator, Global};
 
 /// A port over a socket, which takes in and sends in bursts, and tells a log each of its calls.
 ///
-/// What both records say together, its ghost field says of every such port: which datagrams that the
-/// socket received were handed on, and which that the port was given went to the socket.
+/// What both records say together, its ghost field `flows` says of every such port:
+/// - A datagram that came is dropped only where others of its kind wait, frames or what is none, and
+///   each is counted. All else that came was handed on or waits: once, unchanged but for the cut to the
+///   buffer, and in order within its kind.
+/// - Each receive hands on the first message that waits, and where none does the first frame. Where
+///   nothing waits in the port, either way, it waits for one datagram, and no pause passes. Else no
+///   receive of the socket waits, and a pause passes only while nothing that came waits. Where nothing
+///   that came waits it listens, unless the system refuses a call. Each receive asks the socket for as
+///   many octets as the port was asked for.
+/// - Where something waits to be sent, a receive sends some of it, unless the burst has no room yet. It
+///   goes out in its order, at most `BURST` between two pauses.
+/// - A message is given to the socket in the call that sends it. A frame waits after those that wait,
+///   or is given to the socket in that call too and counted; which of a sweep wait, `Window` says.
 #[derive(Drop)]
 pub struct BurstPort<S: Socket + Drop, L: CallLog + Drop, A: Allocator = Global> {
     bursts: Bursts<S, A>,
@@ -25,8 +36,8 @@ pub struct BurstPort<S: Socket + Drop, L: CallLog + Drop, A: Allocator = Global>
 }
 
 impl<S: Socket + Drop, L: CallLog + Drop, A: Allocator + Copy> BurstPort<S, L, A> {
-    /// A port over a socket of which nothing was asked yet. What comes from these peers and is
-    /// longer than a message is a frame.
+    /// Makes a port over a socket of which nothing was asked yet, with a log that was told nothing; no
+    /// call has failed. What comes from these peers and is longer than a message is a frame.
     pub fn new(socket: S, log: L, alloc: A, peers: Vec<Addr, A>) -> BurstPort<S, L, A>
         requires socket { IfSome (S.state socket).noted (λ calls. calls ≡ []) }
         requires log { IfSome (L.noted log) (λ calls. calls ≡ []) }
@@ -41,36 +52,38 @@ impl<S: Socket + Drop, L: CallLog + Drop, A: Allocator + Copy> BurstPort<S, L, A
         }
     }
 
-    /// The socket.
+    /// The socket of a port.
     pub fn socket(&self) -> &S
         ensures { result.now ≡ self.now.bursts.socket }
     {
         self.bursts.socket()
     }
 
-    /// The log of its calls.
+    /// The log of a port's calls.
     pub fn log(&self) -> &L
         ensures { result.now ≡ self.now.log }
     {
         &self.log
     }
 
-    /// How many datagrams that came were dropped, since as many waited as may.
+    /// How many datagrams that came were dropped, since others of their kind waited and they found no
+    /// room.
     pub fn dropped(&self) -> u64
         ensures { result ≡ self.now.bursts.dropped }
     {
         self.bursts.dropped()
     }
 
-    /// How many frames went out at once, since they found no room or no memory, or were left out so that
-    /// others may wait.
+    /// How many frames went out at once, since they found no room or no memory, or were left out so
+    /// that others may wait.
     pub fn unpaced(&self) -> u64
         ensures { result ≡ self.now.bursts.unpaced }
     {
         self.bursts.unpaced()
     }
 
-    /// Sends all that waits to be sent; what the system refuses is lost, and counts as failed.
+    /// Sends all that waits to be sent; what the system refuses is lost, and is counted as failed. No
+    /// log is told of it.
     pub fn finish(&mut self)
         ensures sent { self.new.bursts.leaving.waiting ≡ [] }
         ensures log { self.new.log ≡ self.old.log }

@@ -16,9 +16,14 @@ use rand_core::Rng;
 use std::alloc::Allocator;
 
 /// Serves a site over a socket for a number of turns, as [`serve`](crate::serve) does, and sends all
-/// that waits then. So each datagram that the site was given was received by the socket, once each and
-/// in order, and each packet that the site's turns gave went to the socket once, or was reported lost;
-/// the socket was given nothing else.
+/// that waits then.
+///
+/// `whole`: where a new port and its log keep their records, the run is one from the datagrams that the
+/// socket received to those that it was given to send. But for what was dropped and counted, the
+/// messages that came are those that the turns were given and those that still wait, the same ones,
+/// once each and in order, and so are the frames. What the turns sent was given to the socket, once and
+/// unchanged, and the socket was given nothing else. `sent`: nothing waits to be sent afterwards. A
+/// send that fails after the last turn is in no count of the report.
 pub fn serve_socket<S: Socket + Drop, L: CallLog + Drop, C: Clock, R: Rng, A: Allocator + Copy>(
     port: &mut BurstPort<S, L, A>,
     clock: &mut C,

@@ -20,22 +20,37 @@ use fleet_wire::bounds::LONGEST_MESSAGE;
 use std::alloc::{Allocator, Global};
 use std::time::Duration;
 
-/// How many datagrams a burst has at most, so that a receiver can take them in.
+// Lets through: another number, since the clauses cite the constant by its name. The tested body
+// `frames_leave_one_at_a_time` has 1; a case of `tests/run` (`test_bursts`) sees it.
+/// How many datagrams a burst of a port has at most, so that a receiver can take them in.
 pub const BURST: usize = 2;
 
-/// How many milliseconds lie between two bursts.
+// Lets through: another number, since the clauses cite the constant by its name. The tested body
+// `pause_of_two_milliseconds` has 2; a case of `tests/run` (`test_bursts`) sees it.
+/// How many milliseconds lie between two bursts of a port. To sleep between sends would stop the site
+/// for the length of a sweep. The time-out of a receive is no pause either, since the system counts it in
+/// ticks: one of a millisecond took eight.
 pub const PAUSE: u64 = 1;
 
-/// How many times a receive looks whether something came, while frames wait to be sent.
+// Lets through: another number. A receive may look once, or without end while frames wait. The tested
+// body `port_looks_once` has 1; a case of `tests/run` (`test_bounds_of_sessions`) sees it.
+/// How many times a receive looks whether something came, while frames wait to be sent, with a pause
+/// after each. They take as long as a receive of the program's socket waits (`WAIT`), which no check
+/// says.
 const MOST_LOOKS: u64 = 200;
 
+// Lets through: another number, which shows as time and memory alone: no clause and no test has this
+// one. With none at a time (`port_takes_one_at_a_time`) a case of `tests/run` (`test_bursts`) fails.
 /// How many datagrams are taken in at a time.
 const MOST_AT_ONCE: usize = 1024;
 
-/// How many messages are dropped at a time at most.
+// Lets through: another number. The tested body `port_drops_without_end` has 5; the test
+// `what_has_no_room_is_dropped` sees it.
+/// How many messages are dropped at a time at most. With more there is less time for answers; where only
+/// what has room is taken in, the system drops frames and questions alike (bench/hostile).
 const MOST_DROPPED: u64 = 4;
 
-/// A socket, and what waits either way: what came in behind a frame, and frames that are to be sent.
+/// A socket, and what waits either way: what came in after a frame, and frames that are to be sent.
 #[derive(Drop)]
 pub struct Bursts<S: Socket + Drop, A: Allocator = Global> {
     socket: S,
@@ -50,7 +65,8 @@ pub struct Bursts<S: Socket + Drop, A: Allocator = Global> {
 }
 
 impl<S: Socket + Drop, A: Allocator + Copy> Bursts<S, A> {
-    /// Nothing waits. Frames are what comes from these peers and is longer than a message.
+    /// Makes a port over a socket in which nothing waits. Frames are what comes from these peers and is
+    /// longer than a message.
     pub fn new(socket: S, alloc: A, peers: Vec<Addr, A>) -> Bursts<S, A>
         ensures idle { IsIdle (data_of (S.state result.socket) result) }
         ensures socket { result.socket ≡ socket }
@@ -73,21 +89,21 @@ impl<S: Socket + Drop, A: Allocator + Copy> Bursts<S, A> {
         }
     }
 
-    /// The socket.
+    /// The socket of a port.
     pub fn socket(&self) -> &S
         ensures { result.now ≡ self.now.socket }
     {
         &self.socket
     }
 
-    /// Whether nothing waits.
+    /// Whether nothing waits in the port, either way.
     fn is_idle(&self) -> bool
         ensures { IsTrue result ↔ IsIdle (data_of (S.state self.now.socket) self.now) }
     {
         self.arrived.is_empty() && self.leaving.is_empty()
     }
 
-    /// Whether a datagram is a frame.
+    /// Whether a datagram waits as a frame: it is longer than a message, and comes from a peer.
     fn is_frame(&self, from: Addr, octets: &[u8]) -> bool
         ensures { result ≡ is_frame self.now.peers.items (from, octets.now) }
     {
@@ -102,6 +118,7 @@ impl<S: Socket + Drop, A: Allocator + Copy> Bursts<S, A> {
         PortFault
     }
 
+    // Lets through: a switch that is not needed, at each call, which costs a call of the system.
     /// Has receives wait for a datagram, or not; whether it could.
     fn set_waiting(&mut self, waits: bool) -> bool
         ensures { Switches waits (data_of (S.state self.old.socket) self.old) result
@@ -113,7 +130,7 @@ impl<S: Socket + Drop, A: Allocator + Copy> Bursts<S, A> {
         self.socket.set_waiting(waits).is_ok()
     }
 
-    /// One receive of the socket.
+    /// Makes one receive of the socket, and counts it where it fails.
     fn receive(&mut self, buffer: &mut [u8]) -> Result<Option<(Addr, usize)>, PortFault>
         ensures within { IfOk result (λ got. IfSome got (λ p. p.1 ≤ length buffer.old)) }
         ensures called { Called (S.state self.old.socket) (S.state self.new.socket)
@@ -129,7 +146,8 @@ impl<S: Socket + Drop, A: Allocator + Copy> Bursts<S, A> {
         }
     }
 
-    /// Sends a datagram now.
+    /// Sends a datagram now, and counts it where it fails. While frames wait the socket does not block, so
+    /// a send to it may find no room where it would have waited else.
     fn send_now(&mut self, to: Addr, bytes: &[u8]) -> Result<(), PortFault>
         ensures called { Called (S.state self.old.socket) (S.state self.new.socket)
             (departure_of result (record { to = to; octets = bytes.now }) ∷ []) }
@@ -144,7 +162,7 @@ impl<S: Socket + Drop, A: Allocator + Copy> Bursts<S, A> {
         }
     }
 
-    /// Reads the clock: a new burst begins where the pause behind the last one is over.
+    /// Reads the clock: a new burst begins where the pause after the last one is over.
     fn read_clock(&mut self)
         ensures clock { ReadsClock (data_of (S.state self.old.socket) self.old)
             (data_of (S.state self.new.socket) self.new) }
@@ -239,7 +257,7 @@ impl<S: Socket + Drop, A: Allocator + Copy> Bursts<S, A> {
         }
     }
 
-    /// Sends others behind the first one of a burst.
+    /// Sends others after the first one of a burst.
     fn send_more(&mut self) -> Result<(), PortFault>
         ensures worked { SentSome (data_of (S.state self.old.socket) self.old)
             (data_of (S.state self.new.socket) self.new) }
@@ -288,8 +306,11 @@ impl<S: Socket + Drop, A: Allocator + Copy> Bursts<S, A> {
         is_kept
     }
 
-    /// Takes in what is there, without waiting. What finds no room is dropped, of messages a few at most,
-    /// so that answers go on. `false` where there was no memory before the first receive.
+    // Lets through: one datagram at a time, and none while one waits; and dropping any where another of
+    // its kind waits, as long as it is counted. The tested bodies are those of `MOST_AT_ONCE` and
+    // `MOST_DROPPED`.
+    /// Takes in what is there, without waiting. What finds no room is dropped, of messages a few at
+    /// most, so that answers go on. `false` where there was no memory before the first receive.
     fn take_in(&mut self, buffer: &mut [u8]) -> Result<bool, PortFault>
         ensures took { TookAll (length buffer.old) (data_of (S.state self.old.socket) self.old)
             result (data_of (S.state self.new.socket) self.new) }
@@ -340,7 +361,8 @@ impl<S: Socket + Drop, A: Allocator + Copy> Bursts<S, A> {
         }
     }
 
-    /// Takes in what came behind what is longer than a message, and hands the next datagram on.
+    /// Takes in what came after a datagram that is longer than a message, and hands the next datagram
+    /// on. A question alone costs no further call of the system.
     fn receive_burst(
         &mut self,
         from: Addr,
@@ -365,7 +387,7 @@ impl<S: Socket + Drop, A: Allocator + Copy> Bursts<S, A> {
         self.take_next(buffer)
     }
 
-    /// Waits for a datagram, and takes in what came behind it where it is longer than a message.
+    /// Waits for a datagram, and takes in what came after it where it is longer than a message.
     fn wait(&mut self, buffer: &mut [u8]) -> Result<Option<(Addr, usize)>, PortFault>
         requires { IsIdle (data_of (S.state self.old.socket) self.old) }
         ensures within { IfOk result (λ got. IfSome got (λ p. p.1 ≤ length buffer.old)) }
@@ -381,8 +403,9 @@ impl<S: Socket + Drop, A: Allocator + Copy> Bursts<S, A> {
         }
     }
 
-    /// Sends and takes in what there is, until a datagram can be handed on, all is sent or the time
-    /// of a receive is over.
+    // Lets through: looking once, or without end while frames wait, as `MOST_LOOKS` has it.
+    /// Sends and takes in what there is, until a datagram can be handed on, all is sent or the time of
+    /// a receive is over.
     fn work(&mut self, buffer: &mut [u8]) -> Result<Option<(Addr, usize)>, PortFault>
         ensures within { IfOk result (λ got. IfSome got (λ p. p.1 ≤ length buffer.old)) }
         ensures failed { self.new.failed ≡ failures_after result self.old.failed }
@@ -414,8 +437,10 @@ impl<S: Socket + Drop, A: Allocator + Copy> Bursts<S, A> {
         Ok(self.arrived.hand_on(buffer))
     }
 
-    /// A turn begins. Hands the next datagram on, messages first. Where nothing waits it waits for a
-    /// datagram; while frames wait to be sent it sends of them too, and fails where the system refuses one.
+    /// Begins a turn, and hands the next datagram on, messages first. Where nothing waits it waits for
+    /// a datagram; while frames wait to be sent it sends of them too, and fails where the system
+    /// refuses one: a frame is counted as sent when it begins to wait, and a port reports a failure only by
+    /// a call of its own.
     pub fn recv(&mut self, buffer: &mut [u8]) -> Result<Option<(Addr, usize)>, PortFault>
         ensures within { IfOk result (λ got. IfSome got (λ p. p.1 ≤ length buffer.old)) }
         ensures failed { self.new.failed ≡ failures_after result self.old.failed }
@@ -433,8 +458,9 @@ impl<S: Socket + Drop, A: Allocator + Copy> Bursts<S, A> {
         }
     }
 
-    /// Sends a message. What is longer waits until the port receives, if it is due and finds room and memory;
-    /// else it is sent too, and counted. `Err` where the system refuses it.
+    /// Sends a message at once. What is longer waits until the port receives, if it is due and finds
+    /// room and memory; else it is sent at once too, and counted. `Err` where the system refuses what
+    /// is sent at once.
     pub fn send(&mut self, to: Addr, bytes: &[u8]) -> Result<(), PortFault>
         ensures failed { self.new.failed ≡ failures_after result self.old.failed }
         ensures sends { SendsOrKeeps (record { to = to; octets = bytes.now })
@@ -451,7 +477,7 @@ impl<S: Socket + Drop, A: Allocator + Copy> Bursts<S, A> {
         self.send_now(to, bytes)
     }
 
-    /// How many datagrams were dropped.
+    /// How many datagrams were dropped that came.
     pub fn dropped(&self) -> u64
         ensures { result ≡ self.now.dropped }
     {
@@ -465,7 +491,7 @@ impl<S: Socket + Drop, A: Allocator + Copy> Bursts<S, A> {
         self.unpaced
     }
 
-    /// How many calls failed.
+    /// How many calls of a port failed, receives and sends.
     pub fn failures(&self) -> u64
         ensures { result ≡ self.now.failed }
     {
@@ -473,7 +499,7 @@ impl<S: Socket + Drop, A: Allocator + Copy> Bursts<S, A> {
     }
 
     /// Sends all that waits to be sent, with pauses between the bursts; what the system refuses is
-    /// lost, and counts as failed.
+    /// lost, and is counted as failed.
     pub fn finish(&mut self)
         ensures worked { HasWorked (data_of (S.state self.old.socket) self.old)
             (data_of (S.state self.new.socket) self.new) }

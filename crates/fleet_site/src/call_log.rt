@@ -15,19 +15,19 @@ pub trait CallLog {
     /// The calls that it was told, while it keeps them all.
     ghost noted: { Self → Option (List PortCall) };
 
-    /// A receive ended, into a buffer that now holds these octets.
+    /// Notes that a receive ended, into a buffer that now holds these octets.
     fn note_receive(&mut self, got: Result<Option<(Addr, usize)>, PortFault>, buffer: &[u8])
         requires { IfOk got (λ got. IfSome got (λ p. p.1 ≤ length buffer.now)) }
         ensures { NotesAll (noted self.old) (receive_of (length buffer.now) got buffer.now ∷ [])
             (noted self.new) };
 
-    /// A send ended.
+    /// Notes that a send ended.
     fn note_send(&mut self, sent: Result<(), PortFault>, to: Addr, bytes: &[u8])
         ensures { NotesAll (noted self.old)
             (send_of sent (record { to = to; octets = bytes.now }) ∷ []) (noted self.new) };
 }
 
-/// No record.
+/// A log that keeps no record.
 #[derive(Drop)]
 pub struct Unnoted;
 
@@ -48,7 +48,7 @@ pub struct MemoryLog<A: Allocator = Global> {
 }
 
 impl<A: Allocator + Copy> MemoryLog<A> {
-    /// Nothing is noted.
+    /// Makes a log in which nothing is noted.
     pub fn new(alloc: A) -> MemoryLog<A>
         ensures { record_of_notes result.is_noting result.notes.items ≡ Some [] }
     {
@@ -59,7 +59,7 @@ impl<A: Allocator + Copy> MemoryLog<A> {
         }
     }
 
-    /// The record, while there is one.
+    /// The record of a log, while it keeps one.
     pub fn notes(&self) -> Option<&[Note<A>]>
         ensures { MatchOption result (record_of_notes self.now.is_noting self.now.notes.items ≡ None)
             (λ notes. record_of_notes self.now.is_noting self.now.notes.items
@@ -72,6 +72,8 @@ impl<A: Allocator + Copy> MemoryLog<A> {
         }
     }
 
+    // Lets through: a log that stops noting. Its port then keeps no record from there on, and the test
+    // `a_port_over_a_socket_notes_its_calls`, which compares logs, fails.
     /// Keeps a note, or keeps no record from now on.
     fn note(&mut self, note: Note<A>)
         ensures { NotesAll (record_of_notes self.old.is_noting self.old.notes.items) (call_of note ∷ [])

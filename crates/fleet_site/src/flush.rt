@@ -14,7 +14,7 @@ use fleet_name::Name;
 use fleet_observe::{Moment, Observation};
 use std::alloc::Allocator;
 
-/// The flush of a name at the clock is taken, and goes out as its frame, which is made first.
+/// Takes the flush of a name at the clock, and sends it as its frame, which is made first.
 pub(crate) fn flush_name<A: Allocator + Copy>(
     alloc: A,
     cache: &mut Cache<A>,

@@ -14,8 +14,7 @@ use fleet_gossip::TakeFault;
 use fleet_observe::Observation;
 use std::alloc::Allocator;
 
-/// A frame's observations are taken. For a frame of nothing but what is past or held nothing is
-/// allocated.
+/// Takes a frame's observations. For a frame of nothing but what is past or held nothing is allocated.
 pub(crate) fn take_frame<A: Allocator + Copy>(
     alloc: A,
     cache: &mut Cache<A>,
@@ -39,7 +38,7 @@ pub(crate) fn take_frame<A: Allocator + Copy>(
     }
 }
 
-/// Observations are taken, and nothing is sent.
+/// Takes observations, and sends nothing.
 pub(crate) fn take_all<A: Allocator + Copy>(
     alloc: A,
     cache: &mut Cache<A>,

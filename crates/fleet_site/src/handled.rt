@@ -6,8 +6,8 @@ use std::alloc::{Allocator, Global};
 /// What a site gives for a datagram.
 #[derive(Drop)]
 pub enum Handled<A: Allocator = Global> {
-    /// The buffer holds the octets of one packet, which goes to who asked. That is all.
+    /// The buffer holds the octets of one packet, which goes to who asked; nothing else is given.
     Reply,
-    /// This, whatever the buffer holds.
+    /// This outcome, whatever the buffer holds.
     Outcome(Outcome<A>),
 }

@@ -31,10 +31,10 @@ fn is_standard_query(header: Header) -> bool
     !header.response && header.opcode == 0
 }
 
-/// What is made of octets at a moment that is not before the cache's floor, if they are a question
-/// that is spelled in full and in lower case. The reply of a hit is written in place of what `out`
-/// holds. Where `out` has room for 512 octets and no section of the reply has more than four
-/// records, this takes no memory; a miss takes a copy of the question.
+/// What is made of octets at a moment that is not before the cache's floor, if they are a question that
+/// is spelled in full and in lower case. The reply of a hit is written in place of what `out` holds.
+/// Where `out` has room for 512 octets and no section of the reply has more than four records, this
+/// takes no memory; a miss takes a copy of the question.
 pub(crate) fn decide_plain<A: Allocator + Copy>(
     alloc: A,
     cache: &Cache<A>,

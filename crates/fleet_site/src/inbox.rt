@@ -9,9 +9,9 @@ use fleet_pending::Addr;
 use fleet_wire::bounds::LONGEST_MESSAGE;
 use std::alloc::{Allocator, Global};
 
-/// Datagrams that came in and were not handed on yet: messages, and frames. The last one of each kind
-/// may lie beside its queue, where an allocation failed: then no other of its kind is kept before there
-/// is memory for it.
+/// Datagrams that came in and were not handed on yet: messages, and frames. Where an allocation fails,
+/// one of each kind may lie beside its queue, and so is not lost: then no other of its kind is kept
+/// before there is memory for it.
 #[derive(Drop)]
 pub struct Inbox<A: Allocator = Global> {
     alloc: A,
@@ -23,7 +23,7 @@ pub struct Inbox<A: Allocator = Global> {
 }
 
 impl<A: Allocator + Copy> Inbox<A> {
-    /// Nothing came.
+    /// Makes an inbox to which nothing came.
     pub fn new(alloc: A) -> Inbox<A>
         ensures messages { waiting_messages result ≡ [] }
         ensures frames { waiting_frames result ≡ [] }
@@ -38,7 +38,7 @@ impl<A: Allocator + Copy> Inbox<A> {
         }
     }
 
-    /// Whether all was handed on.
+    /// Whether all that came was handed on.
     pub fn is_empty(&self) -> bool
         ensures { IsTrue result ↔ ((waiting_messages self.now ≡ []) × (waiting_frames self.now ≡ [])) }
     {
@@ -48,6 +48,9 @@ impl<A: Allocator + Copy> Inbox<A> {
             && self.late_frame.is_none()
     }
 
+    // Lets through: leaving what lies beside its queue there, so that others of its kind are dropped
+    // meanwhile. The tested bodies `late_message_stays_late` and `late_frame_stays_late` do so; the
+    // test `drops_nothing_where_memory_fails` sees them.
     /// Has what lies beside the queues wait in its queue, if there is memory by now.
     fn settle(&mut self)
         ensures messages { waiting_messages self.new ≡ waiting_messages self.old }
@@ -57,7 +60,7 @@ impl<A: Allocator + Copy> Inbox<A> {
         self.settle_frame();
     }
 
-    /// The same, of a message.
+    /// Has a message that lies beside its queue wait in it, if there is memory by now.
     fn settle_message(&mut self)
         ensures messages { waiting_messages self.new ≡ waiting_messages self.old }
         ensures frames { waiting_frames self.new ≡ waiting_frames self.old }
@@ -72,7 +75,7 @@ impl<A: Allocator + Copy> Inbox<A> {
         }
     }
 
-    /// The same, of a frame.
+    /// Has a frame that lies beside its queue wait in it, if there is memory by now.
     fn settle_frame(&mut self)
         ensures messages { waiting_messages self.new ≡ waiting_messages self.old }
         ensures frames { waiting_frames self.new ≡ waiting_frames self.old }
@@ -87,7 +90,10 @@ impl<A: Allocator + Copy> Inbox<A> {
         }
     }
 
-    /// Whether there is room for a datagram of that many octets though its allocation fails.
+    // Lets through: finding no memory, whatever there is. The port then keeps nothing: it hands on one
+    // datagram a receive, and a frame before the messages that came after it.
+    /// Whether there is room for a datagram of that many octets though its allocation fails: makes it
+    /// where there is memory.
     pub fn make_room(&mut self, octets: usize) -> bool
         ensures room { result ≡ true → HasRoom self.new octets }
         ensures messages { waiting_messages self.new ≡ waiting_messages self.old }
@@ -106,7 +112,7 @@ impl<A: Allocator + Copy> Inbox<A> {
         }
     }
 
-    /// A copy in the spare room, which is used up.
+    /// A copy of octets in the spare room, which is used up.
     fn copy_to_spare(&mut self, octets: &[u8]) -> Octets<A>
         requires { length octets.now ≤ length self.old.spare.items }
         ensures copied { result ≡ octets.now }
@@ -118,8 +124,12 @@ impl<A: Allocator + Copy> Inbox<A> {
         Octets::new(spare)
     }
 
-    /// Keeps a copy of a datagram, behind those of its kind. `false` where as many wait as may; nothing
-    /// changes then. What is longer than a message, and no frame, is kept only where no message waits.
+    // Lets through: keeping a stranger's long datagram though messages wait, so that it takes a
+    // message's place. The tested body `strangers_long_datagrams_wait_as_messages` does so; the test
+    // `a_port_over_a_socket_works_in_bursts` sees it.
+    /// Keeps a copy of a datagram, after those of its kind. `false` where others of its kind wait and
+    /// it finds no room; nothing changes then. What is longer than a message, and no frame, is kept
+    /// only where no message waits: a stranger's long datagrams take no place of what a site reads.
     pub fn keep(&mut self, is_frame: bool, from: Addr, octets: &[u8]) -> bool
         requires { HasRoom self.old (length octets.now) }
         ensures { Keeps self.old (from, octets.now) is_frame result self.new }
@@ -157,7 +167,7 @@ impl<A: Allocator + Copy> Inbox<A> {
         }
     }
 
-    /// The same, of a frame.
+    /// Keeps a frame, in its queue or where an allocation fails beside it.
     fn keep_frame(&mut self, from: Addr, octets: &[u8]) -> bool
         requires { HasRoom self.old (length octets.now) }
         ensures { Keeps self.old (from, octets.now) true result self.new }
@@ -174,7 +184,7 @@ impl<A: Allocator + Copy> Inbox<A> {
         }
     }
 
-    /// The next datagram: the first of the messages, and where there is none the first frame.
+    /// Takes out the next datagram: the first of the messages, and where there is none the first frame.
     fn pop(&mut self) -> Option<(Addr, Octets<A>)>
         ensures { TakesNext self.old result self.new }
     {
@@ -190,7 +200,8 @@ impl<A: Allocator + Copy> Inbox<A> {
         self.late_frame.take()
     }
 
-    /// Hands the next datagram on, cut to the buffer.
+    /// Hands the next datagram on, cut to the buffer: the first of the messages, and where there is
+    /// none the first frame.
     pub fn hand_on(&mut self, buffer: &mut [u8]) -> Option<(Addr, usize)>
         ensures within { IfSome result (λ p. p.1 ≤ length buffer.old) }
         ensures handed { HandsOnNext (length buffer.old) self.old result buffer.new self.new }

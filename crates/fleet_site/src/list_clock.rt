@@ -7,8 +7,8 @@ use crate::port::Clock;
 use fleet_observe::Moment;
 use std::alloc::{Allocator, Global};
 
-/// Gives the moments of a list in order, then the last one again, or 0 where the list is empty. For
-/// tests.
+/// A clock over a list, for tests: it gives the moments of the list in order, then the last one again,
+/// or 0 where the list is empty.
 #[derive(Drop)]
 pub struct ListClock<A: Allocator = Global> {
     moments: Vec<Moment, A>,
@@ -16,7 +16,8 @@ pub struct ListClock<A: Allocator = Global> {
 }
 
 impl<A: Allocator> ListClock<A> {
-    /// A clock that gives these moments.
+    /// Makes a clock that gives these moments in order, then the last one again, and 0 where there is
+    /// none.
     pub fn new(moments: Vec<Moment, A>) -> ListClock<A>
         ensures moments { result.moments ≡ moments }
         ensures next { result.next ≡ 0 }

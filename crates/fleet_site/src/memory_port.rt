@@ -26,7 +26,8 @@ pub enum Note<A: Allocator = Global> {
 }
 
 /// A port over memory, for tests: it gives one arrival for each receive, and keeps a record of its
-/// calls. A call whose note runs out of memory fails, and from then on there is no record.
+/// calls. A call whose note finds no memory fails, and uses up no arrival; from then on there is no
+/// record, and later calls need no memory.
 #[derive(Drop)]
 pub struct MemoryPort<A: Allocator = Global> {
     alloc: A,
@@ -38,8 +39,9 @@ pub struct MemoryPort<A: Allocator = Global> {
 }
 
 impl<A: Allocator + Copy> MemoryPort<A> {
-    /// A port that gives these arrivals in order, `None` for no datagram, and then none. It fails
-    /// at its call with the number `fail_at`, counted from 1, without using up an arrival.
+    /// Makes a port that gives these arrivals in order, `None` for no datagram, and then none. It fails
+    /// at its call with the number `fail_at`, counted from 1, without using up an arrival, and at no
+    /// other but where one can't be noted; 0 is none.
     pub fn new(
         alloc: A,
         arrivals: Vec<Option<(Addr, Octets<A>)>, A>,
@@ -60,7 +62,7 @@ impl<A: Allocator + Copy> MemoryPort<A> {
         }
     }
 
-    /// Its record, while it keeps one.
+    /// The record of a port, while it keeps one.
     pub fn notes(&self) -> Option<&[Note<A>]>
         ensures { MatchOption result (record_of self.now ≡ None)
             (λ notes. record_of self.now ≡ Some (map call_of notes.now)) }
@@ -72,7 +74,7 @@ impl<A: Allocator + Copy> MemoryPort<A> {
         }
     }
 
-    /// Whether this call is the one that is to fail.
+    /// Counts down to the call that is to fail; whether this one is it.
     fn begin(&mut self) -> bool
         ensures fails { IsTrue result ↔ (self.old.fails_in ≡ Some 1) }
         ensures begun { self.new ≡ record self.old {
@@ -170,6 +172,9 @@ impl<A: Allocator + Copy> MemoryPort<A> {
 impl<A: Allocator + Copy> Port for MemoryPort<A> {
     ghost state = { λ p. record { noted = record_of p; failed = p.failed } };
 
+    // Lets through: not noting a call that was to fail, so that there is no record any more; so may
+    // `send`. The tested body `port_falls_silent_after_a_failure` does so; the test
+    // `a_call_that_fails_is_lost_or_a_fault` sees it.
     fn recv(&mut self, buffer: &mut [u8]) -> Result<Option<(Addr, usize)>, PortFault>
         ensures within { IfOk result (λ got. IfSome got (λ p. p.1 ≤ length buffer.old)) }
         ensures noted { NotesAll (record_of self.old)

@@ -49,8 +49,8 @@ pub struct MemorySocket<A: Allocator = Global> {
 }
 
 impl<A: Allocator + Copy> MemorySocket<A> {
-    /// A socket that gives these arrivals in order, `None` for no datagram, and then none. It refuses
-    /// what is sent to one address.
+    /// Makes a socket that gives these arrivals in order, `None` for no datagram, and then none. It
+    /// refuses what is sent to one address.
     pub fn new(
         alloc: A,
         arrivals: Vec<Option<(Addr, Octets<A>)>, A>,
@@ -70,7 +70,7 @@ impl<A: Allocator + Copy> MemorySocket<A> {
         }
     }
 
-    /// Its record, while it keeps one.
+    /// The record of a socket, while it keeps one.
     pub fn notes(&self) -> Option<&[SocketNote<A>]>
         ensures { MatchOption result (record_of self.now ≡ None)
             (λ notes. record_of self.now ≡ Some (map entry_of notes.now)) }
@@ -82,6 +82,8 @@ impl<A: Allocator + Copy> MemorySocket<A> {
         }
     }
 
+    // Lets through: a socket that stops noting. The test `a_port_over_a_socket_works_in_bursts`, which
+    // compares what a socket was asked, fails then.
     /// Keeps a note, or keeps no record from now on.
     fn note(&mut self, note: SocketNote<A>)
         ensures noted { HasNoted (record_of self.old) (entry_of note ∷ []) (record_of self.new) }

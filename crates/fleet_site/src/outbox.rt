@@ -12,12 +12,12 @@ use std::alloc::{AllocError, Allocator, Global};
 use std::collections::VecDeque;
 use std::marker::Model;
 
-/// How many frames wait at most, each once for all that it goes to. Their octets are less than 64 MiB
-/// where each has as many as the longest frame.
+/// How many frames wait to be sent at most, each once for all that it goes to. Their octets are less
+/// than 64 MiB where each has as many as the longest frame.
 pub const MOST_PLACES: usize = 4095;
 
 /// To how many addresses a frame in one place goes at most besides the next: with that, to as many as a
-/// site has peers.
+/// site has peers (`MOST_PEERS`, 16). No definition and no check says so.
 const MOST_OTHERS: usize = 15;
 
 /// A frame that waits, and the addresses that it still goes to.
@@ -29,14 +29,17 @@ struct Outgoing<A: Allocator = Global> {
 }
 
 impl<A: Allocator> Outgoing<A> {
-    /// Whether it has these octets.
+    // Lets through: answering false, and so may `join` and `join_last`: a frame then waits in a place
+    // for each peer. The tested body `frame_waits_for_each_peer` does so; the test
+    // `a_frame_to_many_peers_waits_once` sees it.
+    /// Whether a frame that waits has these octets.
     fn has(&self, octets: &[u8]) -> bool
         ensures { result ≡ true → self.now.octets ≡ octets.now }
     {
         self.octets.as_slice() == octets
     }
 
-    /// Has it go to one address more, where it has these octets and room for it; whether it does.
+    /// Has a frame go to one address more, where it has these octets and room for it; whether it does.
     #[tactic(auto, using(crate::proofs::Outboxes::one_more_address))]
     fn join(&mut self, to: Addr, octets: &[u8]) -> bool
         ensures joined { result ≡ true
@@ -46,7 +49,7 @@ impl<A: Allocator> Outgoing<A> {
         self.has(octets) && self.others.try_push(to).is_ok()
     }
 
-    /// Goes on to the next address; whether there is one.
+    /// Goes on to the next address of a frame; whether there is one.
     fn advance(&mut self) -> bool
         ensures more { result ≡ true
             → datagrams_of self.old ≡ (self.old.next, self.old.octets) ∷ datagrams_of self.new }
@@ -87,7 +90,7 @@ impl<A: Allocator> Model for Outbox<A> {
 }
 
 impl<A: Allocator + Copy> Outbox<A> {
-    /// Nothing waits.
+    /// Makes an outbox in which nothing waits.
     pub fn new(alloc: A) -> Outbox<A>
         ensures { result ≡ record { waiting = []; places = 0; window = whole_window } }
     {
@@ -98,23 +101,23 @@ impl<A: Allocator + Copy> Outbox<A> {
         }
     }
 
-    /// Whether nothing waits.
+    /// Whether nothing waits to be sent.
     pub fn is_empty(&self) -> bool
         ensures { IsTrue result ↔ (self.now.waiting ≡ []) }
     {
         self.first().is_none()
     }
 
-    /// A turn begins.
+    /// Begins a turn, with the window of the next sweep where the last turn was one.
     pub fn begin_turn(&mut self)
         ensures { self.new ≡ record self.old { window = next_turn self.old.window } }
     {
         self.window = self.window.next_turn();
     }
 
-    /// Has a frame wait behind the others: in the last place, where that has these octets, or in one of
-    /// its own, where it is due and there is room. Whether it waits. An allocation that fails changes
-    /// nothing that waits.
+    /// Has a frame wait after those that wait: in the last place, where that has these octets, or in
+    /// one of its own, where it is due and there is room. Whether it waits. An allocation that fails
+    /// changes nothing that waits.
     pub fn keep(&mut self, to: Addr, octets: &[u8]) -> Result<bool, AllocError>
         ensures { KeepsOrPasses self.old (to, octets.now) result self.new }
     {
@@ -127,7 +130,7 @@ impl<A: Allocator + Copy> Outbox<A> {
         kept
     }
 
-    /// The same, but for the window.
+    /// Has a frame wait where it may, as `keep` does, and leaves the window as it is.
     fn put(&mut self, to: Addr, octets: &[u8]) -> Result<bool, AllocError>
         ensures { Puts self.old (to, octets.now) result self.new }
     {
@@ -137,8 +140,11 @@ impl<A: Allocator + Copy> Outbox<A> {
         self.push(to, octets)
     }
 
-    /// Puts a frame behind the others, if it is due and there is room. Nothing changes where it is not
-    /// put there, nor where an allocation fails.
+    // Lets through: finding no memory, whatever there is: no frame waits then, and each goes out at
+    // once. The tested body `port_keeps_no_frame` does so; the test
+    // `a_port_over_a_socket_works_in_bursts` sees it.
+    /// Puts a frame after those that wait, if it is due and there is room. Nothing changes where it is
+    /// not put there, nor where an allocation fails.
     fn push(&mut self, to: Addr, octets: &[u8]) -> Result<bool, AllocError>
         ensures pushed { result ≡ Ok true → self.new ≡ record {
           waiting = self.old.waiting ++ (to, octets.now) ∷ [];
@@ -179,7 +185,7 @@ impl<A: Allocator + Copy> Outbox<A> {
         }
     }
 
-    /// The first one that waits.
+    /// The first datagram that waits to be sent: its address, and its octets.
     pub fn first(&self) -> Option<(Addr, &[u8])>
         ensures { MatchOption result (self.now.waiting ≡ [])
             (λ d. self.now.waiting ≡ (d.0, d.1.now) ∷ drop 1 self.now.waiting) }
@@ -188,7 +194,7 @@ impl<A: Allocator + Copy> Outbox<A> {
         Some((frame.next, frame.octets.as_slice()))
     }
 
-    /// Takes the first one out, if there is one.
+    /// Takes out the first datagram that waits to be sent, if there is one.
     #[tactic(auto, using(crate::proofs::Outboxes::first_advanced, crate::proofs::Outboxes::first_out))]
     pub fn remove_first(&mut self)
         ensures waiting { self.new.waiting ≡ drop 1 self.old.waiting }

@@ -30,7 +30,8 @@ impl<A: Allocator> Model for Packet<A> {
     ghost view = { λ p. record { to = p.to; octets = p.bytes } };
 }
 
-/// Packets in order.
+/// Packets in order. One packet takes an allocation too: they are lent as a slice, and that a packet in
+/// place has a size that fits in memory is not known of a type over any allocator.
 pub type Packets<A = Global> = Items<Packet<A>, A>;
 
 /// Frames in order, each by its octets.
@@ -69,7 +70,8 @@ pub struct Outcome<A: Allocator = Global> {
     pub frames: Frames<A>,
     /// How many observations were given to the cache, whether it kept them or not.
     pub taken: usize,
-    /// Why nothing more was done.
+    /// Why nothing more was done. A question that can't be read, or is turned away, has its reply among
+    /// the packets all the same.
     pub refused: Option<Refusal>,
     /// Whether another open question is due; false but for a tick.
     pub more: bool,
@@ -110,7 +112,7 @@ impl From<AllocError> for SiteFault {
 }
 
 impl<A: Allocator + Copy> Outcome<A> {
-    /// Nothing is sent.
+    /// An outcome in which nothing is sent.
     pub(crate) fn without_packets(alloc: A, taken: usize, refused: Option<Refusal>) -> Outcome<A>
         ensures { result ≡ record nothing { taken = taken; refused = refused } }
     {
@@ -118,7 +120,7 @@ impl<A: Allocator + Copy> Outcome<A> {
         Outcome::with_packets(alloc, packets, taken, refused)
     }
 
-    /// One packet is sent.
+    /// An outcome in which one packet is sent.
     pub(crate) fn with_packet(
         alloc: A,
         to: Addr,
@@ -132,7 +134,7 @@ impl<A: Allocator + Copy> Outcome<A> {
         Ok(Outcome::with_packets(alloc, packets, 0, refused))
     }
 
-    /// Packets are sent, and no frames.
+    /// An outcome in which packets are sent, and no frames.
     pub(crate) fn with_packets(
         alloc: A,
         packets: Packets<A>,

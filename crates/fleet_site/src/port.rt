@@ -12,14 +12,15 @@ use thiserror::Error;
 #[error("the port failed")]
 pub struct PortFault;
 
-/// What sends and receives datagrams.
+/// What sends and receives datagrams for a server.
 pub trait Port {
     /// What may be known of it: the list of its calls with how each ended, while it keeps one, and
     /// how many failed.
     ghost state: { Self → PortState };
 
     /// Receives at most one datagram, cut to the buffer: its source and its length in octets. `None`
-    /// where none came, `Err` where the call failed. The record has the length of the buffer.
+    /// where none came, `Err` where the call failed. The record has the length of the buffer, so that
+    /// clauses can say how many octets were asked for.
     fn recv(&mut self, buffer: &mut [u8]) -> Result<Option<(Addr, usize)>, PortFault>
         ensures within { IfOk result (λ got. IfSome got (λ p. p.1 ≤ length buffer.old)) }
         ensures noted { NotesAll (state self.old).noted
@@ -32,17 +33,17 @@ pub trait Port {
             (send_of result (record { to = to; octets = bytes.now }) ∷ []) (state self.new).noted }
         ensures failed { (state self.new).failed ≡ failures_after result (state self.old).failed };
 
-    /// How many calls failed, receives and sends. It stays at the greatest number.
+    /// How many calls of a port failed, receives and sends. It stays at the greatest number.
     fn failures(&self) -> u64
         ensures { result ≡ (state self.now).failed };
 }
 
-/// What gives the moment.
+/// What gives a server the moment.
 pub trait Clock {
     /// The moments that it is going to give, where they are known before.
     ghost moments: { Self → Option (ℕ → ℕ) };
 
-    /// The moment.
+    /// Gives the moment that it is.
     fn now(&mut self) -> Moment
         ensures { IfSome (moments self.old)
             (λ f. (result ≡ f 0) × (moments self.new ≡ Some (λ k. f (k + 1)))) };

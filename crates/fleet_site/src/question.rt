@@ -1,4 +1,5 @@
-//! What a miss makes of the table of open questions.
+//! What a site does with octets that are asked of it: a reply at once, or a place in the table of open
+//! questions.
 
 ghost use Rattle.std.specs.Prelude.{◌≡◌, ◌<◌, ◌≤◌, ⊤, IfOk, IfErr, OnErr};
 ghost use Rattle.fleet_name.specs.Types.{OctetList};
@@ -42,7 +43,7 @@ pub(crate) struct Arrival {
     pub word: u16,
 }
 
-/// Octets from an address that is no upstream's and no peer's.
+/// Does what a question calls for: octets from an address that is no upstream's and no peer's.
 pub(crate) fn take_question<A: Allocator + Copy>(
     alloc: A,
     cache: &Cache<A>,
@@ -65,8 +66,8 @@ pub(crate) fn take_question<A: Allocator + Copy>(
     }
 }
 
-/// The same, with the reply of a hit written in place of what `out` holds, where the octets are a
-/// plain question (`IsPlainQuestion`). Such a question is read and looked up once.
+/// Does what `take_question` does, with the reply of a hit written in place of what `out` holds, where
+/// the octets are a plain question (`IsPlainQuestion`). Such a question is read and looked up once.
 pub(crate) fn take_question_into<A: Allocator + Copy>(
     alloc: A,
     cache: &Cache<A>,
@@ -113,7 +114,7 @@ pub(crate) fn whole<A: Allocator>(
     }
 }
 
-/// What is done where this was decided.
+/// Does what was decided of octets.
 fn respond<A: Allocator + Copy>(
     alloc: A,
     pending: &mut Pending<A>,
@@ -145,7 +146,8 @@ fn respond<A: Allocator + Copy>(
     }
 }
 
-/// A miss goes to the table, and a new entry's query, which is written before, to its upstream.
+/// Brings a miss to the table, and sends a new entry's query, which is written before, to its upstream.
+/// So nothing is taken back where memory runs out.
 fn forward<A: Allocator + Copy>(
     alloc: A,
     pending: &mut Pending<A>,
@@ -173,8 +175,8 @@ fn forward<A: Allocator + Copy>(
     }
 }
 
-/// What is sent where a waiter for the question is taken: where it opens an entry, with a fresh id,
-/// the query.
+/// What is sent where a waiter for the question is taken: where it opens an entry, with a fresh
+/// identifier, the query to the first upstream.
 fn first_outcome<A: Allocator + Copy>(
     alloc: A,
     pending: &Pending<A>,
@@ -196,7 +198,7 @@ fn first_outcome<A: Allocator + Copy>(
     }
 }
 
-/// The query with an id for a question.
+/// The query with an identifier for a question, as a packet.
 fn query_for<A: Allocator + Copy>(
     alloc: A,
     to: Addr,
@@ -209,8 +211,8 @@ fn query_for<A: Allocator + Copy>(
     Outcome::with_packet(alloc, to, octets, None)
 }
 
-/// A waiter asks, and as its question is of class 1 (IN), all that wait still asked for class 1. One
-/// with a fresh id opens an entry.
+/// Enters a waiter into the table: one with a fresh identifier opens an entry. Its question is of class
+/// 1 (IN), so all who wait still asked for class 1.
 fn join_or_open<A: Allocator + Copy>(
     pending: &mut Pending<A>,
     waiter: Waiter<A>,
@@ -250,7 +252,7 @@ fn turn_away<A: Allocator + Copy>(
     }
 }
 
-/// A server failure, with the question.
+/// A server failure with the question, and the refusal `Full`.
 fn server_failure<A: Allocator + Copy>(
     alloc: A,
     from: Addr,

@@ -9,8 +9,8 @@ use std::alloc::{AllocError, Allocator, Global};
 use std::collections::VecDeque;
 use std::marker::Model;
 
-/// How many datagrams wait at most. They have less than 64 MiB where each has one octet more than
-/// the longest frame.
+/// How many datagrams wait in a queue at most. They have less than 64 MiB where each has one octet more
+/// than the longest frame.
 pub const MOST_WAITING: usize = 4095;
 
 /// Datagrams that wait in their order, each with the address that it came from or goes to.
@@ -33,7 +33,7 @@ impl<A: Allocator> Model for Queue<A> {
 }
 
 impl<A: Allocator + Copy> Queue<A> {
-    /// Nothing waits.
+    /// Makes a queue in which nothing waits.
     pub fn new(alloc: A) -> Queue<A>
         ensures { result ≡ [] }
     {
@@ -43,22 +43,22 @@ impl<A: Allocator + Copy> Queue<A> {
         }
     }
 
-    /// Whether nothing waits.
+    /// Whether nothing waits in a queue.
     pub fn is_empty(&self) -> bool
         ensures { IsTrue result ↔ (self.now ≡ []) }
     {
         self.waiting.is_empty()
     }
 
-    /// Whether as many wait as may.
+    /// Whether as many datagrams wait as may.
     fn is_full(&self) -> bool
         ensures { result ≡ nat_le MOST_WAITING (length self.now) }
     {
         self.waiting.len() >= MOST_WAITING
     }
 
-    /// Puts a copy of a datagram behind the others. `false` where the queue is full; nothing changes
-    /// then, nor where an allocation fails.
+    /// Puts a copy of a datagram after those that wait. `false` where the queue is full; nothing
+    /// changes then, nor where an allocation fails.
     pub fn push(&mut self, addr: Addr, octets: &[u8]) -> Result<bool, AllocError>
         ensures pushed { IfOk result (λ fits. Pushes self.old (addr, octets.now) fits self.new) }
         ensures memory { OnErr result (self.new ≡ self.old) }
@@ -71,8 +71,8 @@ impl<A: Allocator + Copy> Queue<A> {
         Ok(true)
     }
 
-    /// Puts a datagram behind the others. It comes back where the queue is full or an allocation fails;
-    /// nothing changes then.
+    /// Puts a datagram after those that wait. It comes back where the queue is full or an allocation
+    /// fails; nothing changes then.
     pub fn put(&mut self, datagram: (Addr, Octets<A>)) -> Result<(), (Addr, Octets<A>)>
         ensures put { IfOk result (λ _. self.new ≡ self.old ++ datagram ∷ []) }
         ensures back { IfErr result (λ d. (d ≡ datagram) × (self.new ≡ self.old)) }
@@ -86,7 +86,7 @@ impl<A: Allocator + Copy> Queue<A> {
         }
     }
 
-    /// Takes the first one out.
+    /// Takes the first datagram out, if there is one.
     pub fn pop(&mut self) -> Option<(Addr, Octets<A>)>
         ensures { MatchOption result ((self.old ≡ []) × (self.new ≡ []))
             (λ d. self.old ≡ d ∷ self.new) }

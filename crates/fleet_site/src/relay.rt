@@ -163,8 +163,8 @@ fn relay_of_message<A: Allocator + Copy>(
     }
 }
 
-/// A reply from an upstream: it is relayed to every waiter of its entry in order of joining, its
-/// observations go out and are taken, and the entry is settled.
+/// Does what a reply from an upstream calls for: it is relayed to every waiter of its entry in order of
+/// joining, its observations go out and are taken, and the entry is settled.
 pub(crate) fn take_reply<A: Allocator + Copy>(
     alloc: A,
     cache: &mut Cache<A>,
@@ -258,7 +258,7 @@ fn observe<A: Allocator + Copy>(
     observations(alloc, digest, clock)
 }
 
-/// A reply that is handed in: its observations are taken.
+/// Takes the observations of a reply that is handed in.
 pub(crate) fn learn_reply<A: Allocator + Copy>(
     alloc: A,
     cache: &mut Cache<A>,

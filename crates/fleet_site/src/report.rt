@@ -10,11 +10,11 @@ pub struct Report {
     pub turns: u64,
     /// Datagrams that were received.
     pub received: u64,
-    /// Packets whose send succeeded; a port may have put a long one in a queue of its own.
+    /// Packets whose send succeeded; a port may have put a long one where it waits to be sent.
     pub sent: u64,
     /// Packets whose send failed.
     pub lost: u64,
-    /// Receives that failed, also where a packet of that queue could not be sent.
+    /// Receives that failed, also since a packet that waited could not be sent.
     pub faults: u64,
     /// Datagrams that the site refused.
     pub refused: u64,
@@ -25,7 +25,7 @@ pub struct Report {
 impl Report {
     ghost use Rattle.fleet_site.specs.server.Turn.{empty_report};
 
-    /// Nothing was counted yet.
+    /// A report in which nothing was counted yet.
     pub(crate) fn new() -> Report
         ensures { result ≡ empty_report }
     {
@@ -40,49 +40,49 @@ impl Report {
         }
     }
 
-    /// A turn.
+    /// Counts a turn.
     pub(crate) fn count_turns(&mut self)
         ensures { self.new ≡ record self.old { turns = one_more self.old.turns } }
     {
         self.turns = self.turns.saturating_add(1);
     }
 
-    /// A datagram that was received.
+    /// Counts a datagram that was received.
     pub(crate) fn count_received(&mut self)
         ensures { self.new ≡ record self.old { received = one_more self.old.received } }
     {
         self.received = self.received.saturating_add(1);
     }
 
-    /// A packet that was sent.
+    /// Counts a packet that was sent.
     pub(crate) fn count_sent(&mut self)
         ensures { self.new ≡ record self.old { sent = one_more self.old.sent } }
     {
         self.sent = self.sent.saturating_add(1);
     }
 
-    /// A packet that was lost.
+    /// Counts a packet that was lost.
     pub(crate) fn count_lost(&mut self)
         ensures { self.new ≡ record self.old { lost = one_more self.old.lost } }
     {
         self.lost = self.lost.saturating_add(1);
     }
 
-    /// A receive that failed.
+    /// Counts a receive that failed.
     pub(crate) fn count_faults(&mut self)
         ensures { self.new ≡ record self.old { faults = one_more self.old.faults } }
     {
         self.faults = self.faults.saturating_add(1);
     }
 
-    /// A refusal.
+    /// Counts a refusal.
     pub(crate) fn count_refused(&mut self)
         ensures { self.new ≡ record self.old { refused = one_more self.old.refused } }
     {
         self.refused = self.refused.saturating_add(1);
     }
 
-    /// A step that ran out of memory.
+    /// Counts a step that ran out of memory.
     pub(crate) fn count_short(&mut self)
         ensures { self.new ≡ record self.old { short = one_more self.old.short } }
     {

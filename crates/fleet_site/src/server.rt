@@ -20,7 +20,8 @@ use fleet_pending::{Addr, serving_leaves_fewer_due};
 use rand_core::Rng;
 use std::alloc::{AllocError, Allocator};
 
-/// The octets of the longest frame, and one more.
+/// How many octets a turn asks for: those of the longest frame, and one more, so that the system cuts
+/// no frame to one that could be read.
 const BUFFER: usize = LONGEST_FRAME + 1;
 
 /// Sends octets, and counts them.
@@ -216,7 +217,7 @@ fn sweep_if_due<P: Port, A: Allocator + Copy>(
     }
 }
 
-/// One turn.
+/// Makes one turn: a receive, then the ticks, then a sweep where it is time for one.
 fn turn<P: Port, A: Allocator + Copy>(
     port: &mut P,
     site: &mut Site<A>,
@@ -238,14 +239,23 @@ fn turn<P: Port, A: Allocator + Copy>(
     sweep_if_due(port, site, now, since.unwrap_or(now), every, report)
 }
 
-/// Serves a site over a port for a number of turns, and returns what it counted.
+/// Serves a site over a port for exactly this number of turns, and returns what it counted.
 ///
-/// A turn reads the clock once and draws one word; receives at most one datagram, into 16385
-/// octets, and gives it to the site with the low 16 bits of that word; sends its packets, then its
-/// frames, each to the peers in their order; ticks, sending after each tick, until no other entry
-/// is due or a tick runs out of memory; and sweeps where `sweep_every` (seconds) is not 0 and the moment is at least
-/// that many seconds after that of the last sweep, or of the first turn. A send that fails counts
-/// as lost, a receive that fails as a fault, a step without memory as short, and the loop goes on.
+/// A turn reads the clock once and draws one word; receives at most one datagram, into 16385 octets,
+/// and gives it to the site with the low 16 bits of that word; sends its packets, then its frames, each
+/// to the peers in their order; ticks, sending after each tick, until no other entry is due or a tick
+/// runs out of memory, 256 times at most; and sweeps where `sweep_every` (seconds) is not 0 and the
+/// moment is at least that many seconds after that of the last sweep, or of the first turn. A clock
+/// that goes back brings no sweep until it has caught up. A send that fails is counted as lost, a
+/// receive that fails as a fault, a step without memory sends nothing and is counted as short, and the
+/// loop goes on.
+///
+/// `run` says so, over every port that gives its record and every clock that gives its moments: the
+/// turn with number k has the clock's k-th moment and the generator's k-th word, and the port's record
+/// grows by exactly what the turns receive and send. By `moments` and `words` nothing is read or drawn
+/// after the last turn. By `follows` each step is one of the site's model. By `failures` the failures
+/// that the port counts rise by the report's `lost` and `faults`, while no count is at its end. The
+/// buffer of replies is made once; where there is no memory for it, each hit tries again.
 pub fn serve<P: Port, C: Clock, R: Rng, A: Allocator + Copy>(
     port: &mut P,
     clock: &mut C,

@@ -37,8 +37,18 @@ use std::marker::Model;
 /// upstream.
 ///
 /// Each call with a moment first raises the clock to it, if that is later, and takes the clock for
-/// stamps, answers and deadlines. What a call sends is made before an observation is taken and
-/// before an open question changes; a tick has dropped what has ended before.
+/// stamps, answers and deadlines. What a call sends is made before an observation is taken and before
+/// an open question changes; a tick has dropped what has ended before.
+///
+/// A site stands for models: the plain set of all that it took in since it last began, a floor, a clock
+/// and the open questions. For every model that it stands for, each call is a step of that model: its
+/// packets, octet by octet, its frames, what it takes and what it refuses, with the checks in their
+/// order. The site stands for the model afterwards.
+///
+/// A call that runs out of memory took just the first observations of what it brings, sends nothing,
+/// and leaves the open questions as they were. No refusal waits for memory that it does not need: what
+/// is dropped, what can't be read as a reply or a frame, an empty frame, and an idle tick never run out
+/// of memory.
 #[derive(Drop)]
 pub struct Site<A: Allocator = Global> {
     alloc: A,
@@ -69,7 +79,7 @@ enum Sender {
     Other,
 }
 
-/// Where a datagram from an address comes from.
+/// What an address is to a site: an upstream's, else a peer's, else any other.
 fn sender_of<A: Allocator>(config: &Config<A>, from: Addr) -> Sender
     ensures { IsSender config.now.upstreams config.now.peers from result }
 {
@@ -94,7 +104,7 @@ fn is_asker(sender: Sender) -> bool
 }
 
 impl<A: Allocator + Copy> Site<A> {
-    /// A site that took nothing in and asks nothing, at the moment 0.
+    /// A new site: it took nothing in and asks nothing, at the moment 0.
     pub fn new(alloc: A, config: Config<A>) -> Site<A>
         ensures opens { StandsFor result (opening config.upstreams config.peers) }
     {
@@ -110,7 +120,8 @@ impl<A: Allocator + Copy> Site<A> {
         }
     }
 
-    /// Forgets what it took in and what it asks, and begins at the moment 0 again.
+    /// Begins a site again: it forgets what it took in, what it asks and who waits, and is at the
+    /// moment 0 with the same addresses.
     pub fn restart(&mut self)
         ensures opens { (m : SiteModel) → StandsFor self.old m
             → StandsFor self.new (opening m.upstreams m.peers) }
@@ -121,7 +132,8 @@ impl<A: Allocator + Copy> Site<A> {
         self.clock = self.cache.floor();
     }
 
-    /// What it holds.
+    /// The cache of a site: what it holds of the observations that it took in. Its floor never passes
+    /// the site's clock.
     pub fn cache(&self) -> &Cache<A>
         ensures cache { result.now ≡ self.now.cache }
         ensures lawful { IsSiteData self.now }
@@ -129,7 +141,8 @@ impl<A: Allocator + Copy> Site<A> {
         &self.cache
     }
 
-    /// The greatest moment that it was given, or purged to by a merge, since it last began.
+    /// The clock of a site: the greatest moment that it was given, or purged to by a merge, since it
+    /// last began.
     pub fn clock(&self) -> Moment
         ensures clock { result ≡ self.now.clock }
         ensures lawful { IsSiteData self.now }
@@ -137,31 +150,34 @@ impl<A: Allocator + Copy> Site<A> {
         self.clock
     }
 
-    /// Whom it sends frames to, in this order.
+    /// The peers of a site, which it sends frames to in this order.
     pub(crate) fn peers(&self) -> &[Addr]
         ensures { result.now ≡ self.now.config.peers }
     {
         self.config.peers()
     }
 
-    /// A datagram: from an upstream's address a reply, from a peer's a frame, from any other a
-    /// question. `word` is where the search for the id of a new query begins.
+    /// Does with a datagram what its sender calls for: from an upstream's address comes a reply, from a
+    /// peer's a frame, from any other a question. Addresses are compared whole, host and port. `word`
+    /// is where the search for the identifier of a new query begins.
     ///
     /// A question, in this order. Under 12 octets or with QR set: `Dropped`. Another Opcode than 0:
-    /// RCODE 4, the header alone. What can't be read: RCODE 1, the header alone, and `Read`.
-    /// Another class than 1 (IN) or a type that no data has: RCODE 4. What the cache answers: the
-    /// reply. With RD clear: RCODE 5. Else it joins the open questions: a new one's query goes to
-    /// the first upstream, one that is open already gets nothing yet, and where there are too many,
-    /// RCODE 2 and `Full`.
+    /// RCODE 4, the header alone. What can't be read: RCODE 1, the header alone, and `Read`. Another
+    /// class than 1 (IN) or a type that no data has: RCODE 4, with the question. What the cache
+    /// answers: the octets of that answer, over all that the site took in. With RD clear: RCODE 5, with
+    /// the question. Else it joins the open questions: a new one's query goes to the first upstream,
+    /// one that is open already gets nothing yet, and where there are too many, or too many wait for
+    /// this one, RCODE 2 and `Full`.
     ///
-    /// A reply, in this order. Under 12 octets or with QR clear: `Dropped`. What can't be read:
-    /// `Read`. What no open question waits for at this upstream: `Unmatched`. What is no reply to a
-    /// served question, or has a bad chain of aliases: `Digest`. Else it is relayed to all who wait, in order of joining, each with its own id and
-    /// spelling and with RD set; its observations go out as frames and into the cache, and the
-    /// question is settled.
+    /// A reply, in this order. Under 12 octets or with QR clear: `Dropped`. What can't be read: `Read`.
+    /// What no open question waits for at this upstream: `Unmatched`. What is no reply to a served
+    /// question, or has a bad chain of aliases: `Digest`. Else it is relayed to all who wait, once each
+    /// and in order of joining, with the identifier and spelling of each and with RD set; its
+    /// observations go out as frames and into the cache, and the question is settled, whatever the
+    /// reply's RCODE. A refusal leaves the question open.
     ///
-    /// A frame: `Frame`, or its observations go into the cache; they are not sent on before the
-    /// next sweep.
+    /// A frame: `Frame`, or its observations go into the cache; they are not sent on before the next
+    /// sweep.
     pub fn datagram(
         &mut self,
         now: Moment,
@@ -177,12 +193,16 @@ impl<A: Allocator + Copy> Site<A> {
         self.dispatch(sender, now, from, bytes, word)
     }
 
-    /// `datagram`, whose reply may be in a buffer. A standard query of class 1 (IN), of a type that
-    /// data can have, with its name in full and in lower case, is read and looked up once. Where
-    /// the cache answers it, the reply is written in place of what `out` holds.
+    // Lets through: a hit that takes memory where `out` has room: no clause says that it takes none.
+    // The test `a_hit_takes_no_memory` sees it.
+    /// Does what `datagram` does, and may write the reply into a buffer. Where the result is `Reply`,
+    /// the octets in `out`, to who asked, are all that is given; else it is the outcome, and `out`
+    /// holds anything.
     ///
-    /// Where `out` has room for 512 octets, such a hit takes no memory for up to four records in a
-    /// section. Where the result is no `Reply`, `out` holds anything.
+    /// A plain question is a standard query of class 1 (IN), of a type that data can have, with its
+    /// name in full and in lower case. It is read and looked up once. Where the cache answers it, the
+    /// reply is written in place of what `out` holds, unless memory runs out. Where `out` has room for
+    /// 512 octets, such a hit takes no memory for up to four records in a section.
     pub fn datagram_into(
         &mut self,
         now: Moment,
@@ -262,8 +282,10 @@ impl<A: Allocator + Copy> Site<A> {
         }
     }
 
-    /// A vector for the replies of `datagram_into`, with room for a whole one where there is memory
-    /// for that.
+    // Lets through: any vector, since it has no clause. `datagram_into` makes room where there is too
+    // little, so with a smaller one the first hits of a run take memory.
+    /// A vector for the replies of `datagram_into`, with room for a whole one where there is memory for
+    /// that. Else it is empty, and each hit tries to make room anew.
     pub(crate) fn reply_buffer(&self) -> Vec<u8, A> {
         let mut out = Vec::new(self.alloc);
         if let Err(_) = out.reserve(LONGEST_MESSAGE) {
@@ -272,9 +294,10 @@ impl<A: Allocator + Copy> Site<A> {
         out
     }
 
-    /// Drops what has ended, and then serves the first open question whose time is over: its query
-    /// goes to the next upstream under the same id, or after the last all who wait get RCODE 2 and
-    /// it is settled. `more` says whether another one is due.
+    /// Drops what has ended, and then serves the first open question whose time is over: its query goes
+    /// to the next upstream under the same identifier, or after the last all who wait get RCODE 2 and
+    /// it is settled. `more` says whether another one is due; then fewer are due than before, so the
+    /// ticks at a moment end.
     pub fn tick(&mut self, now: Moment) -> Result<Outcome<A>, SiteFault>
         ensures follows { (m : SiteModel) → StandsFor self.old m
             → Follows m (a_tick now) result self.new }
@@ -293,7 +316,7 @@ impl<A: Allocator + Copy> Site<A> {
         )
     }
 
-    /// Takes the observations of a frame in; `Frame` where it is none.
+    /// Takes the observations of a frame in, in their order; `Frame` where it is none.
     pub fn frame(&mut self, now: Moment, bytes: &[u8]) -> Result<Outcome<A>, SiteFault>
         ensures follows { (m : SiteModel) → StandsFor self.old m
             → Follows m (a_frame now bytes.now) result self.new }
@@ -304,8 +327,8 @@ impl<A: Allocator + Copy> Site<A> {
     }
 
     /// Takes the observations of a reply in, whoever it is from; it may have none. `Read` where it
-    /// can't be read. `Digest` where it is no reply to a question that is served, or its aliases
-    /// fork, loop or have a ninth link. It matches no open question and sends nothing.
+    /// can't be read. `Digest` where it is no reply to a question that is served, or its aliases fork,
+    /// loop or have a ninth link. It matches no open question and sends nothing.
     pub fn learn(&mut self, now: Moment, bytes: &[u8]) -> Result<Outcome<A>, SiteFault>
         ensures follows { (m : SiteModel) → StandsFor self.old m
             → Follows m (a_reply now bytes.now) result self.new }
@@ -315,9 +338,10 @@ impl<A: Allocator + Copy> Site<A> {
         learn_reply(self.alloc, &mut self.cache, self.clock, bytes)
     }
 
-    /// Withdraws what was stamped at its clock or before, at a name and below it: the flush is
-    /// taken, and its frame goes out to every peer. What is stamped later in the same second is
-    /// withdrawn too.
+    /// Withdraws what was stamped at the site's clock or before, at a name and below it: the flush is
+    /// taken, and its one frame goes out to every peer. Its stamp is the clock, whatever moment is
+    /// handed in. What is stamped later in the same second is withdrawn too. Who waits for an upstream
+    /// goes on waiting.
     pub fn flush(&mut self, now: Moment, name: &Name<A>) -> Result<Outcome<A>, SiteFault>
         ensures follows { (m : SiteModel) → StandsFor self.old m
             → Follows m (a_flush now name.now) result self.new }
@@ -327,8 +351,9 @@ impl<A: Allocator + Copy> Site<A> {
         flush_name(self.alloc, &mut self.cache, self.clock, name)
     }
 
-    /// What it answers to a question, in the order of a datagram's, without the open questions:
-    /// where the cache has no answer it is a miss, whatever RD is. Nothing changes but the clock.
+    /// What a site answers to a question, in the order of a datagram's, without the open questions:
+    /// where the cache has no answer it is a miss, whatever RD is. Nothing changes but the clock. It
+    /// can run out of memory only for octets with the header of a question.
     pub fn ask(&mut self, now: Moment, bytes: &[u8]) -> Result<Looked<A>, SiteFault>
         ensures answers { (m : SiteModel) → StandsFor self.old m
             → Answers m now bytes.now result self.new }
@@ -345,7 +370,8 @@ impl<A: Allocator + Copy> Site<A> {
         }
     }
 
-    /// The frames of all that it holds, for its peers.
+    /// The frames of all that a site holds, for its peers. Nothing changes; it can run out of memory
+    /// only where something is held.
     pub fn sweep(&self) -> Result<Vec<Octets<A>, A>, AllocError>
         ensures sweeps { (m : SiteModel) → StandsFor self.now m
             → IfOk result (λ frames. IsSweep m frames.items) }
@@ -354,9 +380,9 @@ impl<A: Allocator + Copy> Site<A> {
         sweep(self.alloc, &self.cache)
     }
 
-    /// Takes in all that another site holds, and purges to its floor, which the clock then reaches
-    /// too; says how many observations were given. Where memory runs short for one, those before it
-    /// were taken, and floor and clock stay.
+    /// Takes in all that another site holds, and purges to its floor, which the clock then reaches too;
+    /// says how many observations were given. So the model takes in all that the other's model took.
+    /// Where memory runs short for one, those before it were taken, and floor and clock stay.
     pub fn merge(&mut self, other: &Site<A>) -> Result<usize, SiteFault>
         ensures gathers { (m : SiteModel) → StandsFor self.old m
             → (from : SiteModel) → StandsFor other.now from → Gathers m from result self.new }

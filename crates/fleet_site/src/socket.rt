@@ -7,8 +7,9 @@ use crate::port::PortFault;
 use fleet_pending::Addr;
 use std::time::Duration;
 
-/// A socket for datagrams, bound to an address, with a clock beside it. It does what the system
-/// does, and nothing of its own.
+/// A socket for datagrams, bound to an address, with a clock beside it. It does what the system does,
+/// and nothing of its own: so what a port does can be proved over any socket, and what is not proved is
+/// the six methods of one that asks the system.
 pub trait Socket {
     /// What may be known of it: the list of its calls with how each ended, while it keeps one, and
     /// whether its receives wait.

@@ -120,8 +120,9 @@ fn plan_due<A: Allocator + Copy>(
     }
 }
 
-/// Serves the first due entry: its query goes to the next upstream, or after the last all waiters
-/// get a server failure.
+/// Serves the first due entry: its query goes to the next upstream, or after the last all waiters get a
+/// server failure. An entry that was served is due later, or gone: else the ticks of a turn would not
+/// end. Where none is due, the table looks ahead to its first deadline.
 pub(crate) fn serve_due<A: Allocator + Copy>(
     alloc: A,
     pending: &mut Pending<A>,

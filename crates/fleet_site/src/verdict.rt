@@ -66,7 +66,7 @@ pub(crate) fn decide<A: Allocator + Copy>(
     }
 }
 
-/// Octets that can't be read.
+/// What is made of octets that can't be read.
 fn decide_unread<A: Allocator + Copy>(
     alloc: A,
     header: Header,

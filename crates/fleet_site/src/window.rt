@@ -5,16 +5,18 @@ ghost use Rattle.fleet_site.specs.socket.Window.{whole_window, is_inside, is_due
 
 use crate::outbox::MOST_PLACES;
 
-/// A turn of fewer frames is no sweep that has to be shared out.
+/// How many frames a turn has at least that is a sweep to be shared out.
 const FEW: u64 = 1024;
 
-/// How many places are reserved at most for the frames that the last sweep missed.
+/// How many places are reserved at most for the frames that the last sweep missed: half of
+/// `MOST_PLACES`, which no check says.
 const MOST_RESERVED: u64 = 2047;
 
 /// Which of the frames of a turn wait to be sent, where they do not all find room: those from one on,
 /// and of those before it as many as leave room for these. All else goes out at once, and so does what
 /// finds no room or no memory. The window of the next sweep begins with the first frame that this one
-/// missed, so that it is not the same frames each time that go out without a pause.
+/// missed, so that it is not the same frames each time that go out without a pause. Where sweeps of very
+/// different sizes alternate, the last frames of the larger one may never wait.
 #[derive(Clone, Copy, PartialEq, Eq, Debug)]
 pub struct Window {
     begins: u64,
@@ -26,7 +28,7 @@ pub struct Window {
 }
 
 impl Window {
-    /// No frame came in this turn, and the window begins with the first one.
+    /// The window at first: no frame came in this turn, and it begins with the first one.
     pub fn new() -> Window
         ensures { result ≡ whole_window }
     {
@@ -55,7 +57,7 @@ impl Window {
         self.is_inside() || places as u64 + self.reserved.min(MOST_RESERVED) < MOST_PLACES as u64
     }
 
-    /// A frame waits.
+    /// The window after a frame that waits.
     pub fn after_kept(self) -> Window
         ensures { result ≡ after_kept self }
     {
@@ -65,7 +67,7 @@ impl Window {
         }
     }
 
-    /// A frame does not wait.
+    /// The window after a frame that does not wait.
     pub fn after_passed(self) -> Window
         ensures { result ≡ after_passed self }
     {
@@ -84,7 +86,7 @@ impl Window {
         }
     }
 
-    /// Whether the window goes on behind the turn: it was a sweep, and not all of it waited.
+    /// Whether the window goes on after the turn: it was a sweep, and not all of it waited.
     fn goes_on(self) -> bool
         ensures { result ≡ goes_on self }
     {

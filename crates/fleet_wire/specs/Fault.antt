@@ -1,4 +1,4 @@
--- Why no name is at a place of a message: the first fault on the way. RFC 1035 2.3.4, 3.1, 4.1.4.
+-- Why no name is at a place of a message: the first fault on the way (RFC 1035 2.3.4, 3.1, 4.1.4).
 -- Serves `read_query` and `read_reply`.
 use Rattle.std.specs.Prelude.{◌≡◌, ℕ, ◌+◌, ◌<◌, ◌≤◌, length, slice_index}
 use Rattle.fleet_name.specs.Types.{Label, OctetList}
@@ -26,7 +26,7 @@ pub data FaultAt (m : OctetList) (p s : Place) (k : ℕ) (f : ReadFault) : Type 
   cut_label : LengthAt m p → k + slice_index m p + 1 ≤ LONGEST_NAME
       → length m < p + 1 + slice_index m p → f ≡ Truncated → FaultAt m p s k f
 
--- the first fault met on the way from p
+-- the first fault on the way from p: here, after the label at p, or where the pointer at p leads
 pub data Fails (m : OctetList) : Place → Place → ℕ → ReadFault → Type 0 where
   here : {p s : Place} {k : ℕ} {f : ReadFault} → FaultAt m p s k f → Fails m p s k f
   later : {p s : Place} {k : ℕ} {f : ReadFault} (label : Label) → LabelAt m p label
@@ -35,6 +35,6 @@ pub data Fails (m : OctetList) : Place → Place → ℕ → ReadFault → Type 
   beyond : {p s : Place} {k : ℕ} {f : ReadFault} (q : Place) → PointerAt m p q → q < s → Fails m q q k f
       → Fails m p s k f
 
--- no name is at p, for this first fault
+-- no name is at p of the message, and f is the first fault on the way
 abbrev pub NameFails : OctetList → Place → ReadFault → Type 0
 NameFails m p f = Fails m p p 1 f

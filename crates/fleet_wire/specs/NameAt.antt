@@ -27,7 +27,8 @@ pub record PointerAt (m : OctetList) (p q : Place) : Type 0 where
   pub target : q ≡ (slice_index m p - 192) * 256 + slice_index m (p + 1)
 
 -- In message m, in a run of labels begun at s, the labels of n are at p in their own case, and end
--- before e. A pointer leads to a place before the run that holds it, where a run begins.
+-- before e. The name ends there with a zero octet, goes on with a label, or a pointer leads to the
+-- rest of it, at a place before the run, where another run begins.
 pub data NameAt (m : OctetList) : Place → Place → Labels → Place → Type 0 where
   ends : {s p : Place} {n : Labels} {e : Place} → EndAt m p → n ≡ [] → e ≡ p + 1 → NameAt m s p n e
   goes_on : {s p : Place} {n : Labels} {e : Place} (label : Label) (rest : Labels)
@@ -36,7 +37,7 @@ pub data NameAt (m : OctetList) : Place → Place → Labels → Place → Type 
   points : {s p : Place} {n : Labels} {e : Place} (q past : Place) → PointerAt m p q → q < s
       → NameAt m q q n past → e ≡ p + 2 → NameAt m s p n e
 
--- in message m the name n, in lower case, is at p, and ends before e
+-- in message m the name n, in lower case, is at p, with its pointers followed, and ends before e
 pub record ReadsName (m : OctetList) (p : Place) (n : Labels) (e : Place) : Type 0 where
   pub spelled : Labels
   pub name_at : NameAt m p p spelled e

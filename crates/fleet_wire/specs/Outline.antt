@@ -1,5 +1,5 @@
 -- What a reply that is to be written says, and its octets (RFC 1035 4.1).
--- Serves `write_reply`, `write_reply_into`.
+-- Serves `write_reply`, `write_reply_into`, every call of `Outline`, law `reply_reads_back`.
 use Rattle.std.specs.Prelude.{◌≡◌, ℕ, ◌+◌, ◌*◌, ◌<◌, ◌≤◌, List, [], ◌∷◌, ◌++◌, length, Bool, true, false, Option, Some, None, if◌then◌else◌, nat_le}
 use Rattle.std.specs.List.{flat_map, AllByRecursion}
 use Rattle.fleet_name.specs.Types.{Labels, OctetList}
@@ -13,7 +13,8 @@ use Rattle.fleet_wire.specs.Message.{MessageData}
 use Rattle.fleet_wire.specs.declared.bounds.TheConstants.{LONGEST_MESSAGE}
 use Rattle.fleet_wire.specs.declared.class.TheConstants.{IN}
 
--- the header fields, the question if any, and the records of two sections
+-- what a reply that is to be written says: the header fields, the question if any, and the records
+-- of the answer and authority sections
 pub record OutlineData : Type 0 where
   pub id : ℕ
   pub opcode : ℕ
@@ -24,6 +25,7 @@ pub record OutlineData : Type 0 where
   pub answer : List RecordData
   pub authority : List RecordData
 
+-- the outline of these parts
 abbrev pub outline_data : ℕ → ℕ → Bool → ℕ → Bool → Option QuestionData → List RecordData
     → List RecordData → OutlineData
 outline_data id opcode rd rcode tc question answer authority = record {
@@ -37,72 +39,79 @@ outline_data id opcode rd rcode tc question answer authority = record {
   authority = authority;
 }
 
--- the bit of a flag
+-- the bit n of a flag where it is set, else 0
 abbrev pub flag : Bool → ℕ → ℕ
 flag b n = if b then n else 0
 
--- a record: its name in full, ten octets, and its RDATA
+-- a record: its name in full, ten octets, and its RDATA (RFC 1035 4.1.3)
 abbrev pub record_octets : RecordData → OctetList
 record_octets r = wire r.name
     ++ (u16_octets r.rtype
     ++ (u16_octets r.class ++ (u32_octets r.ttl ++ (u16_octets (length r.rdata) ++ r.rdata))))
 
--- a question in its own spelling
+-- a question in its own spelling (RFC 1035 4.1.2)
 abbrev pub question_octets : QuestionData → OctetList
 question_octets q = q.spelled ++ (u16_octets q.rtype ++ u16_octets q.class)
 
+-- the octets of the question, if there is one
 abbrev pub question_octets_if_any : Option QuestionData → OctetList
 question_octets_if_any None = []
 question_octets_if_any (Some q) = question_octets q
 
+-- QDCOUNT: 1 where there is a question, else 0 (RFC 1035 4.1.1)
 abbrev pub question_count : Option QuestionData → ℕ
 question_count None = 0
 question_count (Some q) = 1
 
--- the twelve octets of a header: a reply, recursion available, and no authority of its own
+-- the twelve octets of a header with these counts of records: QR and RA are set, AA is clear (RFC
+-- 1035 4.1.1)
 abbrev pub header_octets : OutlineData → Bool → ℕ → ℕ → OctetList
 header_octets o tc an ns =
     u16_octets o.id
     ++ ((128 + o.opcode * 8 + flag tc 2 + flag o.rd 1) ∷ (128 + o.rcode)
     ∷ (u16_octets (question_count o.question) ++ (u16_octets an ++ (u16_octets ns ++ 0 ∷ 0 ∷ []))))
 
--- all of it
+-- all of a reply: the header, the question if any, and the records of both sections
 abbrev pub whole_octets : OutlineData → OctetList
 whole_octets o = header_octets o o.tc (length o.answer) (length o.authority)
     ++ (question_octets_if_any o.question
     ++ (flat_map record_octets o.answer ++ flat_map record_octets o.authority))
 
--- header and question alone, cut off
+-- a reply that is cut off: the header with TC set, and the question if any
 abbrev pub cut_octets : OutlineData → OctetList
 cut_octets o = header_octets o true 0 0 ++ question_octets_if_any o.question
 
--- a record of the class IN
+-- a line: a record of the class IN
 abbrev pub line : Labels → RType → Seconds → OctetList → RecordData
 line name rtype ttl rdata =
     record { name = name; rtype = rtype; class = IN; ttl = ttl; rdata = rdata }
 
--- one more record at the end of a section
+-- the outline with one more record at the end of its answer section
 abbrev pub with_answer : OutlineData → RecordData → OutlineData
 with_answer o r = record o { answer = o.answer ++ r ∷ [] }
 
+-- the outline with one more record at the end of its authority section
 abbrev pub with_authority : OutlineData → RecordData → OutlineData
 with_authority o r = record o { authority = o.authority ++ r ∷ [] }
 
--- the octets of a reply: all of it where that fits a message
+-- the octets of a reply: all of it where that has at most LONGEST_MESSAGE octets, else header and
+-- question, cut off (RFC 1035 4.1)
 unfoldable pub octets_of_outline : OutlineData → OctetList
 octets_of_outline o =
     if nat_le (length (whole_octets o)) LONGEST_MESSAGE then whole_octets o else cut_octets o
 
--- a line: its owner is a name, and its class IN
+-- a record as a line has it: its owner is a name, and its class IN
 pub record IsLine (r : RecordData) : Type 0 where
   pub name : IsName r.name
   pub class : r.class ≡ IN
 
+-- the question is lawful, if there is one
 abbrev pub IsQuestionIfAny : Option QuestionData → Type 0
 IsQuestionIfAny None = Unit {0}
 IsQuestionIfAny (Some q) = IsQuestionData q
 
--- what every outline of a program meets
+-- what every outline of a program meets: an opcode and an RCODE of four bits, a lawful question if
+-- any, and lines in both sections
 pub record IsOutlineData (o : OutlineData) : Type 0 where
   pub opcode : o.opcode < 16
   pub rcode : o.rcode < 16
@@ -122,7 +131,7 @@ pub record IsWhole (o : OutlineData) (q : QuestionData) : Type 0 where
   pub authority : AllByRecursion HasPlainRdata o.authority
   pub fits : length (whole_octets o) ≤ LONGEST_MESSAGE
 
--- the reply that such an outline is
+-- the reply as which such an outline is read back
 abbrev pub message_of_outline : OutlineData → QuestionData → MessageData
 message_of_outline o q = record {
   header = record {

@@ -1,5 +1,5 @@
 -- What a query to an upstream is, as octets (RFC 1035 4.1.1, 4.1.2).
--- Serves `write_query`.
+-- Serves `write_query`, law `query_reads_back`.
 use Rattle.std.specs.Prelude.{ℕ, [], ◌∷◌, ◌++◌, true, false}
 use Rattle.fleet_name.specs.Types.{OctetList}
 use Rattle.fleet_name.specs.Name.{wire}
@@ -18,11 +18,11 @@ abbrev pub query_head : ℕ → OctetList
 query_head id = u16_octets id
     ++ (u16_octets 256 ++ (u16_octets 1 ++ (u16_octets 0 ++ (u16_octets 0 ++ u16_octets 0))))
 
--- the query's octets
+-- the octets of a query to an upstream: recursion is desired, and the name is in lower case
 abbrev pub query_octets : ℕ → QuestionData → OctetList
 query_octets id q = query_head id ++ question_octets (lowercase_question q)
 
--- the header that is read back
+-- the header of a query, as it is read back
 abbrev pub query_header : ℕ → Header
 query_header id = record {
   id = id;

@@ -36,13 +36,13 @@ pub record RecordAt (m : OctetList) (p : Place) (r : RecordData) (e : Place) : T
 abbrev pub IsCut : OctetList → Place → Type 0
 IsCut m past = (length m < past + 10) ⊎ (length m < past + 10 + u16_at m (past + 8))
 
--- the first fault behind the name of a record
+-- the first fault after the name of a record
 abbrev pub FixedFails : OctetList → Place → ReadFault → Type 0
 FixedFails m past f = (IsCut m past × (f ≡ Truncated))
     ⊎ ((past + 10 + u16_at m (past + 8) ≤ length m)
     × ShapeFails m (past + 10) (u16_at m (past + 8)) (shape_of (u16_at m past)) f)
 
--- the first fault of a record at p: its name's, or one behind the name
+-- the first fault of a record at p: its name's, or one after the name
 abbrev pub RecordFails : OctetList → Place → ReadFault → Type 0
 RecordFails m p f = NameFails m p f
     ⊎ ((n : Labels) × (past : Place) × ReadsName m p n past × FixedFails m past f)
@@ -52,7 +52,7 @@ abbrev pub RecordsAt : OctetList → Place → List RecordData → Place → Typ
 RecordsAt m p [] e = e ≡ p
 RecordsAt m p (r ∷ rs) e = (past : Place) × RecordAt m p r past × RecordsAt m past rs e
 
--- the first fault of `count` records at p: that of the one after fewer of them
+-- the first fault of `count` records at p: fewer are there in a row, and the one after them fails
 abbrev pub RecordsFail : OctetList → Place → ℕ → ReadFault → Type 0
 RecordsFail m p count f = (rs : List RecordData) × (past : Place) × RecordsAt m p rs past
     × (length rs < count) × RecordFails m past f

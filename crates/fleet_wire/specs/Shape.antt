@@ -15,9 +15,10 @@ use Rattle.fleet_wire.specs.declared.shape.Part.{Part}
 use Rattle.fleet_wire.specs.declared.shape.Part.TheVariants.{Plain, Name}
 
 -- The parts of RDATA, for the types whose names a receiver expands here: those of RFC 1035 3.3 with
--- names, and SRV. NS, MD, MF, CNAME, MB, MG, MR and PTR have one name, SOA two names and five
--- numbers of 32 bits, MINFO two names, MX a number of 16 bits and a name, SRV three of them and a
--- name. RDATA of any other type is opaque octets, also where there are names in it (RFC 3597 4).
+-- names, and SRV (RFC 2782). NS, MD, MF, CNAME, MB, MG, MR and PTR have one name, SOA two names and
+-- five numbers of 32 bits, MINFO two names, MX a number of 16 bits and a name, SRV three of them
+-- and a name. RDATA of any other type is opaque octets, also where there are names in it (RFC 3597
+-- 4).
 abbrev pub shape_of : RType → Option (List Part)
 shape_of t =
     if nat_eq t NS || nat_eq t MD || nat_eq t MF || nat_eq t CNAME || nat_eq t MB || nat_eq t MG
@@ -27,7 +28,8 @@ shape_of t =
     if nat_eq t MX then Some (Plain 2 ∷ Name ∷ []) else
     if nat_eq t SRV then Some (Plain 6 ∷ Name ∷ []) else None
 
--- the parts are at p one after the other, as these octets with each name in full, and end before e
+-- the parts are at p one after the other, and end before e; the octets are theirs, each name read
+-- with its pointers in the whole message, and written in full
 abbrev pub PartsAt : OctetList → List Part → Place → OctetList → Place → Type 0
 PartsAt m [] p octets e = (octets ≡ []) × (e ≡ p)
 PartsAt m (Plain n ∷ parts) p octets e = (others : OctetList) × (p + n ≤ length m)
@@ -44,7 +46,7 @@ PartsFail m (Plain n ∷ parts) p f =
 PartsFail m (Name ∷ parts) p f = NameFails m p f
     ⊎ ((n : Labels) × (past : Place) × ReadsName m p n past × PartsFail m parts past f)
 
--- k octets of RDATA at p, read by their shape
+-- k octets of RDATA at p, read by their shape; as they are where there is none
 abbrev pub ShapeAt : OctetList → Place → ℕ → Option (List Part) → OctetList → Type 0
 ShapeAt m p k None octets = octets ≡ take k (drop p m)
 ShapeAt m p k (Some parts) octets = PartsAt m parts p octets (p + k)
@@ -63,6 +65,7 @@ ArePlain (Plain n ∷ parts) octets = (first : OctetList) × (others : OctetList
 ArePlain (Name ∷ parts) octets = (n : Labels) × (others : OctetList)
     × (octets ≡ wire n ++ others) × IsName n × ArePlain parts others
 
+-- RDATA of a shape, if there is one: then with each name in full and in lower case, else any octets
 abbrev pub HasShape : Option (List Part) → OctetList → Type 0
 HasShape None octets = Unit {0}
 HasShape (Some parts) octets = ArePlain parts octets

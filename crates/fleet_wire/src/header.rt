@@ -49,7 +49,7 @@ pub(crate) fn header_at(message: &[u8]) -> Header
     }
 }
 
-/// The header of a message, or `None` where it has under 12 octets.
+/// The header of a message (RFC 1035 4.1.1), or `None` where it has under 12 octets.
 pub fn read_header(message: &[u8]) -> Option<Header>
     ensures found { MatchOption result (length message.now < 12)
         (λ h. (12 ≤ length message.now) × (h ≡ header_of message.now)) }

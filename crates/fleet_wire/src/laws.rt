@@ -28,7 +28,8 @@ pub fn one_reply()
     ensures { (m : OctetList) (a b : MessageData) → IsReply m a → IsReply m b → a ≡ b }
 {}
 
-/// What reads as a reply is lawful: its owners are names, and its RDATA is plain.
+/// What reads as a reply is lawful: its owners are names, its RDATA is plain, and there are no
+/// records where it was cut off.
 pub fn reply_is_read()
     ensures { (m : OctetList) (r : MessageData) → IsReply m r → IsRead r }
 {}

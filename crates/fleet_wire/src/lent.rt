@@ -45,21 +45,21 @@ impl<'a> LentQuestion<'a> {
         self.name
     }
 
-    /// QTYPE.
+    /// The type that is asked for, QTYPE (RFC 1035 4.1.2).
     pub fn rtype(&self) -> u16
         ensures { result ≡ self.now.rtype }
     {
         self.rtype
     }
 
-    /// QCLASS.
+    /// The class that is asked for, QCLASS (RFC 1035 4.1.2).
     pub fn class(&self) -> u16
         ensures { result ≡ self.now.class }
     {
         self.class
     }
 
-    /// A copy in memory of its own, or `Err` where there is no memory for it.
+    /// A copy of the question in memory of its own, or `Err` where there is no memory for it.
     pub fn try_copy<A: Allocator + Copy>(&self, alloc: A) -> Result<Question<A>, AllocError>
         ensures { IfOk result (λ q. q ≡ self.now) }
     {
@@ -83,7 +83,7 @@ impl<'a> LentQuestion<'a> {
 }
 
 impl<A: Allocator> Question<A> {
-    /// The question, with its name borrowed from this one.
+    /// The same question, lent: its name is borrowed from this one.
     pub fn lend(&self) -> LentQuestion<'_>
         ensures { result ≡ self.now }
     {

@@ -10,7 +10,8 @@ use std::alloc::{Allocator, Global};
 use std::marker::Model;
 
 /// A reply that was read: its header, its question, and the records of its answer and authority
-/// sections (RFC 1035 4.1). `read_reply` alone makes one.
+/// sections (RFC 1035 4.1). `read_reply` alone makes one. Header and question are lawful, the RDATA
+/// of each record is plain, and both sections are empty where the reply was cut off.
 #[derive(Drop)]
 pub struct Message<A: Allocator = Global> {
     header: Header,

@@ -38,8 +38,8 @@ impl<'a, A: Allocator> Model for Outline<'a, A> {
 }
 
 impl<'a, A: Allocator + Copy> Outline<'a, A> {
-    /// An outline without lines. Its opcode and RCODE are at most 15 (RFC 1035 4.1.1). This
-    /// allocates nothing.
+    /// An outline of these header fields and this question, without lines. Its opcode and RCODE are
+    /// at most 15 (RFC 1035 4.1.1). This allocates nothing.
     pub fn new(
         alloc: A,
         id: u16,
@@ -64,7 +64,8 @@ impl<'a, A: Allocator + Copy> Outline<'a, A> {
         Outline::of_lent(alloc, id, opcode, rd, rcode, tc, lent)
     }
 
-    /// `new` with a question that borrows its name.
+    /// An outline of these header fields and a question that borrows its name, without lines. All
+    /// else is as for `new`.
     pub fn of_lent(
         alloc: A,
         id: u16,

@@ -57,8 +57,8 @@ fn are_plain(parts: &[Part], octets: &[u8]) -> bool
     rest.is_empty()
 }
 
-/// Whether RDATA has the shape of its type, with each name in full and in lower case. RDATA of a
-/// type without a shape is plain, whatever it holds.
+/// Whether RDATA has the shape of its type, with each name in full and in lower case: it is plain
+/// then. RDATA of a type without a shape is plain, whatever it holds.
 pub fn plain_rdata(rtype: u16, rdata: &[u8]) -> bool
     ensures { IsTrue result ↔ IsPlain rtype rdata.now }
 {

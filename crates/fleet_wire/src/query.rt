@@ -88,8 +88,9 @@ pub(crate) fn question_of<A: Allocator + Copy>(
     })
 }
 
-/// The header and the question of a message (RFC 1035 4.1.1, 4.1.2). What follows the question is
-/// not looked at.
+/// Reads the header and the question of a message (RFC 1035 4.1.1, 4.1.2). What follows the
+/// question is not looked at. What is read is a query, and no query is refused but with
+/// `OutOfMemory`.
 ///
 /// # Errors
 ///
@@ -113,11 +114,11 @@ pub fn read_query<A: Allocator + Copy>(
     Ok((header, question))
 }
 
-/// `read_query` without a copy: the header and the question of a message whose question is in full
-/// and in lower case, so its name has no pointer and no capital letter (RFC 1035 3.1, 4.1.4). The
-/// question borrows its name from the message. `None` where `read_query` returns a fault, or the
-/// name is spelled in another way. What follows the question is not looked at. This allocates
-/// nothing.
+/// Reads the header and the question of a message in place, where its name is in full and in lower
+/// case: it has no pointer and no capital letter (RFC 1035 3.1, 4.1.4). This is `read_query`
+/// without a copy: the question borrows its name from the message, and nothing is allocated. `None`
+/// exactly where `read_query` returns a fault of the message, or the name is spelled in another
+/// way. What follows the question is not looked at.
 pub fn read_plain_query(message: &[u8]) -> Option<(Header, LentQuestion<'_>)>
     ensures found { IfSome result (λ r. IsPlainQuery message.now r.0 r.1) }
     ensures lawful { IfSome result (λ r. IsHeader r.0) }
@@ -156,8 +157,8 @@ fn push_query_head<A: Allocator>(out: &mut Vec<u8, A>, id: u16) -> Result<(), Al
     push_u16(out, 0)
 }
 
-/// The octets of a query to an upstream: RD is set and no other flag (RFC 1035 4.1.1), and the name
-/// is in lower case. `Err` where an allocation fails.
+/// The octets of a query to an upstream, with RD set and no other flag (RFC 1035 4.1.1), and with
+/// the name in lower case. `read_query` reads them back. `Err` where an allocation fails.
 pub fn write_query<A: Allocator, B: Allocator>(
     alloc: A,
     id: u16,

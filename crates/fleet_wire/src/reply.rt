@@ -59,9 +59,10 @@ fn message_of<A: Allocator + Copy>(
     Ok(Message::of_parts(header, question, answer, authority))
 }
 
-/// A reply: the header, the question, and the records of the answer and authority sections (RFC
-/// 1035 4.1). With TC set both sections are empty. The additional section, and octets after the
-/// last part, are not looked at.
+/// Reads a reply: the header, the question, and the records of the answer and authority sections
+/// (RFC 1035 4.1). With TC set both sections are empty. The additional section, and octets after
+/// the last part, are not looked at. What is read is a reply in the grammar, and no such reply is
+/// refused but with `OutOfMemory`.
 ///
 /// # Errors
 ///

@@ -13,7 +13,7 @@ use std::alloc::{AllocError, Allocator};
 use std::marker::Model;
 
 /// The lines of a section, in order. The first four lie in the value itself, so a section of at
-/// most four lines allocates nothing.
+/// most four lines allocates nothing. It is no `SmallVec`, whose size depends on the allocator's.
 #[derive(Drop)]
 pub(crate) struct Section<'a, A: Allocator> {
     first: ArrayVec<Line<'a>, 4>,

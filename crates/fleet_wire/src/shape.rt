@@ -27,8 +27,10 @@ pub(crate) enum Part {
     Name,
 }
 
+// Lets through: a greater number, which costs room on the stack alone. No test has the number. The
+// clause `room` of `parts_of` asks for at least this one.
 /// The most octets that RDATA with names has with each name in full: an SOA's, of two names and
-/// five numbers.
+/// five numbers (RFC 1035 3.3.13).
 pub(crate) const LONGEST_RDATA: usize = 2 * LONGEST_NAME + 20;
 
 /// RDATA as it was read, before it is allocated.

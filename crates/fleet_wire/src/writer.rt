@@ -228,7 +228,8 @@ fn push_cut<A: Allocator, B: Allocator>(
 
 /// The octets of a reply (RFC 1035 4.1): header, question and records, every name in full. QR and
 /// RA are set, AA is clear. Where all of it passes 512 octets: header and question alone, with TC
-/// set. One allocation of exactly these octets; `Err` where it fails.
+/// set. `read_reply` reads back what is whole, with a question, TC clear and plain RDATA. One
+/// allocation of exactly these octets; `Err` where it fails.
 pub fn write_reply<A: Allocator, B: Allocator>(
     alloc: A,
     outline: &Outline<B>,
@@ -250,6 +251,9 @@ pub fn write_reply<A: Allocator, B: Allocator>(
     Ok(octets)
 }
 
+// Lets through: a body that asks for more room than a reply needs, since the clause says nothing of
+// memory. The tested body `reply_reserves_513_octets` does so, and the test `a_hit_takes_no_memory`
+// sees it.
 /// Writes the octets of `write_reply` in place of what `out` holds. Where `out` has room for 512
 /// octets, this allocates nothing. `Err` where an allocation fails; `out` may then hold anything.
 pub fn write_reply_into<A: Allocator, B: Allocator>(

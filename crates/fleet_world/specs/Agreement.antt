@@ -1,5 +1,5 @@
--- Sites agree, once all that each of them has heard of has come to the others.
--- Serves laws `reaching`, `agreement`.
+-- Sites agree, once each of them has heard of all that any of them has heard of.
+-- Serves laws `reaching`, `agreement`, `telling`.
 use Rattle.std.specs.Prelude.{◌≡◌, ℕ, ◌<◌, ◌≤◌, ◌↔◌, List, [], true, Ok}
 use Rattle.fleet_name.specs.Types.{Labels}
 use Rattle.fleet_wire.specs.Types.{RType, Seconds}
@@ -18,12 +18,13 @@ use Rattle.fleet_world.specs.Quiet.{RunsWithoutNews, IsKnown}
 use Rattle.fleet_world.specs.declared.event.Event.TheVariants.{Sweep}
 use Rattle.fleet_world.specs.declared.stepped.Stepped.{Stepped}
 
--- all that a had heard of b has heard of, and its horizon is no earlier
+-- b has heard of all that a had heard of, and its horizon is no earlier
 pub record HearsAll (a b : Replica) : Type 0 where
   pub heard : (o : ObservationData) → Has a.heard o → Has b.heard o
   pub horizon : a.horizon ≤ b.horizon
 
--- a site that was reached has heard of all that the one which reached it had heard of
+-- a site that was reached has heard of all that the one which reached it had heard of, and its horizon
+-- is no earlier
 abbrev pub ReachedHear : Type 0 → Type 0
 ReachedHear A =
     (configs : List ConfigData) (m n : FleetModel) (i j : ℕ) (a b : Replica)
@@ -52,11 +53,11 @@ pub record Agree (a b : Replica) (t : Seconds) : Type 0 where
   pub caches : (x y : SiteData) → StandsForReplica x a → StandsForReplica y b
       → x.cache.floor ≡ t → y.cache.floor ≡ t → x.cache ≡ y.cache
 
--- o has not ended by t
+-- an observation has not ended by t
 abbrev pub Lasts : Seconds → ObservationData → Type 0
 Lasts t o = t < expires o
 
--- b has heard of each such observation that a has heard of
+-- b has heard of each observation of this kind that a has heard of
 abbrev pub HearsSuch : (ObservationData → Type 0) → Replica → Replica → Type 0
 HearsSuch P a b = (o : ObservationData) → Has a.heard o → P o → Has b.heard o
 
@@ -69,7 +70,7 @@ TwoAgree A =
     → (t : Seconds) → HearsSuch (Lasts t) a b → HearsSuch (Lasts t) b a
     → (u : Seconds) → t ≤ u → a.horizon ≤ u → b.horizon ≤ u → Agree a b u
 
--- o is at one of these names, or above it
+-- an observation is at one of these names, or above it
 abbrev pub IsAtOrAbove : List Labels → ObservationData → Type 0
 IsAtOrAbove names o = (name : Labels) × Has names name × IsUnder name o.name
 
@@ -79,7 +80,7 @@ AliasesStayWithin names t s =
     (o : ObservationData) → Has s o → t < expires o → Has names o.name → (rtype : RType)
     → is_link rtype o ≡ true → Has names (target o)
 
--- it is at one of these names, or above it, and has not ended by t
+-- an observation is at one of these names, or above it, and has not ended by t
 abbrev pub LastsFor : List Labels → Seconds → ObservationData → Type 0
 LastsFor names t o = IsAtOrAbove names o × Lasts t o
 
@@ -118,7 +119,7 @@ pub record HasCome (A : Type 0) (m n : FleetModel) (j : ℕ) (o : ObservationDat
   pub heard : Has replica.heard o
   pub reached : HasReached A m source n j
 
--- it has come to each of these sites, to each from any site that had heard of it
+-- o has come to each of these sites, to each from any site that had heard of it
 abbrev pub HasSpread : Type 0 → FleetModel → FleetModel → List ℕ → ObservationData → Type 0
 HasSpread A m n sites o = (j : ℕ) → Has sites j → HasCome A m n j o
 

@@ -21,7 +21,8 @@ use Rattle.fleet_world.specs.FleetModel.{Replica, SentSweep, FleetModel, new_rep
 use Rattle.fleet_world.specs.declared.event.Event.{Event}
 use Rattle.fleet_world.specs.declared.event.Event.TheVariants.{Datagram, Tick, Sweep, Frame, Deliver, Learn, Flush, Merge, Restart}
 
--- what joins all that was taken joins all that was heard of, and the horizon rises with the floor
+-- what joins all that a site took in joins all that it heard of, so both only grow, and its horizon
+-- rises with its floor
 pub record BringsIn (a b : Replica) : Type 0 where
   pub brought : Observations
   pub observations : AreObservations brought
@@ -30,23 +31,25 @@ pub record BringsIn (a b : Replica) : Type 0 where
   pub delivered : b.delivered ≡ a.delivered
   pub horizon : b.horizon ≡ max a.horizon b.site.floor
 
--- a call at the site
+-- a call at the site: a step of its model, and what it takes in joins what it heard of
 pub record Calls (c : Call) (r : Result OutcomeData SiteFault) (a b : Replica)
     : Type 0 where
   pub step : SiteStep a.site c r b.site
   pub joins : BringsIn a b
 
--- a frame counts as delivered where its call was done whole: neither refused nor stopped
+-- the site after a kept frame came in: the frame is delivered unless it was refused
 abbrev pub with_delivery_unless : Option Refusal → List SentSweep → ℕ → Replica → Replica
 with_delivery_unless None sweeps number a = with_delivery sweeps number a
 with_delivery_unless (Some refusal) sweeps number a = a
 
+-- the site after a kept frame came in: the frame is delivered where its call was done whole, neither
+-- refused nor stopped
 abbrev pub with_delivery_by : Result OutcomeData SiteFault → List SentSweep → ℕ
     → Replica → Replica
 with_delivery_by (Ok o) sweeps number a = with_delivery_unless o.refused sweeps number a
 with_delivery_by (Err f) sweeps number a = a
 
--- the kept frame of this number comes in
+-- the kept frame with this number comes in at the site
 pub record Delivers (m : FleetModel) (now : Seconds) (number : ℕ)
     (r : Result OutcomeData SiteFault) (a b : Replica) : Type 0 where
   pub octets : OctetList
@@ -75,19 +78,19 @@ pub record MergesAll (m : FleetModel) (from count : ℕ) (a b : Replica) : Type 
   pub delivered : b.delivered ≡ a.delivered
   pub horizon : b.horizon ≡ max a.horizon other.horizon
 
--- out of memory: only that many of its items join, the first ones
+-- a merge ran out of memory: only that many of the other site's items join, the first ones
 pub record MergesFirst (m : FleetModel) (from count : ℕ) (a b : Replica) : Type 0 where
   pub other : Replica
   pub there : At m.sites from other
   pub merges : Merges a.site other.site (Err (OutOfMemory count)) b.site
   pub joins : BringsIn a b
 
--- the site as it was at first
+-- the site as it was at first, with the same upstreams and peers
 abbrev pub site_again : SiteModel → SiteModel
 site_again s = site_at_first s.upstreams s.peers
 
--- the event's call is done whole with this outcome, or runs out of memory, and this becomes
--- of its site
+-- what one event makes of its site: its call, delivery, sweep, merge or restart is done whole with this
+-- outcome, or runs out of memory
 abbrev pub Becomes : {A : Type 0} → FleetModel → Event A → Result OutcomeData SiteFault → Replica
     → Replica → Type 0
 Becomes m (Datagram site now from word bytes) r a b = Calls (datagram now from bytes word) r a b

@@ -33,8 +33,8 @@ pub record IsDeliveryOf {A : Type 0} (m : FleetModel) (site : ℕ) (now : Second
   pub kept : At m.frames number octets
   pub delivery : f ≡ Deliver site now number
 
--- An event arrives as it is; or octets that come in as a frame, and are those of a frame kept by
--- then, arrive as its delivery.
+-- An event arrives as it is; or, where it brings as a frame the octets of a frame kept by then, as the
+-- delivery of that frame.
 abbrev pub CountsAs : {A : Type 0} → List ConfigData → FleetModel → Event A → Event A → Type 0
 CountsAs configs m (Datagram site now from word bytes) f =
     (f ≡ Datagram site now from word bytes)
@@ -52,28 +52,27 @@ CountAs configs m (e ∷ es) (r ∷ rs) n run (f ∷ fs) =
 CountAs configs m [] [] n run [] = Unit {0}
 CountAs configs m es rs n run fs = ⊥
 
--- b is a, but may have had more delivered, and have heard of more
+-- b is the same site as a, but that it may have had more delivered, and have heard of more
 pub record HeardMore (a b : Replica) : Type 0 where
   pub site : b.site ≡ a.site
   pub heard : (o : ObservationData) → Has a.heard o → Has b.heard o
   pub delivered : (number : ℕ) → Has a.delivered number → Has b.delivered number
   pub horizon : a.horizon ≤ b.horizon
 
--- so of a sweep, by its sender
+-- w is the same sweep as v, but that its sender may have heard of more
 pub record SweptMore (v w : SentSweep) : Type 0 where
   pub numbers : w.numbers ≡ v.numbers
   pub heard : (o : ObservationData) → Has v.heard o → Has w.heard o
   pub horizon : v.horizon ≤ w.horizon
 
--- n is m, but its sites may have had more delivered, and have heard of more
+-- n is the same fleet as m, but that its sites may have had more delivered, and have heard of more
 pub record IsAlike (m n : FleetModel) : Type 0 where
   pub sites : AllZip HeardMore m.sites n.sites
   pub frames : n.frames ≡ m.frames
   pub sweeps : AllZip SweptMore m.sweeps n.sweeps
 
--- However the events of a run arrive, there is a run of them as they arrive, with the same results;
--- and at its end each site is the same, but that it may have had more delivered, and have heard of
--- more.
+-- However the events of a run arrive, there is a run of them as they arrive, with the same results. At
+-- its end each site is the same, but that it may have had more delivered, and have heard of more.
 abbrev pub CountAlike : Type 0 → Type 0
 CountAlike A =
     (configs : List ConfigData) (m k : FleetModel) → RunsTo A (opening configs) m → IsAlike m k
@@ -91,14 +90,15 @@ AlikeStand =
 abbrev pub IsKept : FleetModel → OctetList → Type 0
 IsKept m octets = (number : ℕ) × At m.frames number octets
 
--- where octets come in as a frame, they are those of a frame that was kept by then
+-- what comes in as a frame in this event, if anything does, is the octets of a frame that was kept by
+-- then
 abbrev pub GossipIsKept : {A : Type 0} → List ConfigData → FleetModel → Event A → Type 0
 GossipIsKept configs m (Datagram site now from word bytes) =
     when IsFromPeer configs site from then IsKept m bytes otherwise Unit {0}
 GossipIsKept configs m (Frame site now bytes) = IsKept m bytes
 GossipIsKept configs m e = Unit {0}
 
--- so with each event of a run
+-- what comes in as a frame in each event of a run is the octets of a frame that was kept by then
 abbrev pub AllGossipIsKept : {A : Type 0} → List ConfigData
     → (m : FleetModel) (es : List (Event A)) (rs : Results A) (n : FleetModel) → Run m es rs n
     → Type 0
@@ -106,12 +106,13 @@ AllGossipIsKept configs m (e ∷ es) (r ∷ rs) n run =
     GossipIsKept configs m e × AllGossipIsKept configs run.0 es rs n run.2
 AllGossipIsKept configs m es rs n run = Unit {0}
 
--- no octets come in as a frame
+-- an event in which no octets come in as a frame
 abbrev pub BringsNoOctets : {A : Type 0} → List ConfigData → Event A → Type 0
 BringsNoOctets configs (Datagram site now from word bytes) = ¬ IsFromPeer configs site from
 BringsNoOctets configs (Frame site now bytes) = ⊥
 BringsNoOctets configs e = Unit {0}
 
+-- events in none of which octets come in as a frame
 abbrev pub BringNoOctets : {A : Type 0} → List ConfigData → List (Event A) → Type 0
 BringNoOctets configs [] = Unit {0}
 BringNoOctets configs (e ∷ es) = BringsNoOctets configs e × BringNoOctets configs es
@@ -132,7 +133,7 @@ pub record IsOfStrange (m : FleetModel) (octets : OctetList) (o : ObservationDat
   pub spelled : SpellsFrame octets list
   pub among : Has list o
 
--- o comes from outside, in this event
+-- o is an observation of octets that come in as a frame in this event, and are no kept frame's then
 abbrev pub BringsForged : {A : Type 0} → List ConfigData → FleetModel → Event A → ObservationData
     → Type 0
 BringsForged configs m (Datagram site now from word bytes) o =
@@ -140,7 +141,7 @@ BringsForged configs m (Datagram site now from word bytes) o =
 BringsForged configs m (Frame site now bytes) o = IsOfStrange m bytes o
 BringsForged configs m e o = ⊥
 
--- in this very run
+-- o is an observation of octets that came in as a frame in this run, and were no kept frame's then
 abbrev pub IsForged : {A : Type 0} → List ConfigData
     → (m : FleetModel) (es : List (Event A)) (rs : Results A) (n : FleetModel) → Run m es rs n
     → ObservationData → Type 0
@@ -150,8 +151,8 @@ IsForged configs m [] [] n run o = ⊥
 IsForged configs m [] (r ∷ rs) n run o = ⊥
 IsForged configs m (e ∷ es) [] n run o = ⊥
 
--- Each member of what a site took in is an observation of a reply, or the flush of an event, or of a
--- frame from outside, in the run.
+-- Each member of what a site took in is an observation of a reply, or the flush of an event, or of
+-- octets that came in as a frame and were no kept frame's, in the run.
 abbrev pub StemsOrForged : Type 0 → Type 0
 StemsOrForged A =
     (configs : List ConfigData) (events : List (Event A)) (results : Results A) (end : FleetModel)
@@ -160,7 +161,8 @@ StemsOrForged A =
     → Stems (opening configs) events results end run o
     ⊎ IsForged configs (opening configs) events results end run o
 
--- where what comes in as a frame is a kept one, it is the former
+-- where what comes in as a frame is a kept one, each member of what a site took in is an observation of
+-- a reply, or the flush of an event, in the run
 abbrev pub StemsFromKept : Type 0 → Type 0
 StemsFromKept A =
     (configs : List ConfigData) (events : List (Event A)) (results : Results A) (end : FleetModel)

@@ -1,4 +1,6 @@
--- What an event names: sites and frames, numbered from 0.
+-- What an event names: sites and frames, numbered from 0. Definitions of other modules that end with a
+-- line for any other event (`now_of`, `IsHonest`, `CountsAs`, `GossipBrings` and more) take a new event
+-- in there.
 -- Serves `World::step`.
 use Rattle.std.specs.Prelude.{ℕ, ◌<◌}
 use Rattle.fleet_world.specs.declared.event.Event.{Event}
@@ -16,12 +18,13 @@ site_of (Flush site now name) = site
 site_of (Merge into from) = into
 site_of (Restart site) = site
 
--- each site that the event names is among this number of sites
+-- the fleet has each site that the event names: its number is among this number of sites
 abbrev pub HasSites : {A : Type 0} → ℕ → Event A → Type 0
 HasSites sites (Merge into from) = (into < sites) × (from < sites)
 HasSites sites e = site_of e < sites
 
--- the frame that the event names, if it names one, is among this number of kept frames
+-- the fleet has the frame that the event names, if it names one: its number is among this number of
+-- kept frames
 abbrev pub HasNamedFrame : {A : Type 0} → ℕ → Event A → Type 0
 HasNamedFrame frames (Deliver site now frame) = frame < frames
 HasNamedFrame frames e = Unit {0}

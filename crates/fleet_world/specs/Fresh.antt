@@ -39,7 +39,7 @@ pub record IsMeant (octets : OctetList) (reply : MessageData) : Type 0 where
   pub digest : DigestData
   pub meaning : IsDigest reply digest
 
--- a reply comes in with this event: it is learnt or accepted, at the clock that its site has then
+-- a reply comes in with this event: its site learns or accepts it, at the clock that the site has then
 abbrev pub ReplyComesIn : {A : Type 0} → FleetModel → Event A → MessageData → Seconds → Type 0
 ReplyComesIn m (Learn site now bytes) reply moment = (a : Replica) × At m.sites site a
     × IsMeant bytes reply × (moment ≡ max a.site.clock now)
@@ -47,7 +47,7 @@ ReplyComesIn m (Datagram site now from word bytes) reply moment = (a : Replica) 
     × IsAccepted a from bytes × IsMeant bytes reply × (moment ≡ max a.site.clock now)
 ReplyComesIn m e reply moment = ⊥
 
--- it came in in this very run
+-- a reply came in in this run, at the clock that its site had then
 abbrev pub ReplyCameIn : {A : Type 0}
     → (m : FleetModel) (es : List (Event A)) (rs : Results A) (n : FleetModel) → Run m es rs n
     → MessageData → Seconds → Type 0
@@ -58,6 +58,7 @@ ReplyCameIn m [] (r ∷ rs) n run reply moment = ⊥
 ReplyCameIn m (e ∷ es) [] n run reply moment = ⊥
 
 -- o is of an RRset of the section, with these RDATAs and this TTL: the least one, each as it is read
+-- (RFC 2181 5.2)
 pub record IsOfSet (section : List RecordData) (o : ObservationData) (ttl : Seconds) : Type 0 where
   pub set : RrSetData
   pub is : IsRrSet section o.name o.rtype set
@@ -65,15 +66,15 @@ pub record IsOfSet (section : List RecordData) (o : ObservationData) (ttl : Seco
   pub ttl_is : ttl ≡ set.ttl
 
 -- o is a denial with the SOA that counts for its name in the section, and with what it allows: the
--- least of the SOA's TTL and its MINIMUM, each as it is read, and LONGEST_DENIAL
+-- least of the SOA's TTL and its MINIMUM, each as it is read, and LONGEST_DENIAL (RFC 2308 5)
 pub record IsOfSoa (section : List RecordData) (o : ObservationData) (ttl : Seconds) : Type 0 where
   pub soa : RecordData
   pub counts : CountsFor section o.name soa
   pub body : o.body ≡ negative_body soa.name soa.rdata
   pub ttl_is : ttl ≡ soa_ttl soa
 
--- for this many seconds the reply allows to use o: an RRset of its answer section, or of NS records
--- in its authority section, or a denial with its SOA
+-- for how many seconds a reply allows to use an observation: an RRset of its answer section, or of NS
+-- records in its authority section (RFC 2181 5.2), or a denial with its SOA (RFC 2308 5)
 abbrev pub Allows : MessageData → ObservationData → Seconds → Type 0
 Allows reply o ttl =
     ((o.kind ≡ Positive) × (IsOfSet reply.answer o ttl
@@ -116,21 +117,22 @@ AnswersAreFresh A =
     → IsFreshPart (opening configs) events results end run t part
 
 -- x is one of an RRset of the section, and ttl is the RRset's TTL: the least one, each as it is read
+-- (RFC 2181 5.2)
 pub record IsInSet (section : List RecordData) (x : RecordData) (ttl : Seconds) : Type 0 where
   pub class : x.class ≡ IN
   pub there : InSet section x.name x.rtype x.rdata
   pub least : IsTtl section x.name x.rtype ttl
 
 -- x is the first SOA of the section, whatever TTL it has here, and ttl is how long a denial with it
--- holds
+-- holds (RFC 2308 5)
 pub record IsOfFirstSoa (section : List RecordData) (x : RecordData) (ttl : Seconds) : Type 0 where
   pub soa : RecordData
   pub first : IsFirstSoa section soa
   pub is : x ≡ record soa { ttl = x.ttl }
   pub ttl_is : ttl ≡ soa_ttl soa
 
--- for this many seconds the reply allows to use the record: one of its answer section, or an NS
--- record or the first SOA of its authority section
+-- for how many seconds a reply allows to use a record: one of its answer section, or an NS record
+-- (RFC 2181 5.2) or the first SOA (RFC 2308 5) of its authority section
 abbrev pub AllowsRecord : MessageData → RecordData → Seconds → Type 0
 AllowsRecord reply x ttl = IsInSet reply.answer x ttl
     ⊎ (((x.rtype ≡ NS) × IsInSet reply.authority x ttl) ⊎ IsOfFirstSoa reply.authority x ttl)
@@ -147,7 +149,8 @@ pub record IsFreshRecord {A : Type 0} (m : FleetModel) (es : List (Event A)) (rs
   pub in_time : t < moment + ttl
   pub shown : x.ttl ≡ min (moment + ttl - t) ttl
 
--- whatever is read in the octets, this holds of each record of the answer and of the authority
+-- whatever message is read in the octets, this holds of each record of its answer and authority
+-- sections
 pub record ReadsOnly (P : RecordData → Type 0) (octets : OctetList) : Type 0 where
   pub answer : (message : MessageData) → IsReply octets message
       → (x : RecordData) → Has message.answer x → P x
@@ -160,7 +163,7 @@ IsReplyOf (Reply octets) bytes = bytes ≡ octets
 IsReplyOf Miss bytes = ⊥
 IsReplyOf Dropped bytes = ⊥
 
--- what may hold of a record that a site shows at a moment, after a run
+-- the type of what may hold of a record that a site shows at a moment, after a run
 abbrev pub OfRecords : Type 0 → Type 1
 OfRecords A = (m : FleetModel) (es : List (Event A)) (rs : Results A) (n : FleetModel)
     → Run m es rs n → Replica → Seconds → RecordData → Type 0
@@ -177,7 +180,8 @@ WhereAsked A P =
     → ReadsOnly
     (P (opening configs) events results end run h.asked (max h.asked.site.clock now)) bytes
 
--- it is fresh
+-- Where all gossip is the fleet's own, each record that is read in what a site answers where it is
+-- asked is fresh.
 abbrev pub AskedAreFresh : Type 0 → Type 0
 AskedAreFresh A = WhereAsked A (λ m es rs n run a t x. IsFreshRecord m es rs n run t x)
 
@@ -202,12 +206,13 @@ WhereAnswered A P =
     → ¬ IsAmong a.site.upstreams from → (p : PacketData) → Has (sent_packets r) p
     → ReadsOnly (P (opening configs) events results m run a (max a.site.clock now)) p.octets
 
--- it is fresh
+-- Where all gossip is the fleet's own, each record that is read in what a site sends where a datagram
+-- comes that is not from an upstream is fresh.
 abbrev pub AnsweredAreFresh : Type 0 → Type 0
 AnsweredAreFresh A = WhereAnswered A (λ m es rs n run a t x. IsFreshRecord m es rs n run t x)
 
--- the reply that comes in with the event has the record, and the record is shown with the TTL that
--- this reply allows
+-- the reply that comes in with the event has the record, and the record is shown with the TTL that this
+-- reply allows
 pub record IsRelayed {A : Type 0} (m : FleetModel) (e : Event A) (t : Seconds) (x : RecordData)
     : Type 0 where
   pub reply : MessageData
@@ -232,7 +237,7 @@ abbrev pub IsDatagram : {A : Type 0} → Event A → Type 0
 IsDatagram (Datagram site now from word bytes) = Unit {0}
 IsDatagram e = ⊥
 
--- what a site sends with any other event has no record
+-- what a site sends with an event that is no datagram has no record
 abbrev pub OthersSayNothing : Type 0 → Type 0
 OthersSayNothing A =
     (m : FleetModel) (e : Event A) (r : Result (Stepped A) (WorldFault A)) (n : FleetModel)

@@ -23,13 +23,14 @@ pub record WasSent (m : FleetModel) (o : ObservationData) : Type 0 where
   pub spells : SpellsFrame octets list
   pub among : Has list o
 
--- where the octets are a frame: this holds of each observation in it, or it was sent in the fleet
+-- where the octets are a frame: each observation in it has this property, or was sent in the fleet
 -- before
 abbrev pub BringsOnly : (ObservationData → Type 0) → FleetModel → OctetList → Type 0
 BringsOnly C m octets = (list : Observations) → SpellsFrame octets list
     → (o : ObservationData) → Has list o → C o ⊎ WasSent m o
 
--- so it is with octets that come in as a frame
+-- of octets that come in as a frame in this event each observation has this property, or was sent in
+-- the fleet before
 abbrev pub GossipBrings : {A : Type 0} → (ObservationData → Type 0) → List ConfigData → FleetModel
     → Event A → Type 0
 GossipBrings C configs m (Frame site now bytes) = BringsOnly C m bytes
@@ -37,7 +38,8 @@ GossipBrings C configs m (Datagram site now from word bytes) =
     IsFromPeer configs site from → BringsOnly C m bytes
 GossipBrings C configs m e = Unit {0}
 
--- with each event of a run
+-- of octets that come in as a frame in each event of a run each observation has this property, or was
+-- sent in the fleet before
 abbrev pub AllGossipBrings : {A : Type 0} → (ObservationData → Type 0) → List ConfigData
     → (m : FleetModel) (es : List (Event A)) (rs : Results A) (n : FleetModel) → Run m es rs n
     → Type 0

@@ -1,5 +1,5 @@
 -- Runs in which nothing new comes in.
--- Serves law `agreement`.
+-- Serves laws `agreement`, `telling`.
 use Rattle.std.specs.Prelude.{◌≡◌, ℕ, ◌≤◌, List, ◌∷◌, length, Result, Ok, Err}
 use Rattle.fleet_name.specs.Places.{At, Has}
 use Rattle.fleet_observe.specs.Observation.{ObservationData}
@@ -19,13 +19,15 @@ TakesNothing (Err NoFrame) = Unit {0}
 TakesNothing (Err (Memory taken)) = taken ≡ 0
 TakesNothing (Err (FramesLost s)) = s.taken ≡ 0
 
--- the event is a merge, the delivery of a frame with this number or a later one, or another event
--- that takes nothing
+-- the event is a merge, the delivery of a frame with this number or a later one, or another event that
+-- takes nothing
 abbrev pub BringsNoNews : {A : Type 0} → ℕ → Event A → Result (Stepped A) (WorldFault A) → Type 0
 BringsNoNews first (Deliver site now frame) r = first ≤ frame
 BringsNoNews first (Merge into from) r = Unit {0}
 BringsNoNews first e r = TakesNothing r
 
+-- each event of a run is a merge, the delivery of a frame with this number or a later one, or takes
+-- nothing
 abbrev pub BringNoNews : {A : Type 0} → ℕ → List (Event A) → Results A → Type 0
 BringNoNews first (e ∷ es) (r ∷ rs) = BringsNoNews first e r × BringNoNews first es rs
 BringNoNews first es rs = Unit {0}
@@ -38,7 +40,7 @@ pub record RunsWithoutNews (A : Type 0) (m n : FleetModel) : Type 0 where
   pub run : Run m events results n
   pub quiet : BringNoNews (length m.frames) events results
 
--- a site has heard of o
+-- some site has heard of o
 pub record IsKnown (m : FleetModel) (o : ObservationData) : Type 0 where
   pub site : ℕ
   pub replica : Replica

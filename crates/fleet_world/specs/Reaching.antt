@@ -1,5 +1,5 @@
 -- Which sites a site has reached: hop by hop, each time by a whole sweep or by a merge.
--- Serves laws `reaching`, `agreement`.
+-- Serves laws `reaching`, `agreement`, `telling`, `withdrawn`.
 use Rattle.std.specs.Prelude.{◌≡◌, ◌≢◌, ℕ, zero, suc, List, [], Result, Ok}
 use Rattle.fleet_name.specs.Places.{At, Has}
 use Rattle.fleet_world.specs.FleetModel.{Replica, FleetModel}
@@ -45,17 +45,17 @@ pub data HasReached (A : Type 0) (m : FleetModel) (i : ℕ) : FleetModel → ℕ
       → HasReached A m i before from → Step before (Merge j from) (Ok s) n
       → HasReached A m i n j
 
--- each site has reached those that it is linked to: itself too, where a link says so
+-- a round of gossip: each site has reached those that it is linked to; itself too, where a link says so
 abbrev pub IsGossipRound : Type 0 → List (ℕ × ℕ) → FleetModel → FleetModel → Type 0
 IsGossipRound A links m n = (i j : ℕ) → Has links (i, j) → HasReached A m i n j
 
--- that many rounds, one after another
+-- that many rounds of gossip, one after another
 abbrev pub AreRounds : Type 0 → List (ℕ × ℕ) → ℕ → FleetModel → FleetModel → Type 0
 AreRounds A links zero m n = n ≡ m
 AreRounds A links (suc count) m n =
     (between : FleetModel) × IsGossipRound A links m between × AreRounds A links count between n
 
--- that many links lead from i to j
+-- that many links, one after another, lead from i to j
 abbrev pub AreLinked : List (ℕ × ℕ) → ℕ → ℕ → ℕ → Type 0
 AreLinked links zero i j = j ≡ i
 AreLinked links (suc count) i j = (h : ℕ) × Has links (i, h) × AreLinked links count h j

@@ -31,8 +31,8 @@ SaysOnly A P m i a (calling (datagram now from octets word)) bytes =
     × (¬ IsAmong a.site.upstreams from → ReadsOnly (P (max a.site.clock now)) bytes)
 SaysOnly A P m i a step bytes = ReadsOnly (λ x. ⊥) bytes
 
--- What servers did up to a step is a run in which all gossip is the fleet's own: so it is with each
--- packet of the step that goes to nobody's peer.
+-- Where what servers did up to a step is a run in which all gossip is the fleet's own, `SaysOnly` holds
+-- of each packet of the step that goes to nobody's peer.
 abbrev pub WhereSent : (A : Type 0) → OfRecords A → Type 0
 WhereSent A P =
     (configs : List ConfigData) (before : List SiteAction) (m : FleetModel)
@@ -46,11 +46,13 @@ WhereSent A P =
     → SaysOnly A (P (opening configs) (events_of before) (results_of 0 before) m run a) m x.site a
     x.action.step p.octets
 
--- it is fresh
+-- Where what servers did up to a step is a run in which all gossip is the fleet's own, what is read in
+-- each packet of the step that goes to nobody's peer is of the very reply that came, or fresh.
 abbrev pub SentAreFresh : Type 0 → Type 0
 SentAreFresh A = WhereSent A (λ m es rs n run a t x. IsFreshRecord m es rs n run t x)
 
--- and where it is at the name of a flush that the site took in or below it, the reply that has it came
--- in after the flush
+-- Where what servers did up to a step is a run in which all gossip is the fleet's own, what is read in
+-- each packet of the step that goes to nobody's peer is of the very reply that came; or fresh, and came
+-- in after the flushes that the site took in at its name or above.
 abbrev pub SentAfter : Type 0 → Type 0
 SentAfter A = WhereSent A (λ m es rs n run a t x. IsFreshAfter m es rs n run a.site.taken t x)

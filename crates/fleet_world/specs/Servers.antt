@@ -27,7 +27,7 @@ use Rattle.fleet_world.specs.declared.event.Event.{Event}
 use Rattle.fleet_world.specs.declared.event.Event.TheVariants.{Datagram, Tick, Sweep, Frame, Learn, Flush}
 use Rattle.fleet_world.specs.declared.fault.WorldFault.TheVariants.{Memory}
 
--- what the server of a site did
+-- a step that the server of a site took
 pub record SiteAction : Type 0 where
   pub site : ℕ
   pub action : Action
@@ -45,7 +45,7 @@ event_of i (frame now octets) = Frame i now octets
 event_of i (learn now octets) = Learn i now octets
 event_of i (flush now name) = Flush i now name
 
--- the events that actions are, before others; a sweep that ran out of memory changes nothing, and is
+-- the event that an action is, before others; a sweep that ran out of memory changes nothing, and is
 -- none
 abbrev pub event_before : {A : Type 0} → ℕ → TurnStep → Result OutcomeData SiteFault
     → List (Event A) → List (Event A)
@@ -53,6 +53,7 @@ event_before i (calling c) answer es = event_of i c ∷ es
 event_before i sweeping (Ok o) es = Sweep i ∷ es
 event_before i sweeping (Err f) es = es
 
+-- the events that what servers did are, in their order
 abbrev pub events_of : {A : Type 0} → List SiteAction → List (Event A)
 events_of [] = []
 events_of (x ∷ xs) = event_before x.site x.action.step x.action.answer (events_of xs)
@@ -62,13 +63,16 @@ abbrev pub frames_in : Result OutcomeData SiteFault → ℕ
 frames_in (Ok o) = length o.frames
 frames_in (Err f) = 0
 
--- the results of these events, where n frames were kept before; each frame is kept
+-- the result of the event that an action is, before others, where n frames were kept before; each frame
+-- is kept
 abbrev pub result_before : {A : Type 0} → ℕ → TurnStep → Result OutcomeData SiteFault → Results A
     → Results A
 result_before n step (Ok o) rs = Ok (stepped_of o (numbers_from n (length o.frames))) ∷ rs
 result_before n (calling c) (Err (OutOfMemory count)) rs = Err (Memory count) ∷ rs
 result_before n sweeping (Err f) rs = rs
 
+-- the results of the events that what servers did are, where n frames were kept before; each frame is
+-- kept
 abbrev pub results_of : {A : Type 0} → ℕ → List SiteAction → Results A
 results_of n [] = []
 results_of n (x ∷ xs) =
@@ -92,7 +96,7 @@ pub record HasDone (a b : ServerState) (actions : List Action) : Type 0 where
       → Has a.calls (PacketSent p)
       ⊎ ((x : Action) × Has actions x × Has (packets_of a.site.config.peers x.answer) p)
 
--- so it is with the turns of a run
+-- what the turns of a run do is actions of which `HasDone` holds
 abbrev pub TurnsAct : Type 0
 TurnsAct =
     (input : RunInput) (a b : ServerState)
@@ -112,7 +116,7 @@ ServersRun A =
     × ((i : ℕ) (c : ConfigData) → At configs i c
     → (a : Replica) × At end.sites i a × StandsForReplica (sites i) a)
 
--- What they did before one action is a run of the fleet; and the action is a step of its site from
+-- What servers did before one action is a run of the fleet; and the action is a step of its site from
 -- where the site stands then.
 abbrev pub ServersStep : Type 0 → Type 0
 ServersStep A =

@@ -29,7 +29,7 @@ TwoAgreeAlike A =
     → (t : Seconds) → HearsSuch (Lasts t) c d → HearsSuch (Lasts t) d c
     → (u : Seconds) → t ≤ u → c.horizon ≤ u → d.horizon ≤ u → Agree a b u
 
--- the moment of an event that has one
+-- the moment of an event; 0 of one that has none
 abbrev pub now_of : {A : Type 0} → Event A → Seconds
 now_of (Datagram site now from word bytes) = now
 now_of (Tick site now) = now
@@ -39,7 +39,7 @@ now_of (Learn site now bytes) = now
 now_of (Flush site now name) = now
 now_of e = 0
 
--- t is no earlier than the moment of any of these events
+-- none of these events has a later moment than t
 abbrev pub AreBy : {A : Type 0} → Seconds → List (Event A) → Type 0
 AreBy {A} t events = (e : Event A) → Has events e → now_of e ≤ t
 
@@ -54,7 +54,7 @@ HorizonsBy A =
 abbrev pub StaysUp : {A : Type 0} → ℕ → List (Event A) → Type 0
 StaysUp {A} site events = (e : Event A) → Has events e → ¬ Restarts e site
 
--- the event brings the site this frame, and was done whole, neither refused nor stopped
+-- the event brings this frame to the site, and was done whole, neither refused nor stopped
 pub record IsWholeDelivery {A : Type 0} (site number : ℕ) (e : Event A)
     (r : Result (Stepped A) (WorldFault A)) : Type 0 where
   pub now : Seconds
@@ -63,7 +63,7 @@ pub record IsWholeDelivery {A : Type 0} (site number : ℕ) (e : Event A)
   pub whole : r ≡ Ok stepped
   pub accepted : stepped.refused ≡ None
 
--- the frame came to the site, which has not begun again since
+-- this frame came to the site, which has not begun again since
 abbrev pub WasDelivered : {A : Type 0} → ℕ → ℕ → List (Event A) → Results A → Type 0
 WasDelivered site number (e ∷ es) (r ∷ rs) =
     (IsWholeDelivery site number e r × StaysUp site es) ⊎ WasDelivered site number es rs
@@ -78,7 +78,7 @@ pub record SweepsTo {A : Type 0} (i j : ℕ) (e : Event A) (r : Result (Stepped 
   pub some : stepped.frames ≢ []
   pub came : (number : ℕ) → Has stepped.frames number → WasDelivered j number es rs
 
--- i made such a sweep, and has not begun again before it
+-- i made a sweep that came to j whole, and has not begun again before it
 abbrev pub HasSwept : {A : Type 0} → ℕ → ℕ → List (Event A) → Results A → Type 0
 HasSwept i j (e ∷ es) (r ∷ rs) = SweepsTo i j e r es rs ⊎ ((¬ Restarts e i) × HasSwept i j es rs)
 HasSwept i j es rs = ⊥
@@ -102,11 +102,11 @@ ToldReach A =
     (m n : FleetModel) (events : List (Event A)) (results : Results A) → Run m events results n
     → (i j : ℕ) → HasTold i j events results → HasReached A m i n j
 
--- the site has taken in no such observation
+-- the site has taken in no observation of this kind
 abbrev pub HoldsNone : (ObservationData → Type 0) → Replica → Type 0
 HoldsNone P a = (o : ObservationData) → Has a.site.taken o → ¬ P o
 
--- each site that has taken in such an observation has told j
+-- each site that has taken in an observation of this kind has told j all that it knew
 abbrev pub AllHaveTold : {A : Type 0} → (ObservationData → Type 0) → FleetModel → List (Event A)
     → Results A → ℕ → Type 0
 AllHaveTold P m es rs j =
@@ -117,14 +117,14 @@ abbrev pub IsNoDelivery : {A : Type 0} → Event A → Type 0
 IsNoDelivery (Deliver site now frame) = ⊥
 IsNoDelivery e = Unit {0}
 
--- of such observations, each that the event's site has taken in by n it had taken in by m
+-- the event brings its site no observation of this kind that is new to it
 abbrev pub NoneIsNew : {A : Type 0} → (ObservationData → Type 0) → FleetModel → Event A
     → FleetModel → Type 0
 NoneIsNew P m e n =
     (a b : Replica) → At m.sites (site_of e) a → At n.sites (site_of e) b
     → (o : ObservationData) → Has b.site.taken o → P o → Has a.site.taken o
 
--- In this very run, as its events arrive, no such observation comes in that is new: each event is
+-- In this run, as its events arrive, no observation of this kind comes in that is new: each event is
 -- quiet, where `first` is the number of the first frame since, or is no delivery and brings its site
 -- none that is new to it.
 abbrev pub BringNoNewsOf : {A : Type 0} → (ObservationData → Type 0) → ℕ
@@ -152,8 +152,8 @@ ToldAgree A =
     → AllHaveTold (Lasts t) m arrived results i → AllHaveTold (Lasts t) m arrived results j
     → (u : Seconds) → t ≤ u → Agree a b u
 
--- The same for answers of names whose aliases lead to one another, whatever else is new: what is at
--- these names, or above them, is enough.
+-- Where what `ToldAgree` asks holds of what is at some names, or above them, two sites answer the same
+-- of these names, whose aliases lead to one another, whatever else is new.
 abbrev pub ToldAnswer : Type 0 → Type 0
 ToldAnswer A =
     (configs : List ConfigData) (before : List (Event A)) (before_results : Results A)

@@ -24,12 +24,13 @@ AnswersAfter flush s t = (name : Labels) (rtype : RType) (part : ShownData)
     → Has (parts_of (answer_of s t name rtype)) part → IsUnder part.observation.name flush.name
     → flush.stamp < part.observation.stamp
 
--- at each moment, where the flush was taken in
+-- what is answered at the name of a flush that was taken in, or below it, is stamped after the flush,
+-- at each moment
 abbrev pub TakenWithdraw : Type 0
 TakenWithdraw = (s : Observations) (flush : ObservationData) → Has s flush → flush.kind ≡ Flush
     → (t : Seconds) → AnswersAfter flush s t
 
--- the record is fresh, and where it is at the name of a flush of s or below it, the reply that has it
+-- a record is fresh, and where it is at the name of a flush of s or below it, the reply that has it
 -- came in after the flush
 pub record IsFreshAfter {A : Type 0} (m : FleetModel) (es : List (Event A)) (rs : Results A)
     (n : FleetModel) (run : Run m es rs n) (s : Observations) (t : Seconds) (x : RecordData) : Type 0
@@ -38,16 +39,20 @@ pub record IsFreshAfter {A : Type 0} (m : FleetModel) (es : List (Event A)) (rs 
     pub after : (flush : ObservationData) → Has s flush → flush.kind ≡ Flush
         → IsUnder x.name flush.name → flush.stamp < fresh.moment
 
--- so it is with each record that is read in what a site answers, where it is asked, and where a
--- datagram comes that is not from an upstream
+-- where all gossip is the fleet's own, each record that is read in what a site answers where it is
+-- asked is fresh, and came in after the flushes that the site took in at its name or above
 abbrev pub AskedAfter : Type 0 → Type 0
 AskedAfter A = WhereAsked A (λ m es rs n run a t x. IsFreshAfter m es rs n run a.site.taken t x)
 
+-- where all gossip is the fleet's own, each record that is read in what a site sends where a datagram
+-- comes that is not from an upstream is fresh, and came in after the flushes that the site took in at
+-- its name or above
 abbrev pub AnsweredAfter : Type 0 → Type 0
 AnsweredAfter A =
     WhereAnswered A (λ m es rs n run a t x. IsFreshAfter m es rs n run a.site.taken t x)
 
--- from a site's horizon on, where the site heard of it
+-- from a site's horizon on, what it answers at the name of a flush that it heard of, or below it, is
+-- stamped after the flush
 abbrev pub HeardWithdraw : Type 0 → Type 0
 HeardWithdraw A =
     (configs : List ConfigData) (events : List (Event A)) (results : Results A) (end : FleetModel)
@@ -56,7 +61,8 @@ HeardWithdraw A =
     → (flush : ObservationData) → Has a.heard flush → flush.kind ≡ Flush
     → (t : Seconds) → a.horizon ≤ t → AnswersAfter flush a.site.taken t
 
--- so it is at each site that has been reached by one that had heard of it
+-- at each site that was reached by one that had heard of a flush, from its horizon on, what it answers
+-- at the flush's name or below it is stamped after the flush
 abbrev pub ReachedWithdraw : Type 0 → Type 0
 ReachedWithdraw A =
     (configs : List ConfigData) (m n : FleetModel) (i j : ℕ) (a b : Replica)
@@ -69,7 +75,7 @@ abbrev pub WithdrawnEndFirst : Type 0
 WithdrawnEndFirst = (flush o : ObservationData) → IsObservation flush → IsObservation o
     → Voids flush o → expires o ≤ expires flush
 
--- so from its end on a flush makes no difference: nothing comes back where it is forgotten
+-- from its end on a flush makes no difference: nothing comes back where it is forgotten
 abbrev pub EndedMakeNoDifference : Type 0
 EndedMakeNoDifference = (s : Observations) (flush : ObservationData) → AreObservations (flush ∷ s)
     → flush.kind ≡ Flush → (t : Seconds) → expires flush ≤ t → (name : Labels) (rtype : RType)

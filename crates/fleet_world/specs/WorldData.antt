@@ -1,4 +1,4 @@
--- What a world has.
+-- What a world has, as contracts see it.
 -- Serves every call of `World`.
 use Rattle.std.specs.Prelude.{List}
 use Rattle.fleet_name.specs.Types.{OctetList}

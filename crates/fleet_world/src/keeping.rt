@@ -1,4 +1,4 @@
-//! Frames kept behind others.
+//! Frames that are kept, after those that were kept before.
 
 ghost use Rattle.std.specs.Prelude.{◌≡◌, ◌+◌, ◌≤◌, ◌++◌, vec_len, vec_capacity, length, IfOk, OnOk};
 ghost use Rattle.fleet_world.specs.FleetModel.{numbers_from};
@@ -6,7 +6,10 @@ ghost use Rattle.fleet_world.specs.FleetModel.{numbers_from};
 use fleet_name::Octets;
 use std::alloc::{AllocError, Allocator};
 
-/// Room for a number of frames behind the others, and the numbers that they will have.
+// Lets through: finding no memory, whatever there is: no frame of the event is kept then. The tested
+// body `keeps_no_frame_from_the_thousandth` does so; a case of `tests/run` (`test_frames`) sees it.
+/// Makes room for a number of frames after those that are kept, and gives the numbers that they will
+/// have.
 pub(crate) fn make_room<A: Allocator + Copy>(
     alloc: A,
     frames: &mut Vec<Octets<A>, A>,
@@ -25,7 +28,7 @@ pub(crate) fn make_room<A: Allocator + Copy>(
     Ok(all)
 }
 
-/// Moves frames behind the others.
+/// Moves frames to the end of those that are kept.
 pub(crate) fn append<A: Allocator>(frames: &mut Vec<Octets<A>, A>, kept: Vec<Octets<A>, A>)
     requires { vec_len frames.old + vec_len kept ≤ vec_capacity frames.old }
     ensures { frames.new.items ≡ frames.old.items ++ kept.items }

@@ -1,5 +1,5 @@
 -- The most preferred observation with a property.
--- Serves the look-ups of `Cache::answer`.
+-- Serves the look-ups of `Cache::answer`, and those of flushes for `Cache::take` and `Cache::purge`.
 use Rattle.std.specs.Prelude.{◌≡◌, Bool, true, ◌⊎◌, ◌∷◌, Option, Some, None}
 use Rattle.std.specs.declared.cmp.Ordering.TheVariants.{Greater}
 use Rattle.fleet_name.specs.Types.{Label, Labels, OctetList}
@@ -13,7 +13,7 @@ use Rattle.fleet_observe.specs.Members.{Has}
 use Rattle.fleet_observe.specs.Observation.{ObservationData, Observations}
 use Rattle.fleet_observe.specs.Preference.{preference}
 
--- o is the most preferred of those of s that have the property, if there is one
+-- o is the most preferred of those of s that have the property, or none has it
 abbrev pub IsBest : (ObservationData → Type 0) → Observations → Option ObservationData
     → Type 0
 IsBest P s None = (y : ObservationData) → Has s y → P y → ⊥

@@ -1,5 +1,5 @@
 -- What cuts the items of a name.
--- Serves the look-ups of `Cache::answer`.
+-- Serves the look-ups of `Cache::answer`, and those of flushes for `Cache::take` and `Cache::purge`.
 use Rattle.std.specs.Prelude.{◌≡◌, Bool, not, Option, Some, None}
 use Rattle.fleet_name.specs.Types.{Labels}
 use Rattle.fleet_wire.specs.Types.{Seconds}

@@ -1,6 +1,6 @@
 -- What a cache holds in memory: what it shows, and also what is not live any more and was not yet
 -- dropped.
--- Serves the map below `Cache`, and the law `keys_hold_few`.
+-- Serves the map below `Cache`, and the laws `keys_hold_few`, `memory_follows` and `memory_falls`.
 use Rattle.std.specs.Prelude.{◌≡◌, ◌+◌, ◌≤◌, Bool, false, ◌↔◌, ◌∷◌, length}
 use Rattle.std.specs.List.{filter}
 use Rattle.fleet_observe.specs.Observation.{ObservationData, AreObservations, IsNegativeKind, Observations}
@@ -13,7 +13,8 @@ pub record IsHeld (items : Observations) : Type 0 where
   pub lawful : AreObservations items
   pub front : IsFront item_order dominates items items
 
--- in memory, too, of those with one key there are 129,600 at most, and of those that deny 10,800
+-- in memory, too, what is not held any more included, of those with one key there are 129,600 at most,
+-- and of those that deny 10,800
 abbrev pub MemoryHoldsFew : Type 0
 MemoryHoldsFew = (items : Observations) (p : ObservationData) → IsHeld items
     → (length (filter (is_same_key p) items) ≤ 129600)

@@ -37,6 +37,6 @@ pub record IsOfName (kind : Kind) (items : Observations) (n : Labels)
 abbrev pub is_of : Kind → RType → ObservationData → Bool
 is_of kind rtype o = nat_eq o.rtype rtype && nat_eq (kind_number o.kind) (kind_number kind)
 
--- and the cut shows it
+-- whether an observation is of the kind and the type, and the cut shows it
 abbrev pub is_shown_of : Kind → RType → CutData → ObservationData → Bool
 is_shown_of kind rtype cut o = is_of kind rtype o && not (is_hidden cut o)

@@ -10,7 +10,7 @@ use Rattle.fleet_observe.specs.Preference.{name_cmp}
 abbrev pub is_before : ObservationData → ObservationData → Bool
 is_before x y = is_lt (name_cmp x.name y.name)
 
--- x among items, and the rest behind it, which is merged with the items that are left
+-- x among items, and the rest after it, which is merged with the items that are left
 abbrev pub merged_from : ObservationData → (Observations → Observations) → Observations
     → Observations
 merged_from x rest [] = x ∷ rest []

@@ -8,12 +8,12 @@ use Rattle.fleet_observe.specs.declared.observation.kind.Kind.{Kind}
 use Rattle.fleet_observe.specs.declared.observation.kind.Kind.TheVariants.{NameError, Flush}
 use Rattle.fleet_observe.specs.Observation.{ObservationData, Observations}
 
--- the lengths that were noted, and a number that is at most each of them
+-- the lengths of names in full, in octets, that were noted, and a number that is at most each of them
 pub record NotedData : Type 0 where
   pub lengths : List Bool
   pub least : ℕ
 
--- this length was noted
+-- the length of a name was noted
 pub record IsNoted (noted : NotedData) (size : ℕ) : Type 0 where
   pub marked : get_or noted.lengths size false ≡ true
   pub within : noted.least ≤ size

@@ -25,13 +25,14 @@ use Rattle.fleet_cache.specs.Cut.{CutData, is_flushed, is_hidden}
 use Rattle.fleet_cache.specs.Dominates.{dominates, is_same_key}
 use Rattle.fleet_cache.specs.steps.Row.{row}
 
--- what dominance says
+-- what dominance says, part by part
 pub record Over (p o : ObservationData) : Type 0 where
   pub same_key : key_of p ≡ key_of o
   pub preferred : preference p o ≡ Greater
   pub outlives : nat_le (expires o) (expires p) ≡ true
   pub later : nat_le o.stamp p.stamp ≡ true
 
+-- dominance, taken apart
 pub over_from : (p o : ObservationData) → dominates p o ≡ true → Over p o
 over_from p o e =
     let a =
@@ -47,6 +48,7 @@ over_from p o e =
       later = d.1;
     }
 
+-- dominance, from its parts
 pub over_to : (p o : ObservationData) → Over p o → dominates p o ≡ true
 over_to p o over =
     let same : octets_cmp (key_of p) (key_of o) ≡ Equal =
@@ -55,6 +57,7 @@ over_to p o over =
     and_from _ _ (ap is_eq same)
     (and_from _ _ (ap is_gt over.preferred) (and_from _ _ over.outlives over.later))
 
+-- what dominates one observation dominates what that dominates
 pub over_chain : (x y z : ObservationData) → dominates x y ≡ true → dominates y z ≡ true
     → dominates x z ≡ true
 over_chain x y z e f =
@@ -67,16 +70,19 @@ over_chain x y z e f =
       later = grind (arith, nat_tests, a.later, b.later);
     })
 
+-- where one has ended, so has what it dominates
 pub ended_below : (t : Seconds) (x y : ObservationData) → has_ended t x ≡ true → dominates x y ≡ true
     → has_ended t y ≡ true
 ended_below t x y e f = let a = over_from x y f in grind (arith, nat_tests, a.outlives, e)
 
+-- the order of a name is total
 pub row_total : IsTotalOrder row
 row_total =
     then_total (on_total (λ (x : ObservationData). kind_number x.kind) (back_total nat_cmp_total))
     (then_total (on_total (λ (x : ObservationData). x.rtype) (back_total nat_cmp_total))
     preference_total)
 
+-- only equal observations are equal in the order of a name
 pub row_exact : (x y : ObservationData) → row x y ≡ Equal → x ≡ y
 row_exact x y e =
     let a = then_parts (nat_cmp (kind_number y.kind) (kind_number x.kind)) _ e in
@@ -115,7 +121,7 @@ flushed_below (Some stamp) x y e f =
     and_from _ _ (ap (λ k. not (is_flush k)) (sym (same_kind x y f)) ∙ p.0)
     (grind (arith, nat_tests, later, p.1))
 
--- what a cut hides, it hides of all that this dominates
+-- what a cut hides, it hides with all that this dominates
 pub hidden_below : (c : CutData) (x y : ObservationData) → is_hidden c x ≡ true
     → dominates x y ≡ true → is_hidden c y ≡ true
 hidden_below c x y e f =
@@ -124,6 +130,7 @@ hidden_below c x y e f =
       | inr end ↦ or_right _ _ (ended_below c.moment x y end f)
     ]
 
+-- the laws of a ranked type, which `fleet_front` asks for
 pub cut_laws : RankedLaws row dominates is_hidden
 cut_laws = record {
   total = row_total;

@@ -1,6 +1,7 @@
--- The octets of a name, `WORD_OCTETS` to a word, zero behind the end, so that the words
--- of names compare as the octets do. A short name has just `SHORT_WORDS`.
--- Serves the keys of the maps below `Cache`.
+-- The octets of a name, `WORD_OCTETS` to a word, zero after the end, so that the words of names compare
+-- as the octets do. A short name has just `SHORT_WORDS`.
+-- Serves the keys of the maps below `Cache`, and where rounds of takes stand in them (`memory_follows`,
+-- `memory_falls`).
 use Rattle.std.specs.Prelude.{◌≡◌, ℕ, zero, suc, ◌+◌, ◌-◌, ◌*◌, ◌<◌, List, [], ◌∷◌, drop, length}
 use Rattle.std.specs.List.{AllByRecursion}
 use Rattle.fleet_name.specs.Types.{Labels}
@@ -16,7 +17,7 @@ weigh [] octets = 0
 weigh (w ∷ ws) [] = 0
 weigh (w ∷ ws) (x ∷ octets) = x * w + weigh ws octets
 
--- this many words at most
+-- the words of octets, this many at most
 abbrev pub octet_words_within : ℕ → List ℕ → List ℕ
 octet_words_within zero octets = []
 octet_words_within (suc k) [] = []
@@ -29,7 +30,8 @@ octet_words_from zero k octets = octet_words_within k octets
 octet_words_from (suc n) k octets =
     weigh WEIGHTS octets ∷ octet_words_from n k (drop WORD_OCTETS octets)
 
--- the octets of a name as words
+-- the octets of a name as words: `SHORT_WORDS` of them, or as many more as the octets need, up to
+-- `MOST_WORDS`
 unfoldable pub octet_words : List ℕ → List ℕ
 octet_words octets = octet_words_from SHORT_WORDS (MOST_WORDS - SHORT_WORDS) octets
 

@@ -1,5 +1,6 @@
 -- What reclaiming does to what is held.
--- Serves `Cache::purge` and `Cache::take`, where they free memory.
+-- Serves `Cache::purge` and `Cache::take`, where they free memory, and the laws `memory_follows` and
+-- `memory_falls`.
 use Rattle.std.specs.Prelude.{◌≡◌, ◌⊎◌, ℕ, Bool, true, false, not, if◌then◌else◌, nat_eq, nat_lt, List, [], ◌∷◌, ◌<◌, ◌≤◌, length}
 use Rattle.std.specs.declared.cmp.Ordering.TheVariants.{Less}
 use Rattle.std.specs.List.{filter}
@@ -64,17 +65,17 @@ pub record StaysIn (items : Observations) (m : Seconds) (flushes : Bool) (soones
   pub live : flushes ≡ true → is_live items m o ≡ true
   pub not_before : soonest ≤ expires o
 
--- Each item of the names after `from` and before `to` is as is said. Where `to` has no words, so is
+-- Each item of the names after `from` and before `to` is such a one. Where `to` has no words, so is
 -- each item of all names after `from`.
 abbrev pub IsPassed : (ObservationData → Type 0) → Observations → List ℕ → List ℕ → Type 0
 IsPassed IsSuch items from to = (o : ObservationData) → Has items o → ComesBefore from (words_of o)
     → (to ≡ []) ⊎ ComesBefore (words_of o) to → IsSuch o
 
--- each item of the name with these words is as is said
+-- each item of the name with these words is such a one
 abbrev pub IsPassedAt : (ObservationData → Type 0) → Observations → List ℕ → Type 0
 IsPassedAt IsSuch items words = (o : ObservationData) → Has items o → words_of o ≡ words → IsSuch o
 
--- it is back at the start, or at a name after `from`
+-- a cursor at `to` is back at the start, or at a name after `from` that has items
 abbrev pub StopsAfter : Observations → List ℕ → List ℕ → Type 0
 StopsAfter items from to = (to ≡ [])
     ⊎ ((o : ObservationData) × Has items o × (words_of o ≡ to) × ComesBefore from to)

@@ -24,9 +24,9 @@ is_ahead at o = is_lt (octets_cmp (turn at) (turn (words_of o)))
 abbrev pub may_stay : Seconds → List ℕ → ObservationData → Bool
 may_stay floor at o = lasts floor o || not (is_ahead at o)
 
--- A round stands at the key with the words `at`, and owes `left` looks. It began with at most `begun` in
--- memory, and some `kept` came in since. At no time since did more than `most` observations in memory last
--- beyond the floor.
+-- A round stands at the key with the words `at`, and owes `left` looks. It began with at most `begun`
+-- in memory, and some `kept` came in since. At no time since did more than `most` observations in
+-- memory last beyond the floor. The numbers here and below follow from `PACE` and `BATCH` of round.rt.
 pub record IsRound (most begun : ℕ) (floor : Seconds) (items : Observations) (at : List ℕ) (left : ℕ)
     : Type 0 where
   pub kept : ℕ
@@ -35,7 +35,7 @@ pub record IsRound (most begun : ℕ) (floor : Seconds) (items : Observations) (
   pub paid : 3 * kept ≤ begun + 34
   pub all : length items ≤ begun + kept
 
--- such a round, which owes fewer looks than are made at a time
+-- a round as `IsRound` says, which owes fewer looks than are made at a time
 abbrev pub IsBounded : ℕ → ℕ → Seconds → Observations → List ℕ → ℕ → Type 0
 IsBounded most begun floor items at owed = IsRound most begun floor items at owed × (owed < 32)
 
@@ -56,13 +56,14 @@ pub record MemoryData : Type 0 where
 abbrev pub new_memory : MemoryData
 new_memory = record { floor = 0; items = []; at = []; owed = 0 }
 
--- a call keeps to each bound that is wide enough for what lasts behind it, and a round that ends leaves few
+-- a call, as each take does, keeps to each bound that is wide enough for what lasts after it, and where
+-- a round ends few are left
 abbrev pub KeepsBounds : MemoryData → MemoryData → Type 0
 KeepsBounds m n = (most begun : ℕ) → 3 * most + 34 ≤ 2 * begun
     → IsBounded most begun m.floor m.items m.at m.owed → count (lasts n.floor) n.items ≤ most
     → IsBounded most begun n.floor n.items n.at n.owed × LeavesFew most begun m.at n.items n.at
 
--- a purge raised the floor, and dropped nothing that lives behind it
+-- a purge raised the floor, and dropped nothing that is live at the new one
 pub record IsPurged (m n : MemoryData) : Type 0 where
   pub floor : m.floor ≤ n.floor
   pub reclaimed : IsReclaimed n.floor m.items n.items
@@ -70,28 +71,29 @@ pub record IsPurged (m n : MemoryData) : Type 0 where
   pub stands : n.at ≡ m.at
   pub owes : n.owed ≡ m.owed
 
--- the memories behind calls, one after another: takes, purges, and those that drop all
+-- the memories after calls, one after another: takes, purges, and those that drop all
 abbrev pub AreBehindCalls : MemoryData → List MemoryData → Type 0
 AreBehindCalls m [] = Unit {0}
 AreBehindCalls m (n ∷ ns) =
     (KeepsBounds m n ⊎ (IsPurged m n ⊎ (n ≡ new_memory))) × AreBehindCalls n ns
 
--- After any calls, from a new memory on: if behind each at most `most` observations in memory had not
+-- After any calls, from a new memory on: if after each at most `most` observations in memory had not
 -- ended, there are at most twice as many in memory, and 33.
 abbrev pub MemoryFollows : Type 0
 MemoryFollows = (ns : List MemoryData) (most : ℕ) → AreBehindCalls new_memory ns
     → ((n : MemoryData) → Has ns n → count (lasts n.floor) n.items ≤ most)
     → (n : MemoryData) → Has ns n → length n.items ≤ 2 * most + 33
 
--- the second of these memories is the next one behind the first in a list
+-- the second of these memories is the next one after the first in a list
 abbrev pub AreNext : List MemoryData → MemoryData → MemoryData → Type 0
 AreNext [] k n = ⊥
 AreNext (x ∷ []) k n = ⊥
 AreNext (x ∷ y ∷ xs) k n = ((x ≡ k) × (y ≡ n)) ⊎ AreNext (y ∷ xs) k n
 
--- From a memory whose round is at its start on: where at most `most` observations in memory have not ended
--- then and behind each call, memory never grows by more than a third and eleven, or beyond the bound of
--- `most`; and a round that went over all of it leaves at most `most`, a third of what there was, and eleven.
+-- From a memory whose round is at its start on: where at most `most` observations in memory have not
+-- ended then and after each call, memory never grows by more than a third and eleven, or beyond the
+-- bound of `most`; and a round that went over all of it leaves at most `most`, a third of what there
+-- was, and eleven.
 abbrev pub MemoryFalls : Type 0
 MemoryFalls = (m : MemoryData) (ns : List MemoryData) (most begun : ℕ) → m.at ≡ [] → m.owed < 32
     → AreBehindCalls m ns

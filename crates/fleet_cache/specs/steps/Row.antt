@@ -9,20 +9,21 @@ use Rattle.fleet_observe.specs.declared.observation.lent.LentObservation.{LentOb
 use Rattle.fleet_observe.specs.Observation.{ObservationData, Observations, kind_number}
 use Rattle.fleet_observe.specs.Preference.{preference}
 
--- by kind, then type, and the preferred first within both: what is greater comes first
+-- the order of what is held of a name: by kind, then type, and the preferred first within both; what is
+-- greater comes first
 abbrev pub row : ObservationData → ObservationData → Ordering
 row x y =
     ordering_then (nat_cmp (kind_number y.kind) (kind_number x.kind))
     (ordering_then (nat_cmp y.rtype x.rtype) (preference x y))
 
--- the same up to the stamp: by kind, type, rank and stamp
+-- the order of a name up to the stamp: by kind, type, rank and stamp
 abbrev pub stamp_row : ObservationData → ObservationData → Ordering
 stamp_row x y =
     ordering_then (nat_cmp (kind_number y.kind) (kind_number x.kind))
     (ordering_then (nat_cmp y.rtype x.rtype)
     (ordering_then (nat_cmp x.rank y.rank) (nat_cmp x.stamp y.stamp)))
 
--- how an observation compares in it with what is lent
+-- how an observation compares with what is lent, in the order of a name up to the stamp
 abbrev pub lent_row : ObservationData → LentObservation → Ordering
 lent_row o lent =
     ordering_then (nat_cmp (kind_number lent.kind) (kind_number o.kind))

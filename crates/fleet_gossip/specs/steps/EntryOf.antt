@@ -1,5 +1,5 @@
 -- The observation of an entry that was read.
--- Serves `decode`: the reader of an entry.
+-- Serves the readers of an entry in `decode` and `take_frame`.
 use Rattle.std.specs.Prelude.{◌≡◌}
 use Rattle.fleet_name.specs.Name.{wire}
 use Rattle.fleet_observe.specs.Observation.{ObservationData, IsObservation}

@@ -1,5 +1,5 @@
--- What the steps of reading find.
--- Serves the readers of `decode`.
+-- What the steps of reading find, and how long a frame is.
+-- Serves the readers of `decode` and `take_frame`, and `encode`.
 use Rattle.std.specs.Prelude.{◌≡◌, ℕ, ◌<◌, ◌≤◌, List, [], ◌∷◌, ◌++◌, length}
 use Rattle.fleet_observe.specs.declared.observation.kind.Kind.{Kind}
 use Rattle.std.specs.declared.cmp.Ordering.TheVariants.{Less}
@@ -28,14 +28,15 @@ pub record IsField (spelled : ℕ → OctetList) (Lawful : ℕ → Type 0) (octe
   pub whole : octets ≡ spelled number ++ rest
   pub lawful : Lawful number
 
+-- nothing follows that could fail
 abbrev pub Nothing : ℕ → OctetList → FrameFault → Type 0
 Nothing number rest f = ⊥
 
--- no such number is there, by its own fault
+-- no such number is there, by its own fault: it is cut off or refused
 abbrev pub NoField : (ℕ → OctetList) → ℕ → (ℕ → Type 0) → FrameFault → OctetList → FrameFault → Type 0
 NoField spelled size Lawful refusal = FieldFails spelled size Lawful refusal Nothing
 
--- octets are missing
+-- fewer than `size` octets are left
 abbrev pub AreMissing : ℕ → OctetList → FrameFault → Type 0
 AreMissing size octets f = (length octets < size) × (f ≡ Truncated)
 
@@ -81,6 +82,7 @@ pub record IsSizeOf (Lawful : OctetList → Type 0) (octets : OctetList) (size :
   pub is : IsPart Lawful octets part rest
   pub counted : size ≡ length part
 
+-- each RDATA is lawful: none is refused
 abbrev pub AnyRdata : OctetList → Type 0
 AnyRdata rdata = Unit {0}
 
@@ -91,12 +93,12 @@ pub record IsOwnerOf (name : Labels) (octets : OctetList) : Type 0 where
   pub under : IsUnder name owner
   pub whole : octets ≡ wire owner
 
--- it is greater than the last of them, if there is one
+-- an RDATA is greater than the last of others, if there is one
 abbrev pub ComesAfterLast : List OctetList → OctetList → Type 0
 ComesAfterLast rdatas rdata = (before : List OctetList) (last : OctetList) → rdatas ≡ before ++ last ∷ []
     → slice_cmp nat_cmp last rdata ≡ Less
 
--- the last of them is this one
+-- the last of some RDATAs is this one
 abbrev pub HasLast : List OctetList → OctetList → Type 0
 HasLast rdatas last = (before : List OctetList) × (rdatas ≡ before ++ last ∷ [])
 

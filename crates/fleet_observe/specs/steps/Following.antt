@@ -15,12 +15,12 @@ use Rattle.fleet_observe.specs.declared.reply.walk.Step.{Step}
 use Rattle.fleet_observe.specs.declared.reply.walk.Step.TheVariants.{Records, Alias, Bare, Fork}
 use Rattle.fleet_observe.specs.Walk.{GoesOn, EndsFound, EndsBare, Ends, last, IsWalk, AreLinks}
 
--- r is a record of the RRset
+-- r is a record of the RRset at name n and type t
 pub record IsOf (s : List RecordData) (n : Labels) (t : RType) (r : RecordData) : Type 0 where
   pub member : Has s r
   pub is_of_rrset : IsOfRrSet n t r
 
--- what is found of an RRset
+-- what is found of the RRset at name n and type t: no RDATA, one, or several
 abbrev pub IsFound : {A : Type 0} → List RecordData → Labels → RType → Found A → Type 0
 IsFound s n t Nothing = IsEmpty s n t
 IsFound s n t (One r) = IsOf s n t r.now × IsOnly s n t r.now.rdata

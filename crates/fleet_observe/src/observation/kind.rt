@@ -18,7 +18,7 @@ pub enum Kind {
 impl Kind {
     ghost use Rattle.fleet_observe.specs.Observation.{kind_number};
 
-    /// Its number in keys and frames.
+    /// The number of the kind in keys and frames.
     pub fn number(self) -> u8
         ensures { result ≡ kind_number self }
     {

@@ -33,7 +33,7 @@ pub struct LentObservation<'a> {
     pub body: &'a [u8],
 }
 
-/// The octets behind a part, where they begin with it.
+/// The octets after a part, where they begin with it.
 fn behind<'a>(octets: &'a [u8], part: &[u8]) -> Option<&'a [u8]>
     ensures { MatchOption result ((rest : OctetList) → octets.now ≢ part.now ++ rest)
         (λ rest. octets.now ≡ part.now ++ rest.now) }
@@ -41,7 +41,7 @@ fn behind<'a>(octets: &'a [u8], part: &[u8]) -> Option<&'a [u8]>
     octets.strip_prefix(part)
 }
 
-/// The octets behind a number of two octets, where they begin with it.
+/// The octets after a number of two octets, where they begin with it.
 fn behind_u16(octets: &[u8], number: usize) -> Option<&[u8]>
     requires { number < 65536 }
     ensures { MatchOption result ((rest : OctetList) → octets.now ≢ u16_octets number ++ rest)
@@ -50,7 +50,7 @@ fn behind_u16(octets: &[u8], number: usize) -> Option<&[u8]>
     behind(octets, &(number as u16).to_be_bytes())
 }
 
-/// The octets behind a part after its length, where they begin with both.
+/// The octets after a part with its length before it, where they begin with both.
 fn behind_sized<'a>(octets: &'a [u8], part: &[u8]) -> Option<&'a [u8]>
     requires { length part.now < 65536 }
     ensures { MatchOption result

@@ -37,7 +37,7 @@ impl Moment {
         Some(Moment { seconds })
     }
 
-    /// Its seconds.
+    /// The seconds of the moment, at most `LATEST`.
     pub fn value(self) -> u64
         ensures value { result ≡ self }
         ensures bounded { result ≤ LATEST }

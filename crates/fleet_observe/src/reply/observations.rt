@@ -230,9 +230,9 @@ fn put_ns<A: Allocator + Copy>(
     Ok(())
 }
 
-/// The observations of a reply at a moment, in this order: the links, the records or the denial
-/// with its SOA, the NS RRsets. Left out are those with a TTL of zero, RRsets whose body has more
-/// than `LONGEST_BODY` octets, and a denial without SOA. Where there are none, this allocates
+/// The observations of a reply at a moment, each once, in this order: the links, the records or the
+/// denial with its SOA, the NS RRsets. Left out are those with a TTL of zero, RRsets whose body has
+/// more than `LONGEST_BODY` octets, and a denial without SOA. Where there are none, this allocates
 /// nothing. `Err` where an allocation fails.
 pub fn observations<A: Allocator + Copy>(
     alloc: A,

@@ -24,9 +24,9 @@ pub struct Rows<'a, A: Allocator = Global> {
     pub rdatas: &'a [Octets<A>],
 }
 
-/// Adds records at the end of the answer section of a reply, in the order of their RDATAs: a link
-/// of a chain, or the records that it leads to. `Err` where an allocation fails; a number of the
-/// first ones, not all, has then been added, and nothing else is changed.
+/// Adds records at the end of the answer section of a reply, one for each RDATA in their order: a
+/// link of a chain, or the records that it leads to. `Err` where an allocation fails; a number of
+/// the first ones, not all, has then been added, and nothing else is changed.
 pub fn add_rows<'a, A: Allocator + Copy>(
     outline: &mut Outline<'a, A>,
     rows: Rows<'a, A>,

@@ -43,7 +43,7 @@ impl<A: Allocator> Model for RrSet<A> {
 }
 
 impl<A: Allocator> RrSet<A> {
-    /// Its records, borrowed, as a reply has them.
+    /// The records of the RRset, lent, as a reply has them.
     pub fn rows(&self) -> Rows<A>
         ensures { rrset_of_rows result ≡ self.now }
     {
@@ -111,7 +111,7 @@ fn holds<A: Allocator>(rdatas: &[Octets<A>], rdata: &[u8]) -> bool
     false
 }
 
-/// The index at which an RDATA is inserted: how many at the front are less.
+/// The index at which an RDATA is inserted: how many at the beginning are less.
 fn insertion_index<A: Allocator>(rdatas: &[Octets<A>], rdata: &[u8]) -> usize
     ensures count { result ≡ count_below rdata.now rdatas.now }
     ensures within { result ≤ length rdatas.now }

@@ -23,7 +23,9 @@ use std::alloc::{AllocError, Allocator, Global};
 use std::marker::Model;
 
 /// What a reply means: the links of the walk from the question's name along aliases, how it ends,
-/// and the NS RRsets that it is an authority for. `digest` alone makes one.
+/// and the NS RRsets that it is an authority for. `digest` alone makes one. It has at most
+/// `MOST_LINKS` links, its RRsets are lawful, and the SOA of a denial is owned by the denied name
+/// or an ancestor of it.
 #[derive(Drop)]
 pub struct Digest<A: Allocator = Global> {
     name: Name<A>,

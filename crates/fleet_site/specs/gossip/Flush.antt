@@ -9,7 +9,8 @@ use Rattle.fleet_pending.specs.PendingData.{PendingData}
 use Rattle.fleet_site.specs.OutcomeData.{nothing}
 use Rattle.fleet_site.specs.SiteModel.{Effect}
 
--- the flush of the name at the moment is taken, and goes out as its frame
+-- what a site does to withdraw a name: it takes the name's flush, stamped with the moment, and sends
+-- its frame
 abbrev pub Flushed : PendingData → Labels → Seconds → Effect → Type 0
 Flushed o name t d = (frames : List OctetList) × IsPacked (flush_at name t ∷ []) frames
     × (d ≡ record {

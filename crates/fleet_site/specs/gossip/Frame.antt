@@ -1,5 +1,5 @@
 -- What a site does with a frame.
--- Serves `Site::frame`.
+-- Serves `Site::frame`, `Site::datagram`, `Site::datagram_into`.
 use Rattle.std.specs.Prelude.{◌≡◌}
 use Rattle.fleet_name.specs.Types.{OctetList}
 use Rattle.fleet_observe.specs.Observation.{Observations}
@@ -15,7 +15,8 @@ use Rattle.fleet_site.specs.declared.outcome.Refusal.TheVariants.{Frame}
 abbrev pub HasFrame : OctetList → Type 0
 HasFrame octets = (list : Observations) × SpellsFrame octets list
 
--- its observations are taken
+-- what a site does with octets that come as a frame: they are refused whole for their first fault, or
+-- their observations are taken; these are not sent on before the next sweep
 abbrev pub Framed : PendingData → OctetList → Effect → Type 0
 Framed o octets d =
     when ¬ HasFrame octets

@@ -7,15 +7,16 @@ use Rattle.fleet_site.specs.SiteModel.{SiteModel, with_taken, StopsAt}
 use Rattle.fleet_site.specs.declared.outcome.SiteFault.{SiteFault}
 use Rattle.fleet_site.specs.declared.outcome.SiteFault.TheVariants.{OutOfMemory}
 
--- all that it took is taken, the floor rises to its floor, and the clock to the new floor
+-- the model after a merge: all that the other one took is taken, the floor rises to its floor, and the
+-- clock to the new floor
 abbrev pub after_merge : SiteModel → SiteModel → SiteModel
 after_merge from s = record (with_taken from.taken s) {
   floor = max s.floor from.floor;
   clock = max s.clock (max s.floor from.floor);
 }
 
--- the items of the other one are given in their order, and counted; it is done whole, or stopped
--- after the first of them
+-- a merge of two sites: the items of the other one are given in their order, and counted. It is done
+-- whole, or stopped after the first of them; then floor and clock stay
 abbrev pub Merges : SiteModel → SiteModel → Result ℕ SiteFault → SiteModel → Type 0
 Merges m from (Ok count) n = (items : Observations) × IsCached from.taken from.floor items
     × (count ≡ length items) × (n ≡ after_merge from m)

@@ -7,7 +7,7 @@ use Rattle.fleet_cache.specs.Cached.{IsCached}
 use Rattle.fleet_gossip.specs.Packed.{IsPacked}
 use Rattle.fleet_site.specs.SiteModel.{SiteModel}
 
--- the frames of its items, in their order
+-- the frames of all that a site holds: of its items, packed in their order
 pub record IsSweep (m : SiteModel) (frames : List OctetList) : Type 0 where
   pub items : Observations
   pub cached : IsCached m.taken m.floor items

@@ -1,5 +1,5 @@
 -- What looking an answer up gives.
--- Serves `Site::ask`.
+-- Serves `Site::ask`, `World::ask`.
 use Rattle.std.specs.Prelude.{◌≡◌}
 use Rattle.fleet_name.specs.Types.{OctetList}
 use Rattle.fleet_site.specs.SiteModel.{SiteModel}
@@ -7,7 +7,7 @@ use Rattle.fleet_site.specs.question.Verdict.{Verdict, Silence, Answer, Unreadab
 use Rattle.fleet_site.specs.declared.looked.Looked.{Looked}
 use Rattle.fleet_site.specs.declared.looked.Looked.TheVariants.{Reply, Miss, Dropped}
 
--- this is shown where this was decided
+-- what asking gives where this was decided
 abbrev pub Shows : {A : Type 0} → Verdict → Looked A → Type 0
 Shows Silence Dropped = Unit {0}
 Shows (Answer octets) (Reply bytes) = bytes ≡ octets
@@ -15,6 +15,6 @@ Shows (Unreadable octets f) (Reply bytes) = bytes ≡ octets
 Shows (Unknown h q) Miss = Unit {0}
 Shows _ _ = ⊥
 
--- what a site answers to octets, whatever waits for an upstream
+-- what asking a site gives, whatever waits for an upstream
 abbrev pub Looks : {A : Type 0} → SiteModel → OctetList → Looked A → Type 0
 Looks s octets looked = (v : Verdict) × Decides s.taken s.clock octets v × Shows v looked

@@ -1,4 +1,4 @@
--- What a site does with a question.
+-- What a site does with a question: it answers, turns it away, or asks an upstream.
 -- Serves `Site::datagram`, `Site::datagram_into`.
 use Rattle.std.specs.Prelude.{◌≡◌, ◌≢◌, ◌⊎◌, ℕ, List, Some, false, Result, Ok, Err}
 use Rattle.fleet_name.specs.Types.{OctetList}
@@ -24,11 +24,12 @@ use Rattle.fleet_site.specs.SiteModel.{Effect, says_only, refuses}
 use Rattle.fleet_site.specs.question.Verdict.{Verdict, Silence, Answer, Unreadable, Unknown, Decides}
 use Rattle.fleet_site.specs.declared.outcome.Refusal.TheVariants.{Read, Full, Dropped}
 
--- who waits for the answer to a question
+-- one who waits for the answer to a question: address, identifier, and the question as it is spelled
 abbrev pub waiter : Addr → Header → QuestionData → WaiterData
 waiter from h q = record { from = from; id = h.id; question = q }
 
--- the question is turned away
+-- the question is turned away: a server failure with it (RCODE 2, RFC 1035 4.1.1), and the refusal
+-- `Full`
 abbrev pub turns_away : Addr → Header → QuestionData → OutcomeData
 turns_away from h q = record (sends from (bare_octets h SERVER_FAILURE (Some q)))
     { refused = Some Full }
@@ -45,7 +46,7 @@ pub data Forwarded (upstreams : List Addr) (from : Addr) (h : Header) (q : Quest
   is_turned_away : (f : PendingFault) → f ≢ OutOfMemory → answer ≡ Err f → e ≡ turns_away from h q
       → Forwarded upstreams from h q answer e
 
--- the question goes to the table of open questions
+-- the question goes to the table of open questions, and what is said depends on the table's answer
 pub record Forwards (upstreams : List Addr) (o : PendingData) (t : Seconds) (from : Addr) (word : ℕ)
     (h : Header) (q : QuestionData) (d : Effect) : Type 0 where
   pub answer : Result Opened PendingFault
@@ -53,8 +54,9 @@ pub record Forwards (upstreams : List Addr) (o : PendingData) (t : Seconds) (fro
   pub says : Forwarded upstreams from h q answer d.says
   pub brings : d ≡ says_only d.says d.asking
 
--- what is done where this was decided: a question that nothing known answers is refused where
--- recursion is not wanted
+-- what a site does with a question where this was decided. Where nothing known answers it, it is
+-- refused if recursion is not wanted (RD clear, RCODE 5, RFC 1035 4.1.1), and else goes to the table of
+-- open questions
 abbrev pub Reacts : List Addr → PendingData → Seconds → Addr → ℕ → Verdict → Effect → Type 0
 Reacts upstreams o t from word Silence d = d ≡ refuses Dropped o
 Reacts upstreams o t from word (Answer octets) d = d ≡ says_only (sends from octets) o
@@ -64,7 +66,7 @@ Reacts upstreams o t from word (Unknown h q) d =
     when h.rd ≡ false then d ≡ says_only (sends from (bare_octets h REFUSED (Some q))) o otherwise
     Forwards upstreams o t from word h q d
 
--- octets from an address that is no upstream's and no peer's
+-- what a site does with octets from an address that is no upstream's and no peer's
 abbrev pub Questioned : Observations → List Addr → PendingData → Seconds → Addr → ℕ → OctetList
     → Effect → Type 0
 Questioned taken upstreams o t from word octets d =

@@ -17,8 +17,8 @@ use Rattle.fleet_site.specs.question.AnswerRecords.{bare_octets, Writes}
 use Rattle.fleet_site.specs.declared.verdict.Decision.{Decision}
 use Rattle.fleet_site.specs.declared.verdict.Decision.TheVariants.{Dropped, Reply, Unread, Miss}
 
--- no reply; a reply; one that says that they can't be read, for this fault; or nothing that is
--- known answers the question
+-- what is decided of octets: no reply; a reply; one that says that they can't be read, for this fault;
+-- or nothing that is known answers the question
 pub data Verdict : Type 0 where
   Silence : Verdict
   Answer : OctetList → Verdict
@@ -30,12 +30,13 @@ pub record IsServedQuestion (q : QuestionData) : Type 0 where
   pub class : q.class ≡ IN
   pub typed : IsDataType q.rtype
 
--- octets with the header of a question
+-- octets with the header of a question: 12 octets or more, and QR is clear (RFC 1035 4.1.1)
 pub record IsAsking (octets : OctetList) : Type 0 where
   pub long : 12 ≤ length octets
   pub question : ¬ IsTrue (header_of octets).response
 
--- by what the set answers
+-- what is decided of a question by what the set answers: its reply, or nothing that is known where it
+-- is missed
 abbrev pub DecidesAnswer : Header → QuestionData → AnswerData → Verdict → Type 0
 DecidesAnswer h q Missed v = v ≡ Unknown h q
 DecidesAnswer h q (Found chain set) v =
@@ -45,14 +46,16 @@ DecidesAnswer h q (NoData chain soa) v =
 DecidesAnswer h q (NxDomain chain soa) v =
     (octets : OctetList) × Writes h q (NxDomain chain soa) octets × (v ≡ Answer octets)
 
--- a question that was read
+-- what is decided of a question that was read: not implemented (RCODE 4, RFC 1035 4.1.1) where it is
+-- not served, else by what the set answers at the moment
 abbrev pub DecidesQuestion : Observations → Seconds → Header → QuestionData → Verdict → Type 0
 DecidesQuestion s t h q v =
     when ¬ IsServedQuestion q then v ≡ Answer (bare_octets h NOT_IMPLEMENTED (Some q)) otherwise
     DecidesAnswer h q (answer_of s t q.name q.rtype) v
 
--- What is made of octets, the first that fits: under 12 octets or a reply, silence; another Opcode
--- than 0, not implemented; no query, a format error; else it is decided by the question.
+-- What a site makes of octets that are asked, before it looks at open questions. The first that fits
+-- (RFC 1035 4.1.1): under 12 octets or a reply, silence; another Opcode than 0, not implemented (RCODE
+-- 4); no query, a format error (RCODE 1); else it is decided by the question.
 abbrev pub Decides : Observations → Seconds → OctetList → Verdict → Type 0
 Decides s t octets v =
     when length octets < 12 then v ≡ Silence otherwise
@@ -76,7 +79,7 @@ pub record IsPlainQuestion (octets : OctetList) (h : Header) (q : QuestionData) 
   pub standard : IsStandardQuery h
   pub served : IsServedQuestion q
 
--- octets that are such a question, which the set answers at the moment
+-- octets that are a standard query in full and in lower case, which the set answers at the moment
 pub record IsPlainHit (s : Observations) (t : Seconds) (octets : OctetList) : Type 0 where
   pub header : Header
   pub question : QuestionData
@@ -85,6 +88,7 @@ pub record IsPlainHit (s : Observations) (t : Seconds) (octets : OctetList) : Ty
 
 -- What follows, private contracts alone cite.
 
+-- a decision of the code as a verdict
 abbrev pub verdict : {A : Type 0} → Decision A → Verdict
 verdict Dropped = Silence
 verdict (Reply octets) = Answer octets

@@ -1,5 +1,5 @@
 -- A reply that was read, and what it means.
--- Serves `Site::datagram`, `Site::learn`.
+-- Serves `Site::datagram`, `Site::datagram_into`, `Site::learn`.
 use Rattle.std.specs.Prelude.{◌≡◌}
 use Rattle.fleet_name.specs.Types.{OctetList}
 use Rattle.fleet_wire.specs.Message.{MessageData, IsReply, HasReply, ReplyFails}
@@ -12,7 +12,8 @@ use Rattle.fleet_site.specs.Choice.{when◌then◌otherwise◌}
 use Rattle.fleet_site.specs.SiteModel.{Effect, refuses}
 use Rattle.fleet_site.specs.declared.outcome.Refusal.TheVariants.{Read, Digest}
 
--- there is no walk where one is asked for
+-- the reply has no walk where it asks for one: its aliases fork or loop, or are more than MOST_LINKS
+-- (RFC 1034 3.6.2)
 abbrev pub HasBadChain : MessageData → Type 0
 HasBadChain r = AsksWalk r × (¬ IsWalkable r)
 
@@ -23,8 +24,9 @@ ReadThen o octets d Then =
     then ((f : ReadFault) × ReplyFails octets f × (d ≡ refuses (Read f) o)) otherwise
     ((r : MessageData) × IsReply octets r × Then r)
 
--- it is no reply to a question that is served, or it has a bad chain of aliases, or what follows
--- holds of its digest
+-- it is no reply to a question that is served, or it has a bad chain of aliases, or what follows holds
+-- of its digest. The two refusals are those of `IsFault` of `fleet_observe`; nothing is taken with
+-- them, and a question that is open stays so
 abbrev pub DigestedThen : PendingData → MessageData → Effect → (DigestData → Type 0) → Type 0
 DigestedThen o r d Then =
     when ¬ IsServed r then d ≡ refuses (Digest NotReply) o otherwise

@@ -8,7 +8,8 @@ use Rattle.fleet_pending.specs.PendingData.{PendingData}
 use Rattle.fleet_site.specs.SiteModel.{Effect, takes}
 use Rattle.fleet_site.specs.reply.Digested.{ReadThen, DigestedThen}
 
--- its observations are taken; it matches nothing and sends nothing
+-- what a site does with a reply that it is handed: its observations are taken; it matches no open
+-- question and sends nothing
 abbrev pub Learnt : PendingData → Seconds → OctetList → Effect → Type 0
 Learnt o t octets d =
     ReadThen o octets d (λ r. DigestedThen o r d (λ g. d ≡ takes (reply_observations g t) o))

@@ -29,20 +29,21 @@ use Rattle.fleet_site.specs.server.Turn.{TurnStep, calling, TurnStepSays, Action
 use Rattle.fleet_site.specs.server.Replies.{IsClient, RepliesTo, HasNoneOpen}
 use Rattle.fleet_site.specs.declared.outcome.SiteFault.{SiteFault}
 
--- the same address waits under the same id for the same name and type
+-- the same address waits under the same identifier for the same name and type
 pub record WaitsFor (o : PendingData) (w : WaiterData) : Type 0 where
   pub waiting : WaiterData
   pub among : IsWaiting o waiting
   pub asker : SameAsker waiting w
   pub asks : AsksFor w.question among.entry
 
--- a standard query of class 1 that wants recursion
+-- a standard query of class IN with RD set
 pub record WantsRecursion (h : Header) (q : QuestionData) : Type 0 where
   pub standard : IsStandardQuery h
   pub rd : h.rd ≡ true
   pub class : q.class ≡ IN
 
--- who asked gets a reply at once, or waits; and that with this very question, unless it waited before
+-- who asked gets a reply at once, or waits: with this very question, unless it waited for the same name
+-- and type already, and then shares the reply to the question before
 pub data RepliesOrWaits (m : SiteModel) (from : Addr) (octets : OctetList) (o : OutcomeData) (n : SiteModel)
     : Type 0 where
   gets_reply : (reply : OctetList) → o.packets ≡ packet_to from reply → RepliesTo octets reply
@@ -53,7 +54,8 @@ pub data RepliesOrWaits (m : SiteModel) (from : Addr) (octets : OctetList) (o : 
       → IsWaiting n.pending (waiter from (header_of octets) q))
       → RepliesOrWaits m from octets o n
 
--- so it is with each datagram of a client that has the header of a question, where memory is there
+-- each client whose datagram has the header of a question gets a reply at once or waits, where memory
+-- is there
 abbrev pub AllReplyOrWait : Type 0
 AllReplyOrWait =
     (m n : SiteModel) (now : Seconds) (from : Addr) (octets : OctetList) (word : ℕ) (o : OutcomeData)
@@ -61,7 +63,7 @@ AllReplyOrWait =
     → Step m (datagram now from octets word) (Ok o) n → RepliesOrWaits m from octets o n
 
 -- a reply that an entry waits for: from the upstream that it asks then, under its identifier, for its
--- name and type, and with nothing wrong
+-- name and type, with nothing wrong
 pub record IsAwaited (m : SiteModel) (e : EntryData) (from : Addr) (octets : OctetList) : Type 0 where
   pub upstream : At m.upstreams e.upstream from
   pub message : MessageData
@@ -70,7 +72,8 @@ pub record IsAwaited (m : SiteModel) (e : EntryData) (from : Addr) (octets : Oct
   pub digest : DigestData
   pub means : IsDigest message digest
 
--- such a reply goes to each who waits, in the step that took it, where memory is there
+-- a reply that an entry waits for goes to each who waits, in the step that took it, where memory is
+-- there
 abbrev pub RelayedAtOnce : Type 0
 RelayedAtOnce =
     (m n : SiteModel) (now : Seconds) (from : Addr) (octets : OctetList) (word : ℕ) (o : OutcomeData)
@@ -78,7 +81,7 @@ RelayedAtOnce =
     (r : IsAwaited m h.entry from octets) → Step m (datagram now from octets word) (Ok o) n
     → Has o.packets (relay_to r.digest w)
 
--- it goes to this one
+-- a step took a reply that the entry waits for, and sent it to this waiter
 pub record GetsRelay (m : SiteModel) (e : EntryData) (w : WaiterData) (x : TurnStep)
     (o : OutcomeData) : Type 0 where
   pub now : Seconds
@@ -89,7 +92,7 @@ pub record GetsRelay (m : SiteModel) (e : EntryData) (w : WaiterData) (x : TurnS
   pub awaited : IsAwaited m e from octets
   pub sent : Has o.packets (relay_to awaited.digest w)
 
--- the time of the last upstream is over, and a failure goes to one of the waiters
+-- the time of the last upstream is over at this tick, and a failure goes to this waiter
 pub record GetsFailure (m : SiteModel) (e : EntryData) (w : WaiterData) (x : TurnStep)
     (o : OutcomeData) : Type 0 where
   pub now : Seconds
@@ -98,7 +101,8 @@ pub record GetsFailure (m : SiteModel) (e : EntryData) (w : WaiterData) (x : Tur
   pub last : m.pending.upstreams ≤ e.upstream + 1
   pub sent : Has o.packets (failure_to w)
 
--- who waits goes on waiting at each step, or gets a reply in it, in one of these two ways
+-- who waits goes on waiting at each step, or gets a reply in it: one that its entry waits for, or a
+-- failure once the time of the last upstream is over
 abbrev pub StaysUntilReplied : Type 0
 StaysUntilReplied =
     (m n : SiteModel) (x : TurnStep) (a : Result OutcomeData SiteFault) (w : WaiterData)
@@ -110,7 +114,7 @@ StaysUntilReplied =
 abbrev pub IsDoneWhole : Action → Type 0
 IsDoneWhole a = IsOk a.answer
 
--- ticks at a moment until none is due, and none of them ran out of memory
+-- ticks at a moment until no entry is due, none of which ran out of memory
 pub record ServesAllDue (t : Seconds) (m : SiteModel) (actions : List Action) (n : SiteModel)
     : Type 0 where
   pub ticks : Ticks t actions false
@@ -122,14 +126,13 @@ abbrev pub AreDeadlinesSoon : SiteModel → Type 0
 AreDeadlinesSoon m = (i : ℕ) (e : EntryData) → At m.pending.entries i e
     → (m.clock < e.deadline) × (e.deadline ≤ m.clock + TRY_SECONDS)
 
--- so it is in each run, whenever all that is due was served
+-- deadlines are soon in each run, whenever all that is due was served
 abbrev pub SoonWhenServed : Type 0
 SoonWhenServed =
     (first m n : SiteModel) (before ticks : List Action) (t : Seconds) → HasNoneOpen first
     → ActionsLead first before m → ServesAllDue t m ticks n → AreDeadlinesSoon n
 
--- one try: whatever steps come, and then all that is due is served, at a clock TRY_SECONDS or more after
--- that of m
+-- a try: any steps, and then all that is due is served, at a clock TRY_SECONDS or more after that of m
 pub record Try (m : SiteModel) (actions : List Action) (n : SiteModel) : Type 0 where
   pub steps : List Action
   pub middle : SiteModel
@@ -155,15 +158,15 @@ pub record IsRepliedIn (actions : List Action) (w : WaiterData) : Type 0 where
   pub sent : ((g : DigestData) × Has outcome.packets (relay_to g w))
       ⊎ Has outcome.packets (failure_to w)
 
--- who waits has a reply after as many tries as there are upstreams
+-- who waits has had a reply after as many tries as there are upstreams
 abbrev pub RepliedInTime : Type 0
 RepliedInTime =
     (first m n : SiteModel) (before actions : List Action) (w : WaiterData) → HasNoneOpen first
     → ActionsLead first before m → IsWaiting m.pending w
     → Tries (length m.upstreams) m actions n → IsRepliedIn actions w
 
--- so a turn of a server, where its ticks are done whole, is what comes with its datagram, then serves
--- all that is due, then sweeps
+-- a turn of a server whose ticks are done whole takes in its datagram, then serves all that is due,
+-- then sweeps where it is time
 abbrev pub TurnsServeAllDue : Type 0
 TurnsServeAllDue =
     (t : Seconds) (word : ℕ) (every : Seconds) (a b : ServerState) (turn : Turn t word every a b)

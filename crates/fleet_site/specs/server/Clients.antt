@@ -24,7 +24,7 @@ pub data TurnsLead (a : ServerState) : ServerState → Type 0 where
   one_turn : {b c : ServerState} (t : Seconds) (word : ℕ) (every : Seconds) → TurnsLead a b
       → Turn t word every b c → TurnsLead a c
 
--- so are the turns of a run
+-- the turns of a run are turns of a server one after the other
 abbrev pub RunsAreTurns : Type 0
 RunsAreTurns = (moments : Option (ℕ → ℕ)) (words : Stream) (every : Seconds) (n : ℕ)
     (a b : ServerState) → Turns moments words every n a b → TurnsLead a b
@@ -43,7 +43,8 @@ pub record IsGivenIn (first last : ServerState) (k : ℕ) (from : Addr) (octets 
   pub received : turn.arrival ≡ Received room from octets
   pub place : k ≡ length a.calls
 
--- each datagram that a server received since these turns began is given in one of them
+-- each datagram that a server received since these turns began was given to the site, in the turn that
+-- received it
 abbrev pub ArrivalsAreGiven : Type 0
 ArrivalsAreGiven =
     (first last : ServerState) (k : ℕ) (from : Addr) (octets : OctetList) → TurnsLead first last
@@ -59,7 +60,7 @@ MemoryIsCounted =
     → first.report.short < MOST_COUNTED → last.report.short ≡ first.report.short
     → AllByRecursion IsDoneWhole turn.given × AllByRecursion IsDoneWhole turn.ticks
 
--- one try of a server: turns, and then one whose ticks are done whole, at a clock TRY_SECONDS or more
+-- a try of a server: turns, and then one whose ticks are done whole, at a clock TRY_SECONDS or more
 -- after that of a
 pub record ServerTry (a b : ServerState) : Type 0 where
   pub before : ServerState
@@ -71,21 +72,23 @@ pub record ServerTry (a b : ServerState) : Type 0 where
   pub whole : AllByRecursion IsDoneWhole turn.ticks
   pub later : a.site.clock + TRY_SECONDS ≤ b.site.clock
 
+-- this number of tries of a server, one after the other
 abbrev pub ServerTries : ℕ → ServerState → ServerState → Type 0
 ServerTries zero a b = b ≡ a
 ServerTries (suc u) a b = (mid : ServerState) × ServerTry a mid × ServerTries u mid b
 
--- the question of what was asked but for upper and lower case; none where none is read
+-- the question that was asked but for upper and lower case; none where none is read
 abbrev pub EchoesInAnyCase : OctetList → Option QuestionData → Type 0
 EchoesInAnyCase asked None = Echoes asked None
 EchoesInAnyCase asked (Some r) = (q : QuestionData) × IsReadAs asked q
     × (lower r.spelled ≡ lower q.spelled) × (r.rtype ≡ q.rtype) × (r.class ≡ q.class)
 
--- a reply to what was asked, or to the same question in another spelling
+-- octets that reply to what was asked, or to the same question in another spelling
 abbrev pub RepliesInAnyCase : OctetList → OctetList → Type 0
 RepliesInAnyCase asked octets = RepliesWith EchoesInAnyCase asked octets
 
--- after this place such a reply is sent there, or lost
+-- after the call at this place a reply is sent to who asked, or lost: to this question, or to the same
+-- one in another spelling
 pub record GetsReply (calls : List PortCall) (k : ℕ) (from : Addr) (asked : OctetList) : Type 0
   where
     pub place : ℕ
@@ -95,9 +98,9 @@ pub record GetsReply (calls : List PortCall) (k : ℕ) (from : Addr) (asked : Oc
     pub to : packet.to ≡ from
     pub replies : RepliesInAnyCase asked packet.octets
 
--- In a run of a server, the first of all or after others, where the first began with a site with no
--- open question: a client's question, whose step is done whole, is replied to by the end of as many
--- tries after its turn as there are upstreams.
+-- In a run of a server, the first of its site or one after others, where the first began with a site
+-- with no open question: a client's question, whose step is done whole, is replied to by the end of as
+-- many tries after its turn as there are upstreams.
 abbrev pub QuestionsAnswered : Type 0
 QuestionsAnswered =
     (first site : SiteData) (earlier : List PortCall) (a b z : ServerState) (t : Seconds) (word : ℕ)

@@ -1,5 +1,5 @@
--- A clock over a list, and a port over memory.
--- Serves `MemoryPort`, `ListClock`.
+-- A clock over a list, a port over memory, and a log in memory.
+-- Serves `MemoryPort`, `ListClock`, `MemoryLog`.
 use Rattle.std.specs.Prelude.{◌≡◌, ◌⊎◌, ℕ, zero, suc, ◌-◌, min, Bool, true, false, List, [], ◌∷◌, map, get_or, length, take, drop, Option, Some, None, Result, Ok, Err, IsOk, IsErr}
 use Rattle.fleet_name.specs.Types.{OctetList}
 use Rattle.fleet_wire.specs.Types.{Seconds}
@@ -10,7 +10,7 @@ use Rattle.fleet_site.specs.declared.memory_port.Note.{Note}
 use Rattle.fleet_site.specs.declared.memory_port.Note.TheVariants as note
 use Rattle.fleet_site.specs.declared.memory_port.MemoryPort.{MemoryPort}
 
--- the moment at a place of a list, and the last one from there on; 0 where there is none
+-- the moment at a place of a list, and the last one from there on; 0 where the list is empty
 abbrev pub moment_of : List Seconds → ℕ → Seconds
 moment_of moments i = get_or moments (min i (length moments - 1)) 0
 
@@ -22,7 +22,7 @@ call_of (note.Fault asked) = Fault asked
 call_of (note.Sent to octets) = PacketSent (record { to = to; octets = octets })
 call_of (note.Lost to octets) = PacketLost (record { to = to; octets = octets })
 
--- the record that these notes make
+-- the record that notes make, while notes are kept
 abbrev pub record_of_notes : {A : Type 0} → Bool → List (Note A) → Option (List PortCall)
 record_of_notes true notes = Some (map call_of notes)
 record_of_notes false notes = None
@@ -39,21 +39,21 @@ Arrives asked (Some a ∷ behind) got buffer =
     (got ≡ Some (a.0, min (length a.1) asked))
     × (take (min (length a.1) asked) buffer ≡ take asked a.1)
 
--- of the arrivals before a receive these are left behind it; one that failed uses up none
+-- a receive uses up the arrival whose turn it is, and one that failed uses up none
 abbrev pub Gives : ℕ → List (Option (Addr × OctetList)) → Result (Option (Addr × ℕ)) PortFault → OctetList
     → List (Option (Addr × OctetList)) → Type 0
 Gives asked before (Ok got) buffer left = Arrives asked before got buffer × (left ≡ drop 1 before)
 Gives asked before (Err e) buffer left = left ≡ before
 
--- how many calls there are until the one that is to fail, that one counted, once one more was made
+-- the number of the call that is to fail, counted from the next one, once one more call was made
 abbrev pub one_call_fewer : Option ℕ → Option ℕ
 one_call_fewer None = None
 one_call_fewer (Some zero) = None
 one_call_fewer (Some (suc zero)) = None
 one_call_fewer (Some (suc (suc n))) = Some (suc n)
 
--- a call fails where it is the one that is to fail, and where it could not be noted: from then on
--- there is no record, and behind every other call there still is one
+-- a call fails where it is the one that is to fail, and where it could not be noted. From then on there
+-- is no record; after every other call there still is one, as before
 pub record IsCall {A T : Type 0} (old new : MemoryPort A) (r : Result T PortFault) : Type 0 where
   pub counts : new.fails_in ≡ one_call_fewer old.fails_in
   pub chosen : old.fails_in ≡ Some 1 → IsErr r
@@ -62,7 +62,8 @@ pub record IsCall {A T : Type 0} (old new : MemoryPort A) (r : Result T PortFaul
 
 -- What follows, private contracts alone cite.
 
--- nothing changed but the notes: where it was not noted, there is no record from now on
+-- nothing changed but the notes. Where the note was not kept, there was a record, and there is none
+-- from then on
 pub record NotesAlone {A : Type 0} (old new : MemoryPort A) (noted : Bool) : Type 0 where
   pub arrivals : new.arrivals.items ≡ old.arrivals.items
   pub fails_in : new.fails_in ≡ old.fails_in

@@ -7,8 +7,8 @@ use Rattle.fleet_site.specs.declared.bounds.TheConstants.{MOST_COUNTED}
 use Rattle.fleet_site.specs.PacketData.{PacketData}
 use Rattle.fleet_site.specs.declared.port.PortFault.{PortFault}
 
--- a datagram was received, or none, or the receive failed, each with how many octets were asked for;
--- a packet was sent, or it was lost
+-- a call of a port, and how it ended: a datagram was received, or none, or the receive failed, each
+-- with how many octets were asked for; a packet was sent, or it was lost
 pub data PortCall : Type 0 where
   Received : (asked : ℕ) → (from : Addr) → (octets : OctetList) → PortCall
   NoDatagram : (asked : ℕ) → PortCall
@@ -16,19 +16,19 @@ pub data PortCall : Type 0 where
   PacketSent : PacketData → PortCall
   PacketLost : PacketData → PortCall
 
--- where the port still has its record, it had it before, and these calls are the last ones
+-- where a port still has its record, it had it before, and these calls are the last ones
 abbrev pub NotesAll : Option (List PortCall) → List PortCall → Option (List PortCall) → Type 0
 NotesAll old calls None = Unit {0}
 NotesAll old calls (Some now) =
     (before : List PortCall) × (old ≡ Some before) × (now ≡ before ++ calls)
 
--- what a receive into a buffer of this length was, which holds these octets afterwards
+-- what a receive was, into a buffer of this length, which holds these octets afterwards
 abbrev pub receive_of : ℕ → Result (Option (Addr × ℕ)) PortFault → OctetList → PortCall
 receive_of asked (Ok None) buffer = NoDatagram asked
 receive_of asked (Ok (Some p)) buffer = Received asked p.0 (take p.1 buffer)
 receive_of asked (Err e) buffer = Fault asked
 
--- a receive that asked for this number of octets
+-- the call is a receive that asked for this number of octets
 abbrev pub HasRoomFor : ℕ → PortCall → Type 0
 HasRoomFor n (Received asked from octets) = asked ≡ n
 HasRoomFor n (NoDatagram asked) = asked ≡ n
@@ -36,21 +36,21 @@ HasRoomFor n (Fault asked) = asked ≡ n
 HasRoomFor n (PacketSent s) = ⊥
 HasRoomFor n (PacketLost s) = ⊥
 
--- what a send was
+-- what a send was: the packet was sent, or it was lost
 abbrev pub send_of : Result (Unit {0}) PortFault → PacketData → PortCall
 send_of (Ok u) s = PacketSent s
 send_of (Err e) s = PacketLost s
 
--- a count stays at MOST_COUNTED
+-- a count and one more; it stays at MOST_COUNTED
 abbrev pub one_more : ℕ → ℕ
 one_more n = min (n + 1) MOST_COUNTED
 
--- a call that failed is counted
+-- how many calls of a port failed, once one with this result was made
 abbrev pub failures_after : {T : Type 0} → Result T PortFault → ℕ → ℕ
 failures_after (Ok x) n = n
 failures_after (Err e) n = one_more n
 
--- what a port counts after these calls, from n on
+-- how many calls of a port failed once it made these calls, from n on
 abbrev pub failures_of : List PortCall → ℕ → ℕ
 failures_of [] n = n
 failures_of (Received asked from octets ∷ calls) n = failures_of calls n

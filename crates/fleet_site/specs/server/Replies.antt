@@ -33,17 +33,17 @@ ReceivedAt calls k from octets = (room : ℕ) × At calls k (Received room from 
 abbrev pub SentAt : List PortCall → ℕ → PacketData → Type 0
 SentAt calls k p = (call : PortCall) × At calls k call × IsSend p call
 
--- the question that is read of what was asked: Opcode 0, and a query without a fault
+-- the question that is read of what was asked: the Opcode is 0, and it is a query without a fault
 abbrev pub IsReadAs : OctetList → QuestionData → Type 0
 IsReadAs asked q = ((header_of asked).opcode ≡ 0) × (past : Place) × IsQuery asked (header_of asked) q past
 
--- that question in its own spelling; none where none is read
+-- the question that was asked, octet for octet as it is spelled there; none where none is read
 abbrev pub Echoes : OctetList → Option QuestionData → Type 0
 Echoes asked None = (q : QuestionData) → ¬ IsReadAs asked q
 Echoes asked (Some q) = IsReadAs asked q
 
--- a reply in one message to a question, no reply to a reply: with its identifier, Opcode and RD, and a
--- question that echoes it so
+-- octets that reply to a question, never to a reply: with its identifier, Opcode and RD
+-- (RFC 1035 4.1.1), a question that echoes it so, and at most LONGEST_MESSAGE octets (RFC 1035 2.3.4)
 pub record RepliesWith (Echo : OctetList → Option QuestionData → Type 0) (asked octets : OctetList) : Type 0
   where
     pub asks : IsAsking asked
@@ -55,11 +55,12 @@ pub record RepliesWith (Echo : OctetList → Option QuestionData → Type 0) (as
     pub question : Echo asked outline.question
     pub short : length octets ≤ LONGEST_MESSAGE
 
+-- octets that reply to a question, with the question in its own spelling
 abbrev pub RepliesTo : OctetList → OctetList → Type 0
 RepliesTo asked octets = RepliesWith Echoes asked octets
 
--- each packet to a client replies to a datagram that came before from that client, and no two of
--- them to the same one
+-- among these calls of a port each packet to a client is paired with a datagram that came before from
+-- that client, to which it replies, and no two with the same one
 pub record RepliesOnce (c : ConfigData) (calls : List PortCall) : Type 0 where
   pub question_at : ℕ → ℕ
   pub replies : (k : ℕ) (p : PacketData) → SentAt calls k p → IsClient c p.to
@@ -73,13 +74,13 @@ pub record HasNoneOpen (m : SiteModel) : Type 0 where
   pub lawful : IsLawfulModel m
   pub none : m.pending.entries ≡ []
 
--- a site that has none
+-- a site that has no open question
 pub record OwesNothing (s : SiteData) : Type 0 where
   pub model : SiteModel
   pub stands : StandsFor s model
   pub none : HasNoneOpen model
 
--- a site that was made new, or restarted, is one
+-- a site that was made new, or restarted, has no open question
 abbrev pub NewOwesNothing : Type 0
 NewOwesNothing = (s : SiteData) (upstreams peers : List Addr)
     → StandsFor s (opening upstreams peers) → OwesNothing s
@@ -92,7 +93,8 @@ pub data RunsLead (first : SiteData) : List PortCall → SiteData → Type 0 whe
       (report : Report) (run : Served old new site after i report) → RunsLead first calls site
       → RunsLead first (calls ++ run.end.calls) after
 
--- so it is of all calls of the ports of such runs, where the first begins with such a site
+-- each packet to a client replies to a question of its own, once, in all runs, one after the other, of
+-- a site that had no open question at first
 abbrev pub RepliesOnceInRuns : Type 0
 RepliesOnceInRuns =
     (first after : SiteData) (calls : List PortCall) → OwesNothing first

@@ -26,7 +26,7 @@ pub data TurnStep : Type 0 where
   calling : Call → TurnStep
   sweeping : TurnStep
 
--- a sweep gives the frames of all that is held, and changes nothing
+-- a sweep gives the frames of all that is held, and changes nothing; it may run out of memory
 abbrev pub SweepSays : SiteModel → Result OutcomeData SiteFault → SiteModel → Type 0
 SweepSays m (Ok e) n =
     (frames : List OctetList) × IsSweep m frames × (e ≡ record nothing { frames = frames }) × (n ≡ m)
@@ -37,23 +37,23 @@ abbrev pub TurnStepSays : SiteModel → TurnStep → Result OutcomeData SiteFaul
 TurnStepSays m (calling c) a n = Step m c a n
 TurnStepSays m sweeping a n = SweepSays m a n
 
--- a step, what it said, and the calls of the port that sent what it gave
+-- a step of a turn, what it said, and the calls of the port that sent what it gave
 pub record Action : Type 0 where
   pub step : TurnStep
   pub answer : Result OutcomeData SiteFault
   pub calls : List PortCall
 
--- all calls of the port
+-- all calls of the port that sent what these steps gave
 abbrev pub calls_of : List Action → List PortCall
 calls_of [] = []
 calls_of (a ∷ actions) = a.calls ++ calls_of actions
 
--- a report counts these steps and their calls
+-- a report counts these steps and the calls that sent what they gave
 abbrev pub count_actions : List Action → Report → Report
 count_actions [] r = r
 count_actions (a ∷ actions) r = count_actions actions (count_calls a.calls (count_step a.answer r))
 
--- of each step all that it gave was sent or lost
+-- all that these steps gave was sent or lost
 abbrev pub AllSent : List Addr → List Action → Type 0
 AllSent peers [] = Unit {0}
 AllSent peers (a ∷ actions) = AreSent (packets_of peers a.answer) a.calls × AllSent peers actions
@@ -63,13 +63,13 @@ abbrev pub ActionsLead : SiteModel → List Action → SiteModel → Type 0
 ActionsLead m [] n = n ≡ m
 ActionsLead m (a ∷ actions) n = (mid : SiteModel) × TurnStepSays m a.step a.answer mid × ActionsLead mid actions n
 
--- the site took these steps, and what they gave was sent or lost
+-- the site took these steps, and all that they gave was sent or lost
 pub record HasActed (old new : SiteData) (actions : List Action) : Type 0 where
   pub steps : (m : SiteModel) → StandsFor old m → (n : SiteModel) × ActionsLead m actions n × StandsFor new n
   pub config : new.config ≡ old.config
   pub sent : AllSent old.config.peers actions
 
--- what was received is given to the site, and nothing where nothing was
+-- what a turn received is given to the site, and nothing where nothing was received
 abbrev pub Given : Seconds → ℕ → PortCall → List Action → Type 0
 Given t word (Received asked from octets) actions =
     (a : Action) × (actions ≡ a ∷ []) × (a.step ≡ calling (datagram t from octets word))
@@ -84,33 +84,33 @@ pub data Ticks (t : Seconds) : List Action → Bool → Type 0 where
   next_tick : {actions : List Action} (a : Action) → Ticks t actions true → a.step ≡ calling (tick t)
       → Ticks t (actions ++ a ∷ []) (goes_on a.answer)
 
--- it is time to sweep: this number of seconds after a moment, where it is not 0
+-- it is time to sweep: this number of seconds has passed since a moment, and it is not 0
 pub record IsSweepDue (every since t : Seconds) : Type 0 where
   pub some : 0 < every
   pub passed : since + every ≤ t
 
--- a sweep where it is time, and the moment of the last one then
+-- a sweep where it is time for one, and the moment that the next sweep is counted from
 abbrev pub SweepsWhenDue : Seconds → Seconds → Seconds → List Action → ℕ → Type 0
 SweepsWhenDue every since t actions last =
     when IsSweepDue every since t
     then ((a : Action) × (actions ≡ a ∷ []) × (a.step ≡ sweeping) × (last ≡ t)) otherwise
     ((actions ≡ []) × (last ≡ since))
 
--- the state between two turns: the site, the calls of the port so far, the moment that the next
--- sweep is counted from, and the report
+-- a server between two turns: its site, the calls of its port so far, the moment that the next sweep is
+-- counted from, and its report
 pub record ServerState : Type 0 where
   pub site : SiteData
   pub calls : List PortCall
   pub swept : Option Seconds
   pub report : Report
 
--- what a turn asks for: one octet more than the longest frame has, so that no frame is cut to one that
--- could be read
+-- how many octets a turn asks for: one more than the longest frame has, so that no frame is cut to one
+-- that could be read
 abbrev pub ROOM : ℕ
 ROOM = LONGEST_FRAME + 1
 
--- one turn at a moment with a word: a receive, and the sends of the datagram, of the ticks, and of
--- the sweep
+-- one turn of a server, at a moment with a word: a receive that asks for ROOM octets, then the sends of
+-- the datagram, of at most MOST_ENTRIES ticks, and of the sweep
 pub record Turn (t : Seconds) (word : ℕ) (every : Seconds) (a b : ServerState) : Type 0 where
   pub arrival : PortCall
   pub given : List Action
@@ -134,16 +134,17 @@ abbrev pub left_after : ℕ → Stream → Stream
 left_after zero s = s
 left_after (suc n) s = (next_u32 (left_after n s)).1
 
--- the word of the turn with this number: the low 16 bits of what the generator then gives
+-- the word of the turn with this number: the low 16 bits of what the generator gives then
 abbrev pub word_of : Stream → ℕ → ℕ
 word_of s n = (next_u32 (left_after n s)).0 % 65536
 
--- the moment of the turn with this number, where the moments of the clock are known
+-- the moment of the turn with this number is the one that the clock gives, where its moments are known
 abbrev pub IsMomentOfTurn : Option (ℕ → ℕ) → ℕ → Seconds → Type 0
 IsMomentOfTurn None n t = Unit {0}
 IsMomentOfTurn (Some moments) n t = t ≡ moments n
 
--- the moments of a clock after this number of them, where they are known before
+-- what a clock is going to give once this number of moments was read, where its moments are known
+-- before
 abbrev pub HasPassed : Option (ℕ → ℕ) → ℕ → Option (ℕ → ℕ) → Type 0
 HasPassed None n now = Unit {0}
 HasPassed (Some moments) n now =
@@ -155,7 +156,7 @@ Turns moments s every zero a b = b ≡ a
 Turns moments s every (suc n) a b = (mid : ServerState) × (t : Seconds) × Turns moments s every n a mid
     × IsMomentOfTurn moments n t × Turn t (word_of s n) every mid b
 
--- nothing was counted yet
+-- a report that counted nothing yet
 abbrev pub empty_report : Report
 empty_report = record {
   turns = 0;
@@ -167,6 +168,6 @@ empty_report = record {
   short = 0;
 }
 
--- where a run begins
+-- where a run of a server begins: this site, no call, no sweep, nothing counted
 abbrev pub start_of : SiteData → ServerState
 start_of site = record { site = site; calls = []; swept = None; report = empty_report }

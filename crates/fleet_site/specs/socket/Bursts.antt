@@ -13,10 +13,10 @@ use Rattle.fleet_site.specs.socket.Pace.{Burst, after, Paces}
 use Rattle.fleet_site.specs.declared.bursts.TheConstants.{BURST}
 use Rattle.fleet_site.specs.declared.window.Window.{Window}
 
--- what a port over a socket holds: the socket, the addresses of the peers, the messages and frames
--- that came and were not handed on, how many were dropped, what is still to be sent and how many places that takes, which frames
--- of the turn wait for that, the burst that goes on, how many frames went out without waiting, and how
--- many calls failed
+-- what a port over a socket holds: the socket, the addresses of the peers, the messages and frames that
+-- came and were not handed on, how many were dropped, what is still to be sent and how many places that
+-- takes, which frames of the turn wait for that, the burst that goes on, how many frames went out
+-- without waiting, and how many calls failed
 pub record BurstData : Type 0 where
   pub socket : SocketState
   pub peers : List Addr
@@ -30,15 +30,15 @@ pub record BurstData : Type 0 where
   pub unpaced : ℕ
   pub failed : ℕ
 
--- whether messages or frames wait to be handed on
+-- whether something that came waits to be handed on, messages or frames
 abbrev pub has_waiting : List Datagram → List Datagram → Bool
 has_waiting [] [] = false
 has_waiting [] (d ∷ frames) = true
 has_waiting (d ∷ messages) frames = true
 
--- how a port works while something waits in it: each receive asks for so many octets and returns at
--- once. A pause passes only while nothing that came waits, and after a receive that was made since the
--- last pause, or would have been but for the system
+-- how a port works while something waits in it: no receive waits, and each asks for so many octets. A
+-- pause passes only while nothing that came waits, and only where the port listened since the last
+-- pause, or the system refused to have receives return at once
 abbrev pub Works : (asked : ℕ) → (waits listened : Bool) → List SocketCall → Type 0
 Works asked waits listened [] = Unit {0}
 Works asked waits listened (Came w n from octets ∷ calls) = (w ≡ false) × (n ≡ asked) × Works asked true true calls
@@ -97,7 +97,8 @@ abbrev pub WaitsOnce : (asked : ℕ) → List SocketCall → Type 0
 WaitsOnce asked (Switched w done ∷ calls) = (w ≡ true) × ReceivesFirst asked done calls
 WaitsOnce asked calls = ReceivesFirst asked true calls
 
--- each receive and each send that failed is counted
+-- how many calls of a socket failed after these, from n on: each receive and each send that failed is
+-- counted
 abbrev pub failed_after : List SocketCall → ℕ → ℕ
 failed_after [] n = n
 failed_after (Came w asked from octets ∷ calls) n = failed_after calls n
@@ -109,18 +110,19 @@ failed_after (ClockRead t ∷ calls) n = failed_after calls n
 failed_after (Paused ∷ calls) n = failed_after calls n
 failed_after (Switched w done ∷ calls) n = failed_after calls n
 
--- nothing waits in it, either way
+-- nothing waits in the port, either way: nothing that came, and nothing to be sent
 pub record IsIdle (p : BurstData) : Type 0 where
   pub messages : p.messages ≡ []
   pub frames : p.frames ≡ []
   pub leaving : p.leaving ≡ []
 
--- of that, what came in
+-- what came in and waits in a port, and how many others were dropped
 abbrev pub arrived_of : BurstData → Arrived
 arrived_of p = record { messages = p.messages; frames = p.frames; dropped = p.dropped }
 
--- these calls of the socket were made: what came waits behind what waited, messages and frames apart,
--- or was dropped where others waited, and counted. What was sent are the first ones that waited to be sent
+-- these calls of the socket were made: what came waits after what waited, messages and frames apart, or
+-- was dropped where others of its kind waited, and counted. What was sent are the first ones that
+-- waited to be sent; each call that failed is counted
 pub record Worked (old new : BurstData) (calls : List SocketCall) : Type 0 where
   pub called : Called old.socket new.socket calls
   pub peers : new.peers ≡ old.peers
@@ -132,7 +134,8 @@ pub record Worked (old new : BurstData) (calls : List SocketCall) : Type 0 where
   pub paces : Paces old.burst calls new.burst
   pub failed : new.failed ≡ failed_after calls old.failed
 
--- the next datagram that waits was handed on, cut to the buffer; a receive that failed handed nothing on
+-- the next datagram that waits was handed on, cut to the buffer; a receive that failed handed nothing
+-- on
 abbrev pub HandsNextOn : ℕ → BurstData → Result (Option (Addr × ℕ)) PortFault → OctetList → BurstData → Type 0
 HandsNextOn asked old (Ok got) buffer new =
     (taken : Option Datagram) × TookOut old.messages old.frames taken new.messages new.frames
@@ -144,12 +147,12 @@ abbrev pub IsPause : Burst → List SocketCall → Type 0
 IsPause b (ClockRead t ∷ calls) = BURST ≤ (after b (ClockRead t)).sent
 IsPause b calls = ⊥
 
--- where something waits to be sent, some of it is sent, or the last burst is not over
+-- where something waits to be sent, some of it is sent, unless the burst has no room yet
 abbrev pub SendsOn : BurstData → List SocketCall → BurstData → Type 0
 SendsOn old calls new =
     (old.leaving ≢ []) → (length new.leaving < length old.leaving) ⊎ IsPause old.burst calls
 
--- where nothing that came waited, a receive that did not fail listened
+-- where nothing that came waited, a receive of the port that did not fail listened
 abbrev pub ListensFor : Result (Option (Addr × ℕ)) PortFault → BurstData → List SocketCall → Type 0
 ListensFor (Ok got) old calls = has_waiting old.messages old.frames ≡ false → Listens calls
 ListensFor (Err e) old calls = Unit {0}
@@ -167,11 +170,12 @@ pub record Receives (asked : ℕ) (old : BurstData) (r : Result (Option (Addr ×
   pub sends : SendsOn old calls mid
   pub listens : ListensFor r old calls
 
--- a turn begins, with a window of its own
+-- the port as a turn begins, with the window of that turn
 abbrev pub turn_begun : BurstData → BurstData
 turn_begun p = record p { window = next_turn p.window }
 
--- a frame waits behind the others, where it is due or takes no place of its own
+-- a frame waits after those that wait to be sent: in the last place, or in one of its own where it is
+-- due
 abbrev pub Waits : PacketData → BurstData → Result (Unit {0}) PortFault → BurstData → Type 0
 Waits s old (Ok u) new =
     ((new.places ≡ old.places) ⊎ ((new.places ≡ old.places + 1) × (is_due old.window old.places ≡ true)))
@@ -182,7 +186,7 @@ Waits s old (Ok u) new =
     })
 Waits s old (Err e) new = ⊥
 
--- a frame does not wait, and is counted
+-- a frame does not wait: it is given to the socket at once, and counted
 abbrev pub Passes : PacketData → BurstData → Result (Unit {0}) PortFault → BurstData → Type 0
 Passes s old r new =
     Called old.socket new.socket (departure_of r s ∷ [])
@@ -193,8 +197,8 @@ Passes s old r new =
       failed = new.failed;
     })
 
--- one send of a port: a message is handed to the socket in this very call. What is longer waits behind
--- what waits to be sent, or is handed to the socket in this very call too
+-- one send of a port: a message is given to the socket in this very call. What is longer waits after
+-- what waits to be sent, or is given to the socket in this very call too, and counted
 pub record SendsOrKeeps (s : PacketData) (old : BurstData) (r : Result (Unit {0}) PortFault)
     (new : BurstData) : Type 0 where
   pub message : is_long s.octets ≡ false
@@ -204,44 +208,45 @@ pub record SendsOrKeeps (s : PacketData) (old : BurstData) (r : Result (Unit {0}
 
 -- What follows, private contracts alone cite.
 
--- nothing was asked, or only that receives wait from then on, or do not
+-- the socket was asked nothing, or only to have receives wait from then on, or not to
 abbrev pub IsSwitch : Bool → List SocketCall → Bool → Type 0
 IsSwitch waits [] done = done ≡ true
 IsSwitch waits (call ∷ []) done = call ≡ Switched waits done
 IsSwitch waits (call ∷ next ∷ calls) done = ⊥
 
--- receives wait from then on, or not, where the system does not refuse
+-- receives wait from then on, or do not, unless the system refuses
 abbrev pub Switches : Bool → BurstData → Bool → BurstData → Type 0
 Switches waits old done new =
     (calls : List SocketCall) × IsSwitch waits calls done × Called old.socket new.socket calls
     × (new ≡ record old { socket = new.socket }) × (new.socket.waits ≡ cond done waits (not waits))
 
--- a datagram waits in it besides
+-- the port with one more datagram that came and waits
 abbrev pub joined : Datagram → BurstData → BurstData
 joined d p = record p {
   messages = p.messages ++ messages_of p.peers (d ∷ []);
   frames = p.frames ++ frames_of p.peers (d ∷ []);
 }
 
--- a datagram that came waits in it, or was dropped where others of its kind wait, and counted
+-- a datagram that came waits in the port, or is dropped where others of its kind wait, and counted
 abbrev pub KeepsOrDrops : Datagram → BurstData → BurstData → Type 0
 KeepsOrDrops d old new =
     (new ≡ joined d old)
     ⊎ (OthersWait (is_frame old.peers d) old.messages old.frames × (new ≡ record old { dropped = one_more old.dropped }))
 
--- it worked
+-- some calls of the socket were made, and the port worked by them
 pub record HasWorked (old new : BurstData) : Type 0 where
   pub calls : List SocketCall
   pub worked : Worked old new calls
 
--- it worked while something waited in it, and sent of what waits, unless the last burst is not over
+-- the port worked while something waited in it, and sent of what waits, unless the burst has no room
+-- yet
 pub record WorkedOn (asked : ℕ) (old new : BurstData) : Type 0 where
   pub calls : List SocketCall
   pub worked : Worked old new calls
   pub works : Works asked (has_waiting old.messages old.frames) false calls
   pub sends : SendsOn old calls new
 
--- and handed the next datagram on
+-- the port worked while something waited in it, and handed the next datagram on
 pub record WorksThenHandsOn (asked : ℕ) (old : BurstData) (r : Result (Option (Addr × ℕ)) PortFault)
     (buffer : OctetList) (new : BurstData) : Type 0 where
   pub mid : BurstData
@@ -249,25 +254,25 @@ pub record WorksThenHandsOn (asked : ℕ) (old : BurstData) (r : Result (Option 
   pub listens : ListensFor r old worked_on.calls
   pub hands_on : HandsNextOn asked mid r buffer new
 
--- it took in what there was
+-- the port took in what there was, by receives that return at once
 pub record TookIn (asked : ℕ) (old new : BurstData) : Type 0 where
   pub calls : List SocketCall
   pub worked : Worked old new calls
   pub only : OnlyTakeIn asked calls
 
--- it listened; or there was no room for what might come, and nothing came
+-- the port listened; or there was no room for what might come, and nothing came
 abbrev pub ListenedOrFull : Result Bool PortFault → BurstData → List SocketCall → BurstData → Type 0
 ListenedOrFull (Ok true) old calls new = Listens calls
 ListenedOrFull (Ok false) old calls new =
     (new.messages ≡ old.messages) × (new.frames ≡ old.frames) × (new.socket.waits ≡ false)
 ListenedOrFull (Err e) old calls new = Unit {0}
 
--- it took in what there was, as far as there was room
+-- the port took in what there was, as far as there was room
 pub record TookAll (asked : ℕ) (old : BurstData) (r : Result Bool PortFault) (new : BurstData) : Type 0 where
   pub took : TookIn asked old new
   pub listened : ListenedOrFull r old took.calls new
 
--- it took in what there was, and handed the next datagram on
+-- the port took in what there was, and handed the next datagram on
 pub record TakesThenHandsOn (asked : ℕ) (old : BurstData) (r : Result (Option (Addr × ℕ)) PortFault)
     (buffer : OctetList) (new : BurstData) : Type 0 where
   pub mid : BurstData
@@ -287,18 +292,18 @@ OnlySends (ClockRead t ∷ calls) = OnlySends calls
 OnlySends (Paused ∷ calls) = ⊥
 OnlySends (Switched w done ∷ calls) = ⊥
 
--- it sent of what waits
+-- the port sent some of what waits to be sent, or none of it
 pub record SentSome (old new : BurstData) : Type 0 where
   pub calls : List SocketCall
   pub worked : Worked old new calls
   pub only : OnlySends calls
 
--- and some of it, unless the last burst is not over
+-- the port sent some of what waits to be sent, unless the burst has no room yet
 pub record SentOn (old new : BurstData) : Type 0 where
   pub sent : SentSome old new
   pub sends : SendsOn old sent.calls new
 
--- the clock was read
+-- the clock was read, which may end the burst
 pub record ReadsClock (old new : BurstData) : Type 0 where
   pub time : Option ℕ
   pub called : Called old.socket new.socket (ClockRead time ∷ [])

@@ -40,7 +40,8 @@ RepliesOnceOverSockets =
     (calls : List SocketCall) (p : BurstData) (site : SiteData) (i : RunInput) → OwesNothing site
     → WholeRun calls p site i → RepliesOnce site.config (as_port_calls calls)
 
--- after the port call that handed the question on, the last of these, the socket was given a reply to it
+-- after the port call that handed the question on, the last of these, the socket was given a reply to
+-- it
 pub record IsAnsweredOver (steps : List PortStep) (handed : List PortCall) (from : Addr) (asked : OctetList)
     : Type 0 where
   pub before : List PortStep
@@ -54,7 +55,7 @@ pub record IsAnsweredOver (steps : List PortStep) (handed : List PortCall) (from
   pub given : Has (departures_of (socket_calls behind)) (from, reply)
   pub replies : RepliesInAnyCase asked reply
 
--- so each question of a client that the port hands on is replied to over the socket, where the tries lie
+-- each question of a client that the port hands on is replied to over the socket, where the tries lie
 -- in the run
 abbrev pub QuestionsAnsweredOverSockets : Type 0
 QuestionsAnsweredOverSockets =

@@ -12,7 +12,7 @@ use Rattle.fleet_site.specs.socket.Window.{whole_window}
 use Rattle.fleet_site.specs.socket.Pace.{fresh}
 use Rattle.fleet_site.specs.socket.Bursts.{BurstData, IsIdle, Worked, Receives, turn_begun, SendsOrKeeps}
 
--- a record of a port hands on these datagrams, in this order, each cut to what was asked for
+-- the record of a port hands on these datagrams, in this order, each cut to what was asked for
 abbrev pub HandsOnAll : List Datagram → List PortCall → Type 0
 HandsOnAll ds [] = ds ≡ []
 HandsOnAll ds (Received asked from octets ∷ noted) =
@@ -28,11 +28,13 @@ HandsOnAll ds (PacketLost s ∷ noted) = HandsOnAll ds noted
 abbrev pub PortStep : Type 0
 PortStep = Option PortCall × List SocketCall
 
+-- the record of the port that these steps make
 abbrev pub port_calls : List PortStep → List PortCall
 port_calls [] = []
 port_calls ((None, calls) ∷ steps) = port_calls steps
 port_calls ((Some call, calls) ∷ steps) = call ∷ port_calls steps
 
+-- the record of the socket that these steps make
 abbrev pub socket_calls : List PortStep → List SocketCall
 socket_calls [] = []
 socket_calls ((call, calls) ∷ steps) = calls ++ socket_calls steps
@@ -62,6 +64,7 @@ pub record Finishing (calls : List SocketCall) (old new : BurstData) : Type 0 wh
   pub frames : new.frames ≡ old.frames
   pub dropped : new.dropped ≡ old.dropped
 
+-- the step does what it has to do: a receive, a send, or the sending of all that waits
 abbrev pub StepsTo : PortStep → BurstData → BurstData → Type 0
 StepsTo (None, calls) old new = Finishing calls old new
 StepsTo (Some (Received asked from octets), calls) old new = Receiving asked (Received asked from octets) calls old new
@@ -70,6 +73,7 @@ StepsTo (Some (Fault asked), calls) old new = Receiving asked (Fault asked) call
 StepsTo (Some (PacketSent s), calls) old new = Sending s (PacketSent s) calls old new
 StepsTo (Some (PacketLost s), calls) old new = Sending s (PacketLost s) calls old new
 
+-- these steps lead from one port to another, one after the other
 abbrev pub GoesOn : List PortStep → BurstData → BurstData → Type 0
 GoesOn [] old new = new ≡ old
 GoesOn (step ∷ steps) old new = (mid : BurstData) × StepsTo step old mid × GoesOn steps mid new
@@ -84,8 +88,8 @@ pub record IsFresh (p : BurstData) : Type 0 where
   pub unpaced : p.unpaced ≡ 0
 
 -- what came in, by both records: of what the socket received some were dropped, and counted. The
--- messages among all others are those that the port handed on and those that wait, in this order, and so
--- are the frames
+-- messages among all others are those that the port handed on and those that wait, in this order, and
+-- so are the frames
 pub record FlowsIn (calls : List SocketCall) (noted : List PortCall) (p : BurstData) : Type 0 where
   pub kept : List Datagram
   pub handed : List Datagram
@@ -109,7 +113,7 @@ pub record Flows (calls : List SocketCall) (noted : List PortCall) (p : BurstDat
   pub comes : FlowsIn calls noted p
   pub goes : FlowsOn calls noted p
 
--- the same, where both records were kept
+-- what a port over a socket did from its beginning on, where both records were kept
 abbrev pub FlowsIfNoted : Option (List SocketCall) → Option (List PortCall) → BurstData → Type 0
 FlowsIfNoted None noted p = Unit {0}
 FlowsIfNoted (Some calls) None p = Unit {0}

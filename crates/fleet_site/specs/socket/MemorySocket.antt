@@ -17,7 +17,7 @@ entry_of (note.ClockRead time) = ClockRead (nanos_of time)
 entry_of note.Paused = Paused
 entry_of (note.Switched waits done) = Switched waits done
 
--- the record that these notes make
+-- the record that notes make, while notes are kept
 abbrev pub record_of_notes : {A : Type 0} → Bool → List (SocketNote A) → Option (List SocketCall)
 record_of_notes true notes = Some (map entry_of notes)
 record_of_notes false notes = None
@@ -26,5 +26,6 @@ record_of_notes false notes = None
 abbrev pub record_of : {A : Type 0} → MemorySocket A → Option (List SocketCall)
 record_of socket = record_of_notes socket.is_noting socket.notes.items
 
+-- what may be known of a socket in memory: its record, and whether its receives wait
 abbrev pub state_of : {A : Type 0} → MemorySocket A → SocketState
 state_of socket = record { noted = record_of socket; waits = socket.waits }

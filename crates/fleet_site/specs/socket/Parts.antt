@@ -5,6 +5,7 @@ use Rattle.fleet_site.specs.socket.Inbox.{waiting_messages, waiting_frames}
 use Rattle.fleet_site.specs.socket.Bursts.{BurstData}
 use Rattle.fleet_site.specs.declared.bursts.Bursts.{Bursts}
 
+-- what a port over a socket holds, by its fields
 abbrev pub data_of : {S A : Type 0} → SocketState → Bursts S A → BurstData
 data_of socket port = record {
   socket = socket;

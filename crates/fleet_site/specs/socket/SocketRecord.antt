@@ -8,10 +8,10 @@ use Rattle.fleet_pending.specs.declared.addr.Addr.{Addr}
 use Rattle.fleet_site.specs.PacketData.{PacketData}
 use Rattle.fleet_site.specs.declared.port.PortFault.{PortFault}
 
--- a datagram came, or none, or the receive failed, each with whether it waited for one and how many
--- octets were asked for; a datagram was sent, or the system refused it; the clock was read, in
--- nanoseconds, where it could be; a pause passed; receives were to wait from then on, or not to, and
--- the system did so or refused
+-- a call of a socket, and how it ended: a datagram came, or none, or the receive failed, each with
+-- whether it waited for one and how many octets were asked for; a datagram was sent, or the system
+-- refused it; the clock was read, in nanoseconds, where it could be; a pause passed; receives were to
+-- wait from then on, or not to, and the system did so or refused
 pub data SocketCall : Type 0 where
   Came : (waits : Bool) → (asked : ℕ) → (from : Addr) → (octets : OctetList) → SocketCall
   NoneCame : (waits : Bool) → (asked : ℕ) → SocketCall
@@ -28,12 +28,12 @@ arrival_of waits asked (Ok None) buffer = NoneCame waits asked
 arrival_of waits asked (Ok (Some p)) buffer = Came waits asked p.0 (take p.1 buffer)
 arrival_of waits asked (Err e) buffer = Failed waits asked
 
--- what a send was
+-- what a send was: the datagram was sent, or refused
 abbrev pub departure_of : Result (Unit {0}) PortFault → PacketData → SocketCall
 departure_of (Ok u) s = Sent s
 departure_of (Err e) s = Unsent s
 
--- what a clock gave, in nanoseconds
+-- what a reading of the clock gave, in nanoseconds
 abbrev pub nanos_of : Option Duration → Option ℕ
 nanos_of None = None
 nanos_of (Some d) = Some (as_nanos d)

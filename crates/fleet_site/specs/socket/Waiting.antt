@@ -9,32 +9,38 @@ use Rattle.fleet_site.specs.server.PortRecord.{one_more}
 use Rattle.fleet_site.specs.socket.SocketRecord.{SocketCall, Came, NoneCame, Failed, Sent, Unsent, ClockRead, Paused, Switched}
 use Rattle.fleet_site.specs.declared.queue.TheConstants.{MOST_WAITING}
 
+-- a datagram: the address that it came from or goes to, and its octets
 abbrev pub Datagram : Type 0
 Datagram = Addr × OctetList
 
+-- whether two addresses are the same, host and port
 abbrev pub is_same_addr : Addr → Addr → Bool
 is_same_addr a b = eqb a.host b.host && eqb a.port b.port
 
+-- whether the address is a peer's
 abbrev pub is_peer : List Addr → Addr → Bool
 is_peer peers a = list_any (λ p. is_same_addr p a) peers
 
--- longer than a message
+-- whether octets are more than a message has (RFC 1035 2.3.4)
 abbrev pub is_long : OctetList → Bool
 is_long octets = ltb LONGEST_MESSAGE (length octets)
 
--- a frame is longer than a message, and comes from a peer; all else is handed on as messages are
+-- whether a datagram waits as a frame: it is longer than a message, and comes from a peer. All else is
+-- handed on as messages are
 abbrev pub is_frame : List Addr → Datagram → Bool
 is_frame peers d = is_long d.1 && is_peer peers d.0
 
+-- of datagrams those that wait as messages, in their order
 abbrev pub messages_of : List Addr → List Datagram → List Datagram
 messages_of peers [] = []
 messages_of peers (d ∷ ds) = cond (is_frame peers d) (messages_of peers ds) (d ∷ messages_of peers ds)
 
+-- of datagrams those that wait as frames, in their order
 abbrev pub frames_of : List Addr → List Datagram → List Datagram
 frames_of peers [] = []
 frames_of peers (d ∷ ds) = cond (is_frame peers d) (d ∷ frames_of peers ds) (frames_of peers ds)
 
--- the datagrams that came, in their order
+-- the datagrams that came in these calls of a socket, in their order
 abbrev pub arrivals_of : List SocketCall → List Datagram
 arrivals_of [] = []
 arrivals_of (Came w asked from octets ∷ calls) = (from, octets) ∷ arrivals_of calls
@@ -46,7 +52,8 @@ arrivals_of (ClockRead t ∷ calls) = arrivals_of calls
 arrivals_of (Paused ∷ calls) = arrivals_of calls
 arrivals_of (Switched w done ∷ calls) = arrivals_of calls
 
--- the datagrams that were handed to the system, in their order, whether it sent or refused them
+-- the datagrams that were given to the system in these calls of a socket, in their order, whether it
+-- sent or refused them
 abbrev pub departures_of : List SocketCall → List Datagram
 departures_of [] = []
 departures_of (Came w asked from octets ∷ calls) = departures_of calls
@@ -58,25 +65,26 @@ departures_of (ClockRead t ∷ calls) = departures_of calls
 departures_of (Paused ∷ calls) = departures_of calls
 departures_of (Switched w done ∷ calls) = departures_of calls
 
--- a datagram comes behind the others; where as many wait as may, nothing changes
+-- a datagram comes after those that wait; where MOST_WAITING wait, it is turned away and nothing
+-- changes
 abbrev pub Pushes : List Datagram → Datagram → Bool → List Datagram → Type 0
 Pushes old d true new = new ≡ old ++ d ∷ []
 Pushes old d false new = (length old ≡ MOST_WAITING) × (new ≡ old)
 
--- a frame comes behind the frames, and what is none behind the messages
+-- a frame comes after the frames, and what is none after the messages
 abbrev pub Joins : Bool → List Datagram → List Datagram → Datagram → List Datagram → List Datagram → Type 0
 Joins true messages frames d new_messages new_frames =
     (new_frames ≡ frames ++ d ∷ []) × (new_messages ≡ messages)
 Joins false messages frames d new_messages new_frames =
     (new_messages ≡ messages ++ d ∷ []) × (new_frames ≡ frames)
 
--- what came in and waits, and how many others were dropped
+-- what came in and waits, by kind, and how many others were dropped
 pub record Arrived : Type 0 where
   pub messages : List Datagram
   pub frames : List Datagram
   pub dropped : ℕ
 
--- a datagram waits behind those of its kind
+-- a datagram that came waits after those of its kind
 abbrev pub with_one : List Addr → Datagram → Arrived → Arrived
 with_one peers d a = record {
   messages = a.messages ++ messages_of peers (d ∷ []);
@@ -84,7 +92,7 @@ with_one peers d a = record {
   dropped = a.dropped;
 }
 
--- one is dropped, and counted
+-- a datagram that came is dropped, and counted
 abbrev pub without_one : Arrived → Arrived
 without_one a = record { messages = a.messages; frames = a.frames; dropped = one_more a.dropped }
 
@@ -93,7 +101,7 @@ abbrev pub OthersWait : Bool → List Datagram → List Datagram → Type 0
 OthersWait true messages frames = frames ≢ []
 OthersWait false messages frames = messages ≢ []
 
--- these datagrams came, one after the other: each waits behind those of its kind, or is dropped and
+-- these datagrams came, one after the other: each waits after those of its kind, or is dropped and
 -- counted, which it is only where others of its kind wait
 abbrev pub Takes : List Addr → List Datagram → Arrived → Arrived → Type 0
 Takes peers [] old new = new ≡ old
@@ -101,13 +109,13 @@ Takes peers (d ∷ ds) old new =
     Takes peers ds (with_one peers d old) new
     ⊎ (OthersWait (is_frame peers d) old.messages old.frames × Takes peers ds (without_one old) new)
 
--- the datagrams without some, of which each was counted
+-- the datagrams without some of them, each of which was counted
 abbrev pub Sifts : List Datagram → List Datagram → ℕ → ℕ → Type 0
 Sifts [] kept n m = (kept ≡ []) × (m ≡ n)
 Sifts (d ∷ ds) kept n m =
     ((rest : List Datagram) × (kept ≡ d ∷ rest) × Sifts ds rest n m) ⊎ Sifts ds kept (one_more n) m
 
--- the datagram comes, cut to a length, at the front of the buffer
+-- the datagram is handed on, cut to a length, at the front of the buffer
 abbrev pub Fills : ℕ → Datagram → Option (Addr × ℕ) → OctetList → Type 0
 Fills asked d got buffer =
     (got ≡ Some (d.0, min (length d.1) asked))
@@ -118,8 +126,7 @@ abbrev pub at_most_one : Option Datagram → List Datagram
 at_most_one None = []
 at_most_one (Some d) = d ∷ []
 
--- of what waits, messages and frames, the first message was taken out, and where there is none the
--- first frame
+-- of what waits the first message was taken out, and where there is none the first frame
 abbrev pub TookOut : List Datagram → List Datagram → Option Datagram → List Datagram → List Datagram → Type 0
 TookOut (d ∷ messages) frames taken new_messages new_frames =
     (taken ≡ Some d) × (new_messages ≡ messages) × (new_frames ≡ frames)

@@ -1,4 +1,6 @@
--- Which of the frames of a turn wait to be sent, where they do not all find room.
+-- Which of the frames of a turn wait to be sent, where they do not all find room: those from one on,
+-- and of those before it as many as leave room for them. The window of the next sweep begins with the
+-- first frame that this one missed.
 -- Serves `BurstPort`.
 use Rattle.std.specs.Prelude.{ℕ, ◌+◌, min, nat_le, ltb, Bool, true, false, ◌||◌, ◌&&◌, cond, Option, Some, None}
 use Rattle.fleet_site.specs.server.PortRecord.{one_more}
@@ -6,7 +8,7 @@ use Rattle.fleet_site.specs.declared.outbox.TheConstants.{MOST_PLACES}
 use Rattle.fleet_site.specs.declared.window.Window.{Window}
 use Rattle.fleet_site.specs.declared.window.TheConstants.{FEW, MOST_RESERVED}
 
--- no frame came in this turn, and the window begins with the first one
+-- the window at first: no frame came in this turn, and it begins with the first one
 abbrev pub whole_window : Window
 whole_window = record { begins = 0; reserved = 0; count = 0; missed = None; short = 0; has_passed = false }
 
@@ -14,21 +16,21 @@ whole_window = record { begins = 0; reserved = 0; count = 0; missed = None; shor
 abbrev pub is_inside : Window → Bool
 is_inside w = nat_le w.begins w.count
 
--- whether the next frame of the turn is to wait, where so many places are taken: it is of the window, or
--- leaves as many places free as are reserved for those that are
+-- whether the next frame of the turn is to wait, where so many places are taken: it is of the window,
+-- or leaves as many places free as are reserved for the frames of the window
 abbrev pub is_due : Window → ℕ → Bool
 is_due w places = is_inside w || ltb (places + min w.reserved MOST_RESERVED) MOST_PLACES
 
--- a frame waits
+-- the window after a frame that waits
 abbrev pub after_kept : Window → Window
 after_kept w = record w { count = one_more w.count }
 
--- the first frame of the window that did not wait
+-- the number of the first frame of the window that did not wait
 abbrev pub missed_after : Option ℕ → Bool → ℕ → Option ℕ
 missed_after (Some n) is_inside count = Some n
 missed_after None is_inside count = cond is_inside (Some count) None
 
--- a frame does not wait
+-- the window after a frame that does not wait
 abbrev pub after_passed : Window → Window
 after_passed w = record {
   begins = w.begins;
@@ -39,18 +41,20 @@ after_passed w = record {
   has_passed = true;
 }
 
--- where a window begins that begins with the first frame that was missed, or where none was, with the
--- first frame of all
+-- where the next window begins: with the first frame that was missed, or where none was, with the first
+-- frame of all
 abbrev pub begins_after : Option ℕ → ℕ
 begins_after (Some n) = n
 begins_after None = 0
 
--- whether the window goes on behind a turn: it was a sweep, and not all of it waited
+-- whether the window goes on after a turn: it was a sweep, of FEW frames or more, and not all of it
+-- waited
 abbrev pub goes_on : Window → Bool
 goes_on w = nat_le FEW w.count && w.has_passed
 
 -- the window of the next turn begins with the first frame that this one missed, and has as many places
--- reserved for its frames as it missed
+-- reserved for its frames as it missed. Where the window does not go on, it begins and reserves as
+-- before
 abbrev pub next_turn : Window → Window
 next_turn w = record {
   begins = cond (goes_on w) (begins_after w.missed) w.begins;

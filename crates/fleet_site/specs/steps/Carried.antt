@@ -1,5 +1,5 @@
 -- What a part of a site did to its cache and its table.
--- Serves the private calls of `Site`.
+-- Serves every call of `Site` that sends or takes.
 use Rattle.std.specs.Prelude.{◌≡◌, ◌≢◌, ℕ, ◌<◌, ◌⊎◌, List, ◌++◌, Option, Some, None, Result, Ok, Err, length, take}
 use Rattle.fleet_wire.specs.Query.{query_octets}
 use Rattle.fleet_wire.specs.Question.{QuestionData}
@@ -31,7 +31,7 @@ pub record Before : Type 0 where
   pub taken : Observations
   pub asking : PendingData
 
--- what it holds and what it asks, behind it
+-- what a site holds and what it asks, after a deed
 pub record Behind : Type 0 where
   pub cache : CacheData
   pub asking : PendingData
@@ -50,7 +50,7 @@ DoesOrStops Rule Needed a (Err (OutOfMemory taken)) b =
     ⊎ ((d : Effect) × Rule d × (taken < length d.brings)
     × IsCached (take taken d.brings ++ a.taken) b.cache.floor b.cache.items))
 
--- the same where nothing is ever brought
+-- a deed of this rule, which brings nothing, was done whole, or stopped as memory ran out
 abbrev pub SaysOrStops : (Effect → Type 0) → Type 0 → PendingData
     → Result OutcomeData SiteFault → PendingData → Type 0
 SaysOrStops Rule Needed old (Ok o) new = Rule (says_only o new)
@@ -63,7 +63,7 @@ IsAskable (Reply octets) = Unit {0}
 IsAskable (Unread octets f) = Unit {0}
 IsAskable (Miss h q) = (h.opcode < 16) × (q.class ≡ IN)
 
--- they are answered, or go to an upstream
+-- octets of which this was decided are answered, or go to an upstream
 abbrev pub IsAnswered : {A : Type 0} → Decision A → Type 0
 IsAnswered Dropped = ⊥
 IsAnswered (Reply octets) = Unit {0}
@@ -80,13 +80,14 @@ abbrev pub TurnsAway : Addr → Header → QuestionData → PendingFault
 TurnsAway from h q f (Ok o) = (f ≢ NoRoom) × (o ≡ turns_away from h q)
 TurnsAway from h q f (Err (OutOfMemory taken)) = taken ≡ 0
 
--- with this id the query goes to the first upstream; without one nothing is sent
+-- with this identifier the query goes to the first upstream; without one nothing is sent
 abbrev pub SendsFirst : List Addr → QuestionData → Option ℕ → OutcomeData → Type 0
 SendsFirst upstreams q (Some id) e =
     (there : Addr) × At upstreams 0 there × (e ≡ sends there (query_octets id q))
 SendsFirst upstreams q None e = e ≡ nothing
 
--- the same with the id that the table gives
+-- with the identifier that the table gives, if any, the query goes to the first upstream; without one
+-- nothing is sent
 abbrev pub IsFirstSaid : List Addr → PendingData → ℕ → QuestionData → OutcomeData → Type 0
 IsFirstSaid upstreams o word q e =
     (told : Option ℕ) × IsQueryId o q word told × SendsFirst upstreams q told e

@@ -11,8 +11,8 @@ use Rattle.fleet_site.specs.question.Verdict.{Answer, Unknown, IsAsking, IsPlain
 use Rattle.fleet_site.specs.declared.hit.Plain.{Plain}
 use Rattle.fleet_site.specs.declared.hit.Plain.TheVariants.{Other, Hit, Miss}
 
--- of a hit the buffer holds the reply; what is left to the longer way is no plain question that data
--- could answer
+-- what is decided of octets that may be a plain question: of a hit the buffer holds the reply; what is
+-- left to the longer way is no plain question that data could answer
 abbrev pub DecidesPlain : {A : Type 0} → Observations → Seconds → OctetList → OctetList → Plain A
     → Type 0
 DecidesPlain s t octets out Other =
@@ -20,7 +20,7 @@ DecidesPlain s t octets out Other =
 DecidesPlain s t octets out Hit = Decides s t octets (Answer out)
 DecidesPlain s t octets out (Miss h q) = Decides s t octets (Unknown h q)
 
--- a miss can be asked of an upstream
+-- a miss of a plain question can be asked of an upstream
 abbrev pub IsPlainMiss : {A : Type 0} → OctetList → Plain A → Type 0
 IsPlainMiss octets Other = Unit {0}
 IsPlainMiss octets Hit = Unit {0}

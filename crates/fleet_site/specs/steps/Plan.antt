@@ -31,12 +31,13 @@ pub record IsFailure (o : PendingData) (t : Seconds) (id : ℕ) (e : OutcomeData
   pub last : o.upstreams ≤ entry.upstream + 1
   pub says : e ≡ record nothing { packets = map failure_to entry.waiters }
 
+-- what is to be done as time passes: nothing, the query to the next upstream, or the failure
 abbrev pub IsPlan : {A : Type 0} → List Addr → PendingData → Seconds → Plan A → Type 0
 IsPlan upstreams o t (Idle out) = NoneDue o.entries t × (out ≡ nothing)
 IsPlan upstreams o t (Retry id out) = IsRetry upstreams o t id out
 IsPlan upstreams o t (Fail id out) = IsFailure o t id out
 
--- the same is said, and whether an entry is due
+-- the same is said, and besides whether an entry is due
 pub record SaysMore (o : PendingData) (t : Seconds) (old new : OutcomeData) : Type 0 where
   pub says : new ≡ record old { more = new.more }
   pub more : IsTrue new.more ↔ (¬ NoneDue o.entries t)

@@ -1,5 +1,5 @@
 -- What a reply makes a site write, before its cache or its table changes.
--- Serves `Site::datagram`, where a reply comes.
+-- Serves `Site::datagram`, `Site::datagram_into`, `Site::learn`.
 use Rattle.std.specs.Prelude.{◌≡◌, ℕ, ◌<◌, ◌++◌, Option, None, Result, Ok, Err, false, length, take, map}
 use Rattle.fleet_name.specs.Types.{OctetList}
 use Rattle.fleet_wire.specs.Types.{Seconds}
@@ -19,14 +19,14 @@ use Rattle.fleet_site.specs.declared.outcome.SiteFault.{SiteFault}
 use Rattle.fleet_site.specs.declared.outcome.SiteFault.TheVariants.{OutOfMemory}
 use Rattle.fleet_site.specs.declared.relay.Relay.{Relay}
 
--- what is written for this entry
+-- what a reply makes a site write for this entry
 pub record IsMade {A : Type 0} (g : DigestData) (t : Seconds) (e : EntryData) (r : Relay A) : Type 0 where
   pub id : r.id ≡ e.id
   pub packets : r.packets ≡ map (relay_to g) e.waiters
   pub observed : r.observed.items ≡ reply_observations g t
   pub frames : IsPacked r.observed.items r.frames
 
--- what is said where all of it is carried out
+-- what is said where a relay is carried out whole
 abbrev pub relay_outcome : {A : Type 0} → Relay A → OutcomeData
 relay_outcome r = record {
   packets = r.packets;
@@ -36,7 +36,7 @@ relay_outcome r = record {
   more = false;
 }
 
--- its entry is open, and once it is settled, this is what the octets are for
+-- the entry of a relay is open, and with the entry settled the relay is what the octets are for
 pub record IsRelayOf {A : Type 0} (o : PendingData) (t : Seconds) (place : ℕ) (octets : OctetList) (r : Relay A)
     : Type 0 where
   pub opens : (e : Option EntryData) × ((n : PendingData) × Settles o r.id e n)
@@ -60,7 +60,7 @@ IsRelayFor r s old (Err (OutOfMemory taken)) cache new =
     (taken < length r.observed.items) × (new ≡ old)
     × IsCached (take taken r.observed.items ++ s) cache.floor cache.items
 
--- the refusal is said, or there was no memory
+-- the refusal is said, or there was no memory and nothing was taken
 abbrev pub SaysRefusal : ReplyFault → Result OutcomeData SiteFault → Type 0
 SaysRefusal (Refused r) (Ok o) = o ≡ refusal r
 SaysRefusal (Refused r) (Err f) = ⊥

@@ -17,7 +17,7 @@ pub data IsUnread (octets : OctetList) (e : ReplyFault) : Type 0 where
       → IsUnread octets e
   no_memory_to_read : HasReply octets → e ≡ NoMemory → IsUnread octets e
 
--- it is no reply to a question that is served, or it has a bad chain of aliases; or memory runs out
+-- the reply is none to a question that is served, or it has a bad chain of aliases; or memory runs out
 -- for its digest
 pub data IsUndigested (r : MessageData) (e : ReplyFault) : Type 0 where
   not_served : ¬ IsServed r → e ≡ Refused (Digest NotReply) → IsUndigested r e

@@ -12,13 +12,13 @@ use Rattle.fleet_site.specs.declared.outcome.SiteFault.TheVariants.{OutOfMemory}
 use Rattle.fleet_site.specs.declared.report.Report.{Report}
 use Rattle.fleet_site.specs.server.Sending.{packets_of, AreSent, count_calls, count_step}
 
--- what a sweep says
+-- what the frames of a sweep are as the outcome of a step
 abbrev pub sweep_outcome : {A : Type 0} → Result (Vec OctetList A) AllocError
     → Result OutcomeData SiteFault
 sweep_outcome (Ok frames) = Ok (record nothing { frames = frames.items })
 sweep_outcome (Err e) = Err (OutOfMemory 0)
 
--- all of these were sent or lost, and counted
+-- all of these packets were sent or lost, and counted
 pub record Sends (old new : PortState) (ss : List PacketData) (r q : Report) : Type 0 where
   pub calls : List PortCall
   pub made : Made old new calls

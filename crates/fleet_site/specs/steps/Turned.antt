@@ -18,7 +18,8 @@ pub record LoopState : Type 0 where
   pub site : SiteData
   pub report : Report
 
--- one turn was made; the next sweep is counted from a moment before it, and from one behind it
+-- one turn was made; the next sweep is counted from the one moment before it, and from the other one
+-- after it
 pub record Turned (a b : LoopState) (t : Seconds) (word : ℕ) (every : Seconds)
     (since : Option Seconds) (last : ℕ) : Type 0 where
   pub calls : List PortCall
@@ -40,7 +41,7 @@ pub record GivenOne (a b : LoopState) (t : Seconds) (from : Addr) (octets : Octe
   pub step : action.step ≡ calling (datagram t from octets word)
   pub took : Took a b (action ∷ [])
 
--- what was received was given to the site
+-- what was received was given to the site, and what that gave was carried out and counted
 pub record ReceivedOne (a b : LoopState) (t : Seconds) (word : ℕ) : Type 0 where
   pub arrival : PortCall
   pub actions : List Action
@@ -57,7 +58,7 @@ pub record TickedAll (a b : LoopState) (t : Seconds) : Type 0 where
   pub few : length actions ≤ MOST_ENTRIES
   pub took : Took a b actions
 
--- it swept where it was time
+-- the site swept where it was time, and what that gave was carried out and counted
 pub record SweptOnce (a b : LoopState) (every since t : Seconds) (last : ℕ) : Type 0 where
   pub actions : List Action
   pub swept : SweepsWhenDue every since t actions last

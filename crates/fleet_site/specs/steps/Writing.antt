@@ -1,5 +1,5 @@
 -- What writing an answer adds to an outline.
--- Serves the writers of answers.
+-- Serves `Site::datagram`, `Site::datagram_into`, `Site::ask`.
 use Rattle.std.specs.Prelude.{◌≡◌, ℕ, List, [], ◌∷◌, ◌++◌, map}
 use Rattle.fleet_name.specs.Types.{OctetList}
 use Rattle.fleet_wire.specs.Outline.{OutlineData}
@@ -10,7 +10,7 @@ use Rattle.fleet_observe.specs.Observation.{IsNegativeKind}
 use Rattle.fleet_cache.specs.Answer.{ShownData, AnswerData, Missed, Found, NoData, NxDomain}
 use Rattle.fleet_site.specs.question.AnswerRecords.{row, AreChainRows, IsSoaRow}
 
--- the RCODE of an answer: a name error has its own
+-- the RCODE of an answer: 3 for a name error, else 0 (RFC 1035 4.1.1)
 abbrev pub answer_rcode : AnswerData → ℕ
 answer_rcode Missed = NO_ERROR
 answer_rcode (Found chain set) = NO_ERROR
@@ -25,13 +25,13 @@ IsNegativePart p = IsNegativeKind p.observation.kind
 abbrev pub with_rows : ShownData → List OctetList → OutlineData → OutlineData
 with_rows p rdatas o = record o { answer = o.answer ++ map (row p) rdatas }
 
--- the records of a part are added there
+-- the records of a part are added at the end of the answer section
 abbrev pub AddsRows : ShownData → OutlineData → OutlineData → Type 0
 AddsRows p old new =
     (rdatas : List OctetList) × (p.observation.body ≡ positive_body rdatas)
     × (new ≡ with_rows p rdatas old)
 
--- those of links
+-- the records of links are added at the end of the answer section
 abbrev pub AddsChainRows : List ShownData → OutlineData → OutlineData → Type 0
 AddsChainRows ps old new =
     (rows : List RecordData) × AreChainRows ps rows
@@ -52,7 +52,7 @@ abbrev pub AddsDenial : List ShownData → ShownData → OutlineData → Outline
 AddsDenial chain soa old new =
     (mid : OutlineData) × AddsChainRows chain old mid × AddsSoaRow soa mid new
 
--- all that an answer says is added
+-- all that an answer says is added to a reply: links, then records or an SOA
 abbrev pub AddsAnswer : AnswerData → OutlineData → OutlineData → Type 0
 AddsAnswer Missed old new = new ≡ old
 AddsAnswer (Found chain set) old new = AddsRecords chain set old new

@@ -1,4 +1,5 @@
-//! A port over a socket in memory: what it asks of the socket, and in which order.
+//! A port over a socket in memory: what it asks of the socket, call by call, what it notes, and
+//! what it drops.
 
 use crate::tests::sites::addr;
 use fleet_name::Octets;

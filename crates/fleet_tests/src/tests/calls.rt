@@ -68,6 +68,8 @@ fn check_calls(rt: &impl Abort, alloc: Global, site: &mut Site, other: &mut Site
     check_handed_on(rt, site, other)
 }
 
+/// Allocates: `fleet_site`: `Site::datagram`, `Site::tick`, `Site::frame`, `Site::learn`,
+/// `Site::ask`, `Site::flush`, `Site::sweep`, `Site::merge`.
 #[test]
 fn each_call_answers(rt: HostRuntime) {
     let mut site = Site::new(rt.alloc(), config(&rt, rt.alloc(), &[]));

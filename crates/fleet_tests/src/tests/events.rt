@@ -36,6 +36,7 @@ fn check_world(rt: &impl Abort, alloc: Global, world: &mut World) {
     check_site(rt, world)
 }
 
+/// Allocates: `fleet_world`: `World::new`, `World::run`.
 #[test]
 fn a_run_halts_where_a_frame_is_not_there(rt: HostRuntime) {
     let mut world = fleet(&rt, rt.alloc(), 1, &[]);

@@ -1,8 +1,9 @@
 //! Events of a fleet, and questions to it, as rows of text, and what they give.
 //!
 //! A row is the kind of an event with its site and its moment, or `ask` with a site, a moment and a
-//! question. What each row of these tests gives is tried from outside, by `tests/test_events.py` and
-//! `tests/test_examples.py`; here two fleets are compared.
+//! question. What each row of these tests gives is tried from outside, by `tests/test_events.py`
+//! and `tests/test_examples.py`; here two fleets are compared. Octets that lie, and forged replies,
+//! are tried from outside too, by `tests/test_hostile.py` and `tests/test_forged.py`.
 
 use crate::tests::octets::octets;
 use crate::tests::sites::{addr, at, config, name_of, number};

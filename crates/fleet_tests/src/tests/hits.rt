@@ -1,4 +1,8 @@
-//! A hit at a site that has no memory left.
+//! A hit at a site that has no memory left: it takes none where the buffer has room. No clause asks
+//! for that.
+//!
+//! Plain hits of each kind of answer, and plain misses, with one who joins and with a full table,
+//! are tried from outside, by `tests/test_events.py`; hits over sockets by `tests/test_serving.py`.
 
 use crate::tests::heaps::rest_of;
 use crate::tests::octets::octets;
@@ -91,6 +95,7 @@ fn check_site(rt: &impl Abort, global: Global, heap: &LocalHeap) {
     check_heap(rt, global, heap, &mut site)
 }
 
+/// Allocates: `fleet_site`: `Site::datagram_into`.
 #[test]
 fn a_hit_takes_no_memory(rt: HostRuntime) {
     let heap = LocalHeap::new(rt.alloc(), 1 << 14).expect(&rt, "memory");

@@ -263,6 +263,7 @@ fn refuse_example(rt: &impl Abort, alloc: Global, text: &str, met: &mut Met) {
     refuse_rows(rt, &trial, &rows, met)
 }
 
+/// Allocates: `fleet_world`: `World::step`, `World::ask`.
 #[test]
 fn a_line_without_memory_is_done_again(rt: HostRuntime) {
     let mut met = Met {

@@ -1,4 +1,5 @@
-//! Runs of a server over a port in memory.
+//! Runs of a server over a port in memory. Where a call of the port fails, the port's record has
+//! that call all the same, as far as there is memory for the note: no clause asks for that.
 
 ghost use Rattle.rand_core.specs.Steps.{stream_of, steps_u32};
 
@@ -182,6 +183,7 @@ fn check_failure(rt: &impl Abort, alloc: Global, row: &str) {
     check_turns(rt, alloc, &mut port, number(rt, turns), row)
 }
 
+/// Allocates: `fleet_site`: `serve`. It counts a step that runs out of memory as short.
 #[test]
 fn a_call_that_fails_is_lost_or_a_fault(rt: HostRuntime) {
     for row in FAILURES.lines() {

@@ -1,5 +1,5 @@
--- What one step of reading a name finds.
--- Serves the reader of names.
+-- What one step of reading a name finds (RFC 1035 3.1, 4.1.4).
+-- Serves the readers of names in `read_query`, `read_plain_query`, `read_reply` and `plain_rdata`.
 use Rattle.std.specs.Prelude.{ℕ, ◌+◌, ◌<◌, ◌≤◌, length}
 use Rattle.fleet_name.specs.Types.{OctetList}
 use Rattle.fleet_wire.specs.Types.{Place}
@@ -8,6 +8,8 @@ use Rattle.fleet_wire.specs.NameAt.{LabelAt, EndAt, PointerAt}
 use Rattle.fleet_wire.specs.declared.name_reader.Step.{Step}
 use Rattle.fleet_wire.specs.declared.name_reader.Step.TheVariants.{End, Label, Pointer}
 
+-- what is at p, in a run begun at s, where the labels before it and a zero octet have k octets: a
+-- zero octet, a label with which the name is not too long, or a pointer to a place before the run
 abbrev pub IsStep : OctetList → Place → Place → ℕ → Step → Type 0
 IsStep m p s k End = EndAt m p
 IsStep m p s k (Label l) = LabelAt m p l.now × (k + length l.now + 1 ≤ LONGEST_NAME)

@@ -30,7 +30,7 @@ pub record Happens {A : Type 0} (m : FleetModel) (e : Event A) (r : Result Outco
   pub becomes : Becomes m e r old new
   pub stands : AllZip StandsForReplica sites (slice_set m.sites (site_of e) new)
 
--- one of the sites takes in what another one holds
+-- one of the sites takes in what another one holds, and the list has it then
 pub record Merged (old : List SiteData) (into from : ℕ) (r : Result ℕ SiteFault)
     (new : List SiteData)
     : Type 0 where
@@ -52,7 +52,7 @@ MergesAt old into from r new =
 abbrev pub FailsAs : {A : Type 0} → SiteFault → WorldFault A → Type 0
 FailsAs (OutOfMemory count) f = f ≡ Memory count
 
--- what asking a site gives, as what asking a world gives
+-- what asking a site gives, as what asking a world gives; it takes nothing
 abbrev pub LooksAs : {A : Type 0} → Result (Looked A) SiteFault → Result (Looked A) (WorldFault A)
     → Type 0
 LooksAs (Ok looked) r = r ≡ Ok looked

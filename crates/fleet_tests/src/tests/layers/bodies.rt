@@ -12,6 +12,7 @@ fn check_added(rt: &impl Abort, address: &Observation, octets: &mut Vec<u8>) {
     assert_eq!(rt; octets.as_slice(), wanted.as_slice());
 }
 
+/// Allocates: `fleet_observe`: `Observation::append_body`.
 #[test]
 fn a_body_is_added_behind_octets(rt: HostRuntime) {
     let mut words = Words::new(". 1 3 100 300 c0000201");

@@ -6,6 +6,7 @@
 
 use crate::tests::layers::calls::check_calls;
 
+/// Allocates: `fleet_cache`: `Cache::take`, `Cache::merge`.
 #[test]
 fn caches_take_and_merge(rt: HostRuntime) {
     let rows = "
@@ -20,6 +21,7 @@ merge => 2 1/10 1/300";
     check_calls(&rt, rt.alloc(), rows);
 }
 
+/// Allocates: `fleet_cache`: `Cache::take_list`.
 #[test]
 fn a_cache_takes_a_list(rt: HostRuntime) {
     let rows = "

@@ -1,4 +1,7 @@
-//! Messages of servers, and one of each kind that is read or refused.
+//! Answers of BIND and NSD with compression, and one message of each kind that is read or refused.
+//!
+//! Each reply is written again and compared with what dnspython makes of it. Each octet of these
+//! messages is replaced by others from outside, by `tests/test_messages_at_fault.py`.
 
 use crate::tests::layers::in_place::written_twice;
 use crate::tests::layers::rows::{Words, octets_of, push_octets};
@@ -383,6 +386,8 @@ pub(crate) fn show_rewritten(
     }
 }
 
+/// Allocates: `fleet_wire`: `read_reply`, `Outline::answer`, `Outline::authority`, `write_reply`,
+/// `write_reply_into`.
 #[test]
 fn reads_each_message(rt: HostRuntime) {
     assert_eq!(rt; rows_of(EXAMPLES), 56);

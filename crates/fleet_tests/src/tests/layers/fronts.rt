@@ -1,4 +1,4 @@
-//! Observations of one key, some of them hidden or needless.
+//! A front of observations of one key, some of which a cut hides or another one dominates.
 
 use crate::tests::layers::observations::{moment_of, record_in};
 use crate::tests::layers::rows::{Row, Words, check_output, is_row, read_row};
@@ -75,6 +75,7 @@ fn check_calls(rt: &impl Abort, alloc: Global, rows: &str) {
     }
 }
 
+/// Allocates: `fleet_front`: `Front::take`.
 #[test]
 fn a_front_has_both_of_which_neither_dominates(rt: HostRuntime) {
     let preferred_first = "

@@ -54,6 +54,7 @@ pub(crate) fn show_in_place(
 }
 
 /// The last but one has a capital letter, and the last a pointer.
+/// Allocates: `fleet_wire`: `LentQuestion::try_copy`.
 #[test]
 fn plain_questions_are_read_in_place(rt: HostRuntime) {
     let rows = "\

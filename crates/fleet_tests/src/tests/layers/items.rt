@@ -2,6 +2,7 @@
 
 use fleet_observe::Items;
 
+/// Allocates: `fleet_observe`: `Items::of_one`, `Items::push`.
 #[test]
 fn items_lie_in_the_order_in_which_they_came(rt: HostRuntime) {
     let mut items = Items::of_one(rt.alloc(), 53u16).expect(&rt, "memory");

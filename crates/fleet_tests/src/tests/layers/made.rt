@@ -47,6 +47,7 @@ pub(crate) fn show_denial(
     push_copy(rt, alloc, output, &denial_in(rt, alloc, alloc, &mut words));
 }
 
+/// Allocates: `fleet_observe`: `Observation::write_body`, `Observation::try_clone`.
 #[test]
 fn writes_and_copies_an_address(rt: HostRuntime) {
     let rows = "

@@ -162,6 +162,7 @@ pub(crate) fn show_lower(
 }
 
 /// The root, and the labels `A.B`, `\` and one octet zero.
+/// Allocates: `fleet_name`: `Name::root`, `Name::push`, `Name::write_text`.
 #[test]
 fn writes_text_with_escapes(rt: HostRuntime) {
     let rows = "
@@ -170,6 +171,8 @@ name %412e42.%5c.%00 => 03612e62015c010000 a\\.b.\\\\.\\000. 3 Equal same equal"
     check_rows(&rt, rt.alloc(), rows);
 }
 
+/// Allocates: `fleet_name`: `Name::copy_of`, `Name::try_clone`, `Octets::copy_of`,
+/// `Octets::try_clone`.
 #[test]
 fn copies_are_equal(rt: HostRuntime) {
     let rows = "

@@ -1,7 +1,8 @@
 //! Open questions: rows of calls with their answers.
 //!
 //! A question is spelled by its name and its class, and is for type 1 (A). One who asks is at
-//! 127.0.0.1, and is spelled by a port and an identifier.
+//! 127.0.0.1, and is spelled by a port and an identifier. A 257th question and a 33rd waiter are
+//! tried from outside (`tests/test_bounds.py`, `tests/cases/events_sites.txt`).
 
 use crate::tests::layers::observations::{moment_of, push_name, question_of};
 use crate::tests::layers::rows::{Row, Words, check_output, is_row, read_row};
@@ -230,6 +231,7 @@ fn check_calls(rt: &impl Abort, alloc: Global, table: &mut Pending, rows: &str) 
     }
 }
 
+/// Allocates: `fleet_pending`: `Pending::ask`.
 #[test]
 fn each_waiter_is_answered_once(rt: HostRuntime) {
     let rows = "
@@ -266,6 +268,7 @@ query_id 0000 1 4660 => 4660";
     check_calls(&rt, rt.alloc(), &mut table, rows);
 }
 
+/// Allocates: `fleet_pending`: `Pending::open`.
 #[test]
 fn a_new_question_is_opened_under_the_identifier_of_its_query(rt: HostRuntime) {
     let rows = "

@@ -1,4 +1,8 @@
 //! What a reply says, what is relayed of it, and what is asked: each call where there is memory.
+//!
+//! The observations of replies, field by field, and the octets of relays are tried from outside, by
+//! `tests/test_replies.py`: chains of aliases, denials, NS RRsets, and replies that are cut off or
+//! have another code.
 
 use crate::tests::layers::rows::octets_of;
 use fleet_observe::{Digest, Moment, digest, observations, relay};
@@ -39,6 +43,8 @@ fn check_reply(rt: &impl Abort, alloc: Global, message: &[u8], asked: &[u8]) {
     check_relay(rt, alloc, &digest, asked)
 }
 
+/// Allocates: `fleet_wire`: `read_query`, `write_query`, `Question::try_clone`.
+/// Allocates: `fleet_observe`: `digest`, `observations`, `relay`.
 #[test]
 fn replies_and_queries_are_read_and_written(rt: HostRuntime) {
     let alloc = rt.alloc();

@@ -1,5 +1,7 @@
 //! Frames that are taken into a cache, where there is memory and where none is left, and
-//! observations that are lent.
+//! observations that are lent. Each fault of a frame, in its first entry and in a second one, each
+//! prefix and each octet changed are tried from outside, by `tests/test_frames.py`; and what caches
+//! hold after frames went between them, by `tests/test_caches.py`.
 
 use crate::tests::heaps::rest_of;
 use crate::tests::layers::observations::moment_of;
@@ -82,6 +84,7 @@ fn check_heap(rt: &impl Abort, global: Global, heap: &LocalHeap) {
     assert_eq!(rt; cache.len(), 2);
 }
 
+/// Allocates: `fleet_gossip`: `take_frame`.
 #[test]
 fn what_is_held_is_taken_without_memory(rt: HostRuntime) {
     let heap = LocalHeap::new(rt.alloc(), 1 << 14).expect(&rt, "memory");
@@ -161,6 +164,7 @@ fn check_swept(rt: &impl Abort, alloc: Global, cache: &Cache) {
     assert_eq!(rt; frames.as_slice().len(), 1)
 }
 
+/// Allocates: `fleet_gossip`: `encode`, `decode`, `pack`, `sweep`.
 #[test]
 fn what_is_too_long_for_a_frame_is_not_written(rt: HostRuntime) {
     let frame = octets_of(&rt, rt.alloc(), LARGE);

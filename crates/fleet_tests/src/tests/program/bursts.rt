@@ -1,4 +1,5 @@
-//! Datagrams that wait in a port and find no memory, and the time that a pause takes.
+//! Datagrams that wait in a port and find no memory: none is missing, with each call refused in
+//! turn. And the time that a pause takes.
 
 use super::loopback::{open, send};
 use crate::tests::refusing::Refusing;

@@ -1,4 +1,6 @@
-//! Sites over sockets of this machine, and the system's clock.
+//! Two sites, a client and a stub upstream on sockets of this machine, in one process; what a port
+//! counts and cuts; and the system's clock. The longest frame, and longer ones, are brought to a
+//! running site from outside, by `tests/test_bursts.py`.
 
 use crate::tests::sites::addr;
 use crate::tests::turns::OneWord;

@@ -1,4 +1,5 @@
-//! Scripts with one allocation refused.
+//! Scripts with one allocation refused: each ends with `out of memory` at the line that met it,
+//! exactly where one was refused, and has printed what the lines before it print.
 
 use super::scripts::SCRIPTS;
 use crate::tests::refused::MANY;

@@ -1,4 +1,5 @@
-//! Answers are lent: a cache gives them while every allocation is refused.
+//! Answers are lent: a cache gives them while every allocation is refused. That an answer is not used
+//! after a `purge` or a `take` is seen by `tools/outlived_answers.py`: such a use does not compile.
 
 use crate::tests::fleets::{asked_of, do_row, fleet, same_looked};
 use crate::tests::refused::examples::{DENIAL, LENT, REFUSED, example_of};
@@ -121,6 +122,7 @@ fn check_example<A: Allocator + Copy>(
     assert_eq!(rt; count, example.questions, "{text}");
 }
 
+/// Allocates: `fleet_observe`: `add_rows`, `add_soa`.
 #[test]
 fn answers_are_lent_where_no_memory_is_left(rt: HostRuntime) {
     let refusing = Refusing::after(rt.alloc(), 0);

@@ -1,4 +1,5 @@
-//! A server with one allocation refused.
+//! A server with one allocation refused: it counts one step as short, or one call of the port as
+//! lost or as a fault, and serves on.
 
 use crate::tests::octets::octets;
 use crate::tests::refused::MANY;
