@@ -20,8 +20,7 @@ from support.messages import event_octets, spelled
 
 HEX = re.compile(r"(?:[0-9a-f]{2}|\{[0-9a-f]{2}\*[0-9]+\})+", re.IGNORECASE)
 REPEATED = re.compile(r"\{([0-9a-f]{2})\*([0-9]+)\}", re.IGNORECASE)
-BYTES = re.compile(r'b"((?:[^"\\]|\\.)*)"', re.DOTALL)
-STRING = re.compile(r'(?<!b)"((?:[^"\\]|\\.)*)"', re.DOTALL)
+STRING = re.compile(r"""(?<!\w)(b?)"((?:[^"\\]|\\.)*)"|'\\?"'""", re.DOTALL)
 # Files of tests/cases that have messages and frames by their names or in parts, one a line.
 IN_PARTS = ("event_messages.txt", "hostile_messages.txt", "hostile_flushes.txt")
 SIMPLE = {"n": 10, "r": 13, "t": 9, "0": 0, "\\": 92, '"': 34, "'": 39}
@@ -78,10 +77,8 @@ def datagrams_of(path):
         for line in text.splitlines():
             yield from last_word_of(line)
         return
-    for found in BYTES.finditer(text):
-        yield unescaped(found[1])
-    for found in STRING.finditer(text):
-        yield from words_of(found[1], 6)
+    for is_bytes, words in STRING.findall(text):
+        yield from [unescaped(words)] if is_bytes else words_of(words, 6)
 
 
 def main():
