@@ -101,6 +101,7 @@ class Module:
         serves = next((at for at, it in enumerate(heads) if it.startswith("Serves")), len(heads))
         self.about, self.serves = " ".join(heads[:serves]), " ".join(heads[serves:])
         self.words, self.private, private = [], [], "steps" in file.parts
+        self.handed_on = re.findall(r"^pub use Rattle\.(\w+)\.specs\.([\w.]+)\.\{([^}]*)\}", "\n".join(lines), re.M)
         for at, line in enumerate(lines):
             private = private or PRIVATE in line
             found = DEFINITION.match(line)
@@ -109,8 +110,18 @@ class Module:
                 if not text:
                     fault(file, at, f"{found[1]} has no comment")
                 (self.private if private else self.words).append((found[1], text))
-        if (self.words or self.private) and not (self.about and self.serves):
+        if not self.is_list() and not (self.about and self.serves):
             fault(file, 0, "the head does not say what the module is about, and whom it serves")
+
+    def is_list(self):
+        """Whether it only lists modules."""
+        return not (self.words or self.private or self.handed_on)
+
+    def hands_on(self):
+        """The words of other crates that it hands on."""
+        told = (f"It hands on {', '.join(f'`{it.strip()}`' for it in words.split(','))} of [{crate} {place}]({crate}.md)."
+                for crate, place, words in self.handed_on)
+        return " ".join(told)
 
     def rows(self, words):
         for word, text in words:
@@ -121,7 +132,7 @@ class Module:
 def modules_of(crate):
     top = ROOT / "crates" / crate / "specs"
     found = [Module(file, top) for file in sorted(top.rglob("*.antt"))]
-    return [it for it in found if it.words or it.private]
+    return [it for it in found if not it.is_list()]
 
 
 def clauses_below(lines, at, indent):
@@ -213,8 +224,9 @@ def definitions(title, modules, words_of):
     page = []
     for module in modules:
         words = words_of(module)
-        if words:
-            page += [f"### [{module.name}]({link(module.file)})", "", f"{module.about} {module.serves}".strip(), ""]
+        if words or module.handed_on and words is module.words:
+            told = f"{module.about} {module.serves} {module.hands_on() if words is module.words else ''}"
+            page += [f"### [{module.name}]({link(module.file)})", "", told.strip(), ""]
             page += table(("Word", "Source", "What it says"), module.rows(words))
     return [f"## {title}", "", *page] if page else []
 
@@ -237,8 +249,8 @@ def types(files):
 
 
 def bounds(crate, files):
-    return table(("Constant", "Value", "What it bounds", "Cited in"), (
-        f"| {anchored(name)} | `{value}` | {cell(text)} | {cited_in(crate, name)} |"
+    return table(("Constant", "Value", "File", "What it bounds", "Cited in"), (
+        f"| {anchored(name)} | `{value}` | {it.place} | {cell(text)} | {cited_in(crate, name)} |"
         for it in files for name, value, text in it.constants))
 
 
@@ -278,7 +290,7 @@ def page_of(crate, modules, files):
     page += part('<a id="memory"></a>\n\n## Calls that can find no memory\n\nThe test makes each call with ample memory, and '
                  "compares what it answers.", memory(crate))
     page += part('<a id="let-through"></a>\n\n## What the contracts let through', lets(files))
-    page += definitions("Definitions that only private contracts cite", modules, lambda it: it.private)
+    page += definitions("Definitions of private contracts, and of laws of memory", modules, lambda it: it.private)
     return "\n".join(page).rstrip() + "\n"
 
 

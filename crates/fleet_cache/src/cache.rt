@@ -37,8 +37,8 @@ pub struct Stopped {
 /// maps by the octets of the names, eight octets to a word: one map for short names, one for the
 /// others.
 ///
-/// What is in memory may have ended by the floor, or be withdrawn by a flush that is held. Each purge
-/// drops some of it, and so does each observation that is kept. Public contracts speak of what is held,
+/// What is in memory may have ended by the floor, or be withdrawn by a flush that is held. A purge that
+/// raises the floor drops some of it, and so does each observation that is kept. Public contracts speak of what is held,
 /// and not of this: the contracts of `Memory` and the laws `memory_follows` and `memory_falls` do.
 ///
 /// `most` counts the observations that were given to the maps since these were empty, kept or not. No

@@ -22,8 +22,8 @@ use Rattle.fleet_gossip.specs.declared.fault.FrameFault.{FrameFault}
 use Rattle.fleet_gossip.specs.declared.fault.FrameFault.TheVariants.{BadMagic, BadVersion, TooLong, Truncated, BadKind, BadRank, BadMoment, BadLife, BadName, BadBody, Trailing}
 use Rattle.fleet_gossip.specs.declared.bounds.TheConstants.{LONGEST_FRAME}
 
--- The first fault of a number and of what follows it: some of its octets are missing, it is not
--- lawful, or it is and what follows it fails.
+-- The first fault of a number and of what follows it: some of its octets are missing; it is not
+-- lawful; or it is lawful, and the fault is in what follows it.
 pub data FieldFails (spelled : ℕ → OctetList) (size : ℕ) (Lawful : ℕ → Type 0) (refusal : FrameFault)
     (Behind : ℕ → OctetList → FrameFault → Type 0) (octets : OctetList) (f : FrameFault) : Type 0 where
   cut : length octets < size → f ≡ Truncated

@@ -22,7 +22,7 @@ pub enum FrameFault {
     /// It ends within a field, or before its last entry.
     #[error("truncated")]
     Truncated,
-    /// A kind other than 1, 2 or 3, and in version 2 other than 4, or a type that the kind doesn't
+    /// A kind that the version lacks (it has 1 to 3, version 2 also 4), or a type that the kind doesn't
     /// have: a name error and a flush have 0, the others have none of 0, 41 and 128 to 255
     /// (RFC 6895 3.1).
     #[error("bad kind")]

@@ -20,7 +20,8 @@ use Rattle.fleet_observe.specs.Walk.{EndsBare, IsWalk, HasWalk, last, AreLinks}
 use Rattle.fleet_observe.specs.Soa.{SoaData}
 use Rattle.fleet_observe.specs.Digest.{EndData, WithRecords, WithoutData, WithoutName, WithCode, CutOff, DigestData}
 
--- a reply to a question that is served: of class 1 and of a type that data can have
+-- a reply (QR is set) with Opcode 0, to a question that is served: of class 1 and of a type that data
+-- can have
 pub record IsServed (r : MessageData) : Type 0 where
   pub response : r.header.response ≡ true
   pub opcode : r.header.opcode ≡ 0

@@ -1,4 +1,4 @@
--- What is refused, and where.
+-- Which askers are refused, as a law: `Joins` and `Opens` of Asking have the rule.
 -- Serves law `refusals_are_exact`.
 use Rattle.std.specs.Prelude.{◌≡◌, ◌↔◌, ℕ, ◌≤◌, Result, Err, length}
 use Rattle.fleet_wire.specs.Types.{Seconds}

@@ -24,7 +24,7 @@ const LOWEST_FREE: i32 = 3;
 
 /// A UDP socket that is bound to one address, and the system's clock. A receive that waits does so for
 /// 200 milliseconds at most. It keeps no record of its calls: that it does what a `Socket` has to is
-/// read off its six methods, of one call of the system each.
+/// read off its six methods, which make one call of the system each, or none (`is_waiting`).
 #[derive(Drop)]
 pub struct SystemSocket<'a, C: time::Clock> {
     socket: UdpSocket,

@@ -12,9 +12,10 @@ use Rattle.fleet_wire.specs.declared.fault.ReadFault.TheVariants.{Truncated, Bad
 abbrev pub LengthAt : OctetList → Place → Type 0
 LengthAt m p = (p < length m) × (0 < slice_index m p) × (slice_index m p ≤ LONGEST_LABEL)
 
--- The fault that the octets at p show, in a run begun at s, where the labels before it and a zero
--- octet have k octets: no octet is there; a pointer has no second one; the top bits are 01 or 10; a
--- pointer's target is not before the run; the name would be too long; a label is cut off.
+-- The fault that the octets at p show, in a run begun at s; k is the length in full of the labels
+-- read so far, with the final zero octet. No octet is there; a pointer has no second one; the top bits
+-- are 01 or 10; a pointer's target is not before the run; the name would be too long; a label is cut
+-- off.
 pub data FaultAt (m : OctetList) (p s : Place) (k : ℕ) (f : ReadFault) : Type 0 where
   no_octet : length m ≤ p → f ≡ Truncated → FaultAt m p s k f
   half_pointer : length m ≡ p + 1 → 192 ≤ slice_index m p → f ≡ Truncated → FaultAt m p s k f

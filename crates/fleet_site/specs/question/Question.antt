@@ -29,7 +29,7 @@ abbrev pub waiter : Addr → Header → QuestionData → WaiterData
 waiter from h q = record { from = from; id = h.id; question = q }
 
 -- the question is turned away: a server failure with it (RCODE 2, RFC 1035 4.1.1), and the refusal
--- `Full`
+-- `Full`, whether too many questions are open or too many wait for this one
 abbrev pub turns_away : Addr → Header → QuestionData → OutcomeData
 turns_away from h q = record (sends from (bare_octets h SERVER_FAILURE (Some q)))
     { refused = Some Full }

@@ -78,7 +78,8 @@ Given t word (Fault asked) actions = actions ≡ []
 Given t word (PacketSent s) actions = ⊥
 Given t word (PacketLost s) actions = ⊥
 
--- ticks at a moment, each but the last with another one to follow, and whether one follows the last
+-- ticks at a moment, each because the one before said that another question is due; and whether the last
+-- one says so
 pub data Ticks (t : Seconds) : List Action → Bool → Type 0 where
   no_tick : Ticks t [] true
   next_tick : {actions : List Action} (a : Action) → Ticks t actions true → a.step ≡ calling (tick t)

@@ -8,8 +8,9 @@ use Rattle.fleet_wire.specs.NameAt.{LabelAt, EndAt, PointerAt}
 use Rattle.fleet_wire.specs.declared.name_reader.Step.{Step}
 use Rattle.fleet_wire.specs.declared.name_reader.Step.TheVariants.{End, Label, Pointer}
 
--- what is at p, in a run begun at s, where the labels before it and a zero octet have k octets: a
--- zero octet, a label with which the name is not too long, or a pointer to a place before the run
+-- what is at p, in a run begun at s; k is the length in full of the labels read so far, with the final
+-- zero octet: a zero octet, a label with which the name is not too long, or a pointer to a place before
+-- the run
 abbrev pub IsStep : OctetList → Place → Place → ℕ → Step → Type 0
 IsStep m p s k End = EndAt m p
 IsStep m p s k (Label l) = LabelAt m p l.now × (k + length l.now + 1 ≤ LONGEST_NAME)
