@@ -8,7 +8,7 @@ the repository to a scratch folder. There it runs the `sh` blocks of each page i
 script below examples/. A block without a language right after a recipe is what that prints. Where the recipe leaves a
 program running, other lines may come between. A TTL and a number of seconds may differ.
 
-The program in place of a new build: `rt try -- ..` and `rt run -- ..` run the proved one. `apt-get` does nothing, and a
+`rt try .. -- WORDS` and `rt run -- WORDS` run the proved program in place of a new build. `apt-get` does nothing, and a
 recipe that is only `./check` is left out. The status is 1 where something else is printed, a recipe fails, or the clone is
 not as it was.
 """
@@ -30,7 +30,7 @@ LEFT_OUT = ("./check",)
 SECONDS = 300
 END = "-- the recipe ended with"
 # What stands in place of commands, so that the proved program is run and nothing is installed.
-IN_PLACE = {"rt": 'shift 2; exec "$PROGRAM" "$@"', "apt-get": ":"}
+IN_PLACE = {"rt": 'while [ "$1" != -- ]; do shift; done; shift; exec "$PROGRAM" "$@"', "apt-get": ":"}
 
 
 def recipes(text):
