@@ -249,7 +249,7 @@ def types(files):
 
 
 def bounds(crate, files):
-    return table(("Constant", "Value", "File", "What it bounds", "Cited in"), (
+    return table(("Constant", "Value", "File", "What it is", "Cited in"), (
         f"| {anchored(name)} | `{value}` | {it.place} | {cell(text)} | {cited_in(crate, name)} |"
         for it in files for name, value, text in it.constants))
 
@@ -287,8 +287,8 @@ def page_of(crate, modules, files):
     page = [f"# `{crate}`", "", NOTE, ""]
     page += definitions("Definitions", modules, lambda it: it.words)
     page += part("## Types", types(files)) + part("## Public functions", functions(files)) + part("## Bounds", bounds(crate, files))
-    page += part('<a id="memory"></a>\n\n## Calls that can find no memory\n\nThe test makes each call with ample memory, and '
-                 "compares what it answers.", memory(crate))
+    page += part('<a id="memory"></a>\n\n## Calls that can find no memory\n\nBy its contract each of these calls may always '
+                 'answer "out of memory". Its test fails if it does.', memory(crate))
     page += part('<a id="let-through"></a>\n\n## What the contracts let through', lets(files))
     page += definitions("Definitions of private contracts, and of laws of memory", modules, lambda it: it.private)
     return "\n".join(page).rstrip() + "\n"

@@ -1,4 +1,4 @@
--- What flushes withdraw.
+-- What flushes withdraw, at their name and below, until they end: also what comes in later.
 -- Serves every call of `Cache`, law `tests_hold`.
 use Rattle.std.specs.Prelude.{◌≡◌, ◌≢◌, ◌≤◌, Bool, true, false, ◌&&◌, not, nat_le}
 use Rattle.std.specs.List.{list_any}
@@ -10,7 +10,8 @@ use Rattle.fleet_observe.specs.Observation.{ObservationData, Observations}
 use Rattle.fleet_cache.specs.Relevant.{is_under}
 
 -- f withdraws o: f is a flush of the name of o or of one above it, o is no flush, and o was stamped no
--- later than f. Whether f has ended is not asked, since what it withdraws ends no later
+-- later than f. Whether f has ended is not asked: a flush has the longest life, a day (`LONGEST_LIFE`), so
+-- what it withdraws ends no later
 pub record Voids (f o : ObservationData) : Type 0 where
   pub flush : f.kind ≡ Flush
   pub other : o.kind ≢ Flush

@@ -84,9 +84,9 @@ impl<A: Allocator> Cache<A> {
 
     /// Takes an observation in: the cache is then that of the set with this one. The answer is `false`
     /// exactly where the observation had ended at the floor, is withdrawn by a flush, was there already
-    /// or is dominated: then nothing changes. Else what it dominates goes. A flush withdraws what was
-    /// stamped no later at and below its name, whether that came before it or comes after; this is
-    /// hidden at once, and leaves the memory later. After an observation that is kept, some of what has
+    /// or is dominated: then nothing changes. Else what it dominates goes. A flush withdraws what lies
+    /// at its name or below and is stamped no later than the flush, whether that came before it or comes
+    /// after; this is hidden at once, and leaves the memory later. After an observation that is kept, some of what has
     /// ended by the floor leaves the memory too.
     ///
     /// Memory is allocated only for an observation that is to be held. `Err` where the allocation
@@ -201,8 +201,8 @@ impl<A: Allocator> Cache<A> {
     }
 
     /// Raises the floor to the moment, if that is later: the cache is then that of the same set at this
-    /// floor. What has ended by then is not held any more. A part of it leaves the memory at once, and
-    /// of what is withdrawn, the rest at further purges and takes. Each purge that raises the floor
+    /// floor. What has ended by then is not held any more. A part of what has ended or is withdrawn
+    /// leaves the memory at once, the rest at later purges and takes. Each purge that raises the floor
     /// looks at up to 4096 fronts, or at the 256th part of them where that is more. It goes on where
     /// the last one ended, and ends at the last front.
     ///

@@ -124,8 +124,9 @@ pub data NameFieldFails (refusal : FrameFault)
 abbrev pub KindOf : (Kind → OctetList → FrameFault → Type 0) → ℕ → OctetList → FrameFault → Type 0
 KindOf Behind number octets f = (kind : Kind) × IsKind number kind × Behind kind octets f
 
--- The first fault of an entry. It has a line for each field, in reading order: how it is spelled and in
--- how many octets, what is lawful, the fault of what is not, and its name for the lines that follow.
+-- The first fault of an entry. It has a line for each field, in reading order: how it is spelled, in how
+-- many octets, what is lawful, the fault if it is not, and the name that later lines use. A type that the
+-- kind does not have is `BadKind`, after the name.
 -- The lemmas call these lines by the names in proofs/EntryLines.antt.
 abbrev pub EntryFails : ℕ → OctetList → FrameFault → Type 0
 EntryFails version =

@@ -42,8 +42,8 @@ IsWalkable r = HasWalk r.answer r.question.rtype r.question.name
 abbrev pub IsSound : MessageData → Type 0
 IsSound r = IsServed r × (AsksWalk r → IsWalkable r)
 
--- why there is no digest, the first reason: out of memory only where nothing is wrong with the
--- reply
+-- Why there is no digest, the first reason: `NotReply` for a reply that is not served, `BadChain` where a
+-- walk is asked for and there is none, and out of memory only where nothing is wrong with the reply.
 pub data IsFault (r : MessageData) (f : DigestFault) : Type 0 where
   not_reply : ¬ IsServed r → f ≡ NotReply → IsFault r f
   bad_chain : IsServed r → AsksWalk r → ¬ IsWalkable r → f ≡ BadChain → IsFault r f

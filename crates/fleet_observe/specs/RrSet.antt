@@ -1,4 +1,4 @@
--- The RRset of a section at a name and a type (RFC 2181 5).
+-- The RRset of a section at a name and a type, and a TTL as it is read (RFC 2181 5, 8).
 -- Serves `digest`, `add_rows`, and every call of `RrSet`.
 use Rattle.std.specs.Prelude.{◌≡◌, ℕ, ◌≤◌, List, [], ◌∷◌, if◌then◌else◌, nat_le, min, suc}
 use Rattle.std.specs.Ordering.{nat_cmp, is_lt}

@@ -42,9 +42,9 @@ last n (m ∷ later) = last m later
 
 -- The walk from n over the later names, which are at most MOST_LINKS. Each name goes on to the next
 -- one by an alias with that target alone. The last one has records of the type, or no records of it
--- and no alias. So there is no walk that comes to a name with two different aliases where these are
--- asked for or the name has no records of the type, none where the names loop, and none with one link
--- more.
+-- and no alias. There is no walk (`BadChain`) where the names loop, with one link more, or where it
+-- comes to a name with two different aliases and either CNAME is asked for or the name has no records of
+-- the type.
 pub record IsWalk (s : List RecordData) (t : RType) (n : Labels) (later : List Labels)
     : Type 0 where
   pub path : IsPath s t n later

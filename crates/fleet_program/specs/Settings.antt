@@ -1,4 +1,4 @@
--- The sites of a script, and their addresses.
+-- The sites of a script, with the configuration that each has, and their addresses.
 -- Serves `run_script`.
 use Rattle.std.specs.Prelude.{ℕ, ◌+◌, List, [], ◌∷◌, ◌++◌, zero, suc, nat_eq, if◌then◌else◌}
 use Rattle.fleet_pending.specs.declared.addr.Addr.{Addr}

@@ -27,8 +27,9 @@ pub record PointerAt (m : OctetList) (p q : Place) : Type 0 where
   pub target : q ≡ (slice_index m p - 192) * 256 + slice_index m (p + 1)
 
 -- In message m, in a run of labels begun at s, the labels of n are at p in their own case, and end
--- before e. The name ends there with a zero octet, goes on with a label, or a pointer leads to the
--- rest of it, at a place before the run, where another run begins: so no chain of pointers is endless.
+-- before e. The name ends there with a zero octet, or goes on with a label, or a pointer at p leads to
+-- the rest of it. The pointer leads to a place before the beginning s of its run, not merely before p,
+-- and a new run begins there: so no chain of pointers is endless.
 pub data NameAt (m : OctetList) : Place → Place → Labels → Place → Type 0 where
   ends : {s p : Place} {n : Labels} {e : Place} → EndAt m p → n ≡ [] → e ≡ p + 1 → NameAt m s p n e
   goes_on : {s p : Place} {n : Labels} {e : Place} (label : Label) (rest : Labels)

@@ -95,7 +95,7 @@ abbrev pub with_authority : OutlineData → RecordData → OutlineData
 with_authority o r = record o { authority = o.authority ++ r ∷ [] }
 
 -- the octets of a reply: all of it where that has at most LONGEST_MESSAGE octets, else header and
--- question, cut off (RFC 1035 4.1)
+-- question, cut off, with TC (RFC 1035 4.1.1, 4.2.1)
 unfoldable pub octets_of_outline : OutlineData → OctetList
 octets_of_outline o =
     if nat_le (length (whole_octets o)) LONGEST_MESSAGE then whole_octets o else cut_octets o

@@ -1,4 +1,5 @@
--- A reply that was read, and what it means.
+-- What a reply that was read means, or why it is refused (`NotReply`, `BadChain`): its question then
+-- stays open, and the next upstream is asked when the time is over.
 -- Serves `Site::datagram`, `Site::datagram_into`, `Site::learn`.
 use Rattle.std.specs.Prelude.{◌≡◌}
 use Rattle.fleet_name.specs.Types.{OctetList}

@@ -110,8 +110,9 @@ pub record ServerState : Type 0 where
 abbrev pub ROOM : ℕ
 ROOM = LONGEST_FRAME + 1
 
--- one turn of a server, at a moment with a word: a receive that asks for ROOM octets, then the sends of
--- the datagram, of at most MOST_ENTRIES ticks, and of the sweep
+-- One turn of a server, at a moment with a word: it receives at most one datagram, for which it asks for
+-- ROOM octets, and gives it to the site; ticks, at most MOST_ENTRIES times; and sweeps if it is time. What
+-- a step gives is sent before the next step.
 pub record Turn (t : Seconds) (word : ℕ) (every : Seconds) (a b : ServerState) : Type 0 where
   pub arrival : PortCall
   pub given : List Action
