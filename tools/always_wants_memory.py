@@ -93,8 +93,11 @@ def attempt(crate, call, test):
 def main():
     wanted = sys.argv[1:]
     made = [(crate, call, test) for crate, calls, test in rows() for call in calls]
+    unknown = [call for call in wanted if call not in {call for _, call, _ in made}]
     tried = [attempt(*row) for row in made if not wanted or row[1] in wanted]
-    sys.exit(0 if all(tried) else 1)
+    for call in unknown:
+        print(f"{call}: no test says that it makes this call")
+    sys.exit(0 if all(tried) and not unknown else 1)
 
 
 if __name__ == "__main__":
