@@ -17,8 +17,9 @@ use Rattle.fleet_cache.specs.Dominates.{dominates}
 abbrev pub item_order : ObservationData → ObservationData → Ordering
 item_order x y = ordering_then (octets_cmp (key_of y) (key_of x)) (preference x y)
 
--- the items are what a cache holds of the lawful set s at the floor: the front of those members that
--- are live then, which is the undominated ones, by key and the preferred first
+-- The items are what a cache holds of the lawful set s at the floor: of those members that are live then,
+-- which have not ended by the floor and which no flush of s withdraws, the undominated ones, by key and
+-- the preferred first.
 pub record IsCached (s : Observations) (floor : Seconds) (items : Observations) : Type 0
   where
     pub lawful : AreObservations s

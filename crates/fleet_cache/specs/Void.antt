@@ -1,4 +1,5 @@
--- What flushes withdraw, at their name and below, until they end: also what comes in later.
+-- What a flush withdraws: all at its name or below that is stamped no later, whether it came in before
+-- the flush or comes in after it.
 -- Serves every call of `Cache`, law `tests_hold`.
 use Rattle.std.specs.Prelude.{◌≡◌, ◌≢◌, ◌≤◌, Bool, true, false, ◌&&◌, not, nat_le}
 use Rattle.std.specs.List.{list_any}

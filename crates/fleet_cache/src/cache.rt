@@ -153,8 +153,8 @@ impl<A: Allocator> Cache<A> {
         is_past_lent(self.memory.held(), lent, self.memory.floor())
     }
 
-    /// Whether what is lent is held, so that it need not be taken in. It is `true` for each item, and
-    /// for what has ended at the floor or is withdrawn and is still in memory. It is compared in place,
+    /// Whether what is lent is in memory, so that it need not be taken in. It is `true` for each item, and
+    /// for what has ended at the floor or is withdrawn and has not left the memory. It is compared in place,
     /// and nothing is allocated.
     pub fn holds(&self, lent: &LentObservation<'_>) -> bool
         requires { IsWire lent.now.name.now }
