@@ -6,6 +6,7 @@ import multiprocessing
 import os
 import random
 import re
+import select
 import shutil
 import subprocess
 import sys
@@ -147,6 +148,77 @@ def ask(port, rate, seconds, ttls, sample, every):
         return told.read().decode()
 
 
+def hex_of(name):
+    """The octets of a name in full, in hexadecimal digits."""
+    return "".join(f"{len(label):02x}{label.encode().hex()}" for label in name.split(".")) + "00"
+
+
+def lines_of(second, rate, first, ttls, words):
+    """Lines of a script: site 0 learns so many new names in a second, and site 1 takes each in from a frame."""
+    zones = {ttl: (hex_of(f"t{ttl}.{ZONE}"), f"{ttl:08x}") for ttl in ttls}
+    for number in range(first, first + rate):
+        zone, life = zones[words.choice(ttls)]
+        name = f"096e{f'{number:08d}'.encode().hex()}{zone}"
+        yield f"learn 0 {second} 000085000001000100000000{name}00010001c00c00010001{life}0004c6120002\n"
+        yield f"frame 1 {second} 44470200010303{second:016x}{life}{name}000100010004c6120002\n"
+
+
+class Script:
+    """A script of two sites that runs. Its moments are those that it is handed, whatever the machine can do."""
+
+    def __init__(self, program):
+        self.process = subprocess.Popen([program, "script"], stdin=subprocess.PIPE, stdout=subprocess.PIPE)
+        os.set_blocking(self.process.stdout.fileno(), False)
+        self.told = b""
+        self.write(["sites 2\n"])
+
+    def read(self):
+        """What was printed since; only the end of it is kept."""
+        printed = self.process.stdout.read() or b""
+        self.told = (self.told + printed)[-100:]
+        return printed.count(b"\n")
+
+    def write(self, lines):
+        """Writes lines, and reads what they print, until each line but `sites` has printed one."""
+        wanted = sum(not line.startswith("sites") for line in lines)
+        for at in range(0, len(lines), 200):
+            self.process.stdin.write("".join(lines[at : at + 200]).encode())
+            self.process.stdin.flush()
+            wanted -= self.read()
+        while wanted > 0:
+            select.select([self.process.stdout], [], [], 1)
+            wanted -= self.read()
+
+    def memory(self):
+        return Server.memory(self)
+
+    def end(self):
+        self.process.stdin.close()
+        while self.process.poll() is None:
+            self.read()
+
+
+def hand_in(program, rate, seconds, ttls, every):
+    """Rows of the seconds, and the memory of a script whose two sites take in so many new names a second, exactly."""
+    script, words, rows = Script(program), random.Random(1), []
+    for second in range(1, seconds + 1):
+        script.write(["tick 0 {0}\n".format(second), "tick 1 {0}\n".format(second)])
+        script.write(list(lines_of(second, rate, second * rate, ttls, words)))
+        if second % every == 0 or second in (1, 2, 3, 5):
+            rows.append((second, script.memory()))
+    script.end()
+    return rows
+
+
+def report_script(options, live, ttls):
+    """Prints what a script of two sites holds by the seconds that it is handed."""
+    held = hand_in(options.program, live, 1, [HOUR], 1)[-1][1]
+    print(f"\na script of two sites: {held:.0f} MiB with {live} names that live for an hour at each\n")
+    print("| Seconds | both sites MiB |\n|---|---|")
+    for second, memory in hand_in(options.program, options.rate, options.seconds, ttls, options.every):
+        print(f"| {second} | {memory:.0f} |", flush=True)
+
+
 def said(text):
     """The questions, those that were lost, those with another code than 0, how many were answered a second, the slowest
     answer in milliseconds, and the mean one in microseconds. What was lost counts as no answer."""
@@ -191,11 +263,17 @@ def main():
     parser.add_argument("--ttl", default="3", help="of the names, in seconds: one, or the least and the greatest as 1-60")
     parser.add_argument("--every", type=int, default=10, help="seconds between two rows")
     parser.add_argument("--servers", default="dnsfleet,unbound,dnsmasq")
+    parser.add_argument("--script", action="store_true", help="hand all names in by a script, at its own moments, in place "
+                        "of asking for them: needs no other tool")
     options = parser.parse_args()
     least, _, most = options.ttl.partition("-")
     ttls = list(range(int(least), int(most or least) + 1))
     live = round(options.rate * sum(ttls) / len(ttls))
     options.program = os.path.abspath(options.program)
+    if options.script:
+        print(f"{options.rate} new names a second, TTL {options.ttl} s: {live} live at a time")
+        report_script(options, live, ttls)
+        return
     names = [name for name in options.servers.split(",") if name == "dnsfleet" or shutil.which(name)]
     for tool in ("nsd", "dnsperf"):
         if not shutil.which(tool):
