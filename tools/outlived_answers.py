@@ -3,7 +3,7 @@
 
 An answer is lent by its cache. The prover is never asked about code that the compiler refuses, so no wrong body can show
 it. Here a crate with one test is made over a copy of the sources: it takes an observation, asks, and changes the cache.
-Where it reads the answer behind the change, `rt try --test` has to refuse it as a borrow that is still in use (E0502 of
+Where it reads the answer after the change, `rt try --test` has to refuse it as a borrow that is still in use (E0502 of
 rustc); where it reads it before, the test has to pass.
 
     python3 tools/outlived_answers.py
@@ -85,7 +85,7 @@ def main():
         said, passes, refused = tried("", change, READ)
         well = well and refused and not passes
         told = "does not compile, as it has to" if refused else "is not refused"
-        print(f"{call}: an answer that is read behind it {told}: {said[:200]}", flush=True)
+        print(f"{call}: an answer that is read after it {told}: {said[:200]}", flush=True)
     said, passes, _ = tried(READ, "".join(CHANGES.values()), "")
     print(f"An answer that is read before both: {said[:200]}")
     sys.exit(0 if well and passes else 1)

@@ -2,7 +2,7 @@
 """Gives functions wrong bodies that no contract can refuse, and sees that a test fails for each.
 
 Such a body is an edit of the code, crates/NAME/tested-bodies/BODY.edit, in the form of those of must-fail/ (`rt help`)
-behind a first line that names what has to fail. Each is applied in a copy of the sources.
+after a first line that names what has to fail. Each is applied in a copy of the sources.
 
 `test: CRATE::TEST` names a test of Rattle, which runs there, unproved (`rt try --test`). `rt ci` sees it pass without.
 `case: MODULE.CLASS.TEST ..` names cases of the program, as `tests/run --list` does. The program is proved there with the body
