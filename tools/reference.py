@@ -283,8 +283,16 @@ def memory(crate):
     return table(("Calls", "Test"), lines)
 
 
+def head_of(crate):
+    """What the root of a crate says of it first."""
+    roots = (ROOT / "crates" / crate / "src" / name for name in ("lib.rt", "main.rt"))
+    lines = next(it for it in roots if it.is_file()).read_text().splitlines()
+    text = "\n".join(line[3:].strip() for line in lines if line.startswith("//!"))
+    return cell(text.partition("\n\n")[0].replace("\n", " "))
+
+
 def page_of(crate, modules, files):
-    page = [f"# `{crate}`", "", NOTE, ""]
+    page = [f"# `{crate}`", "", head_of(crate), "", NOTE, ""]
     page += definitions("Definitions", modules, lambda it: it.words)
     page += part("## Types", types(files)) + part("## Public functions", functions(files)) + part("## Bounds", bounds(crate, files))
     page += part('<a id="memory"></a>\n\n## Calls that can find no memory\n\nBy its contract each of these calls may always '
