@@ -70,7 +70,7 @@ def cell(text):
 
 def sentence(text):
     """A text that begins with a capital letter, as a sentence, unless it begins with a name."""
-    plain = re.match(r"[a-z]{2,}[ ,]|a (?!is |has |was |and |or |may )[a-z]", text)
+    plain = re.match(r"[a-z]{2,}[ ,]|a (?!is |has |was |and |or |may )[A-Za-z]", text)
     text = text[0].upper() + text[1:] if plain else text
     return text if text.endswith((".", ":", "?")) else text + "."
 
