@@ -263,8 +263,8 @@ def main():
     parser.add_argument("--ttl", default="3", help="of the names, in seconds: one, or the least and the greatest as 1-60")
     parser.add_argument("--every", type=int, default=10, help="seconds between two rows")
     parser.add_argument("--servers", default="dnsfleet,unbound,dnsmasq")
-    parser.add_argument("--script", action="store_true", help="hand all names in by a script, at its own moments, in place "
-                        "of asking for them: needs no other tool")
+    parser.add_argument("--script", action="store_true", help="hand all names in by a script, at its own moments, in "
+                        "place of asking for them: needs no other tool")
     options = parser.parse_args()
     least, _, most = options.ttl.partition("-")
     ttls = list(range(int(least), int(most or least) + 1))
