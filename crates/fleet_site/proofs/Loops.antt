@@ -34,10 +34,6 @@ abbrev pub ticks_left : Bool → ℕ → ℕ
 ticks_left true due = due + 1
 ticks_left false due = 0
 
--- a state of the loop
-abbrev pub loop_state : PortState → SiteData → Report → LoopState
-loop_state port site report = record { port = port; site = site; report = report }
-
 -- some ticks of a turn
 pub record Ticking (a b : LoopState) (t : ℕ) (more : Bool) : Type 0 where
   pub actions : List Action

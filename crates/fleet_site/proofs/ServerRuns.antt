@@ -10,12 +10,12 @@ use Rattle.fleet_site.specs.server.PortRecord.{PortCall, Received, NoDatagram, F
 use Rattle.fleet_site.specs.server.Sending.{count_call, count_calls, count_refusal_in, count_step}
 use Rattle.fleet_site.specs.server.Turn.{Action, calls_of, count_actions, ActionsLead, ServerState, Turn, left_after, word_of, HasPassed, IsMomentOfTurn, Turns, empty_report, start_of}
 use Rattle.fleet_site.specs.server.Served.{Served, FollowsSteps}
-use Rattle.fleet_site.specs.steps.Turned.{Turned}
+use Rattle.fleet_site.specs.steps.Turned.{loop_state, Turned}
 use Rattle.fleet_site.specs.declared.outcome.SiteFault.{SiteFault}
 use Rattle.fleet_site.specs.declared.report.Report.{Report}
 use Rattle.fleet_site.proofs.ServerLists.{made_none, made_both, failures_of-append}
 use Rattle.fleet_site.proofs.ServerTurns.{acts_both}
-use Rattle.fleet_site.proofs.Loops.{Serves, CountsFailures, loop_state}
+use Rattle.fleet_site.proofs.Loops.{Serves, CountsFailures}
 
 moment_at : (f : ℕ → ℕ) (n t : ℕ) (now next : Option (ℕ → ℕ)) → HasPassed (Some f) n now
     → IfSome now (λ h. (t ≡ h 0) × (next ≡ Some (λ k. h (k + 1)))) → t ≡ f n
@@ -89,19 +89,19 @@ later_turn t w every s u before calls since last r q k = record {
 }
 
 pub serves_more : (old mid new : PortState) (ms : Option (ℕ → ℕ)) (s : Stream)
-    (n every t w last : ℕ) (a b c : SiteData) (swept : Option ℕ) (r q : Report)
+    (n every t w : ℕ) (a b c : SiteData) (swept last : Option ℕ) (r q : Report)
     → Serves old mid ms s n every a b swept r
     → IsMomentOfTurn ms n t
     → w ≡ word_of s n
     → Turned (loop_state mid b r) (loop_state new c q) t w every swept last
-    → Serves old new ms s (n + 1) every a c (Some last) q
-serves_more old mid new ms s n every t w last a b c swept r q k m e x =
+    → Serves old new ms s (n + 1) every a c last q
+serves_more old mid new ms s n every t w a b c swept last r q k m e x =
     let start : ServerState = start_of a in
     let here : ServerState = record { site = b; calls = k.end.calls; swept = swept; report = r } in
     let end : ServerState = record {
       site = c;
       calls = k.end.calls ++ x.calls;
-      swept = Some last;
+      swept = last;
       report = q;
     } in
     let same : k.end ≡ here =
@@ -112,7 +112,7 @@ serves_more old mid new ms s n every t w last a b c swept r q k m e x =
       report = sym k.is_report i;
     } in
     let turn : Turn t w every here end =
-    later_turn t w every b c k.end.calls x.calls swept (Some last) r q x.turn in
+    later_turn t w every b c k.end.calls x.calls swept last r q x.turn in
     let drawn : Turn t (word_of s n) every here end =
     subst (λ (y : ℕ). Turn t y every here end) e turn in
     let from : Turn t (word_of s n) every k.end end =

@@ -1,5 +1,5 @@
 -- Steps, ticks and turns of a server.
-use Rattle.std.proofs.Common.{◌≡◌, IsTrue, IfOk, Vec, ℕ, ◌+◌, ◌<◌, ◌≤◌, List, [], ◌∷◌, ◌++◌, Bool, true, false, max, Option, Result, Ok, Err, inl, inr, refl, sym, ap, subst, ◌∙◌, append_assoc, length, length-append, arith}
+use Rattle.std.proofs.Common.{◌≡◌, IsTrue, IfOk, Vec, ℕ, ◌+◌, ◌<◌, ◌≤◌, List, [], ◌∷◌, ◌++◌, Bool, true, false, max, Option, Some, Result, Ok, Err, inl, inr, refl, sym, ap, subst, ◌∙◌, append_assoc, length, length-append, arith}
 use Rattle.std.proofs.lemmas.List.{append-nil}
 use Rattle.std.specs.Option.{unwrap_or}
 use Rattle.fleet_pending.specs.declared.bounds.TheConstants.{MOST_ENTRIES}
@@ -18,11 +18,11 @@ use Rattle.fleet_site.specs.server.PortRecord.{PortCall, Received, NoDatagram, F
 use Rattle.fleet_site.specs.server.Sending.{AreSent, packets_of, count_call, count_calls, count_step, goes_on}
 use Rattle.fleet_site.specs.steps.Sends.{sweep_outcome, Sends, CarriesOut}
 use Rattle.fleet_site.specs.server.Turn.{TurnStep, calling, sweeping, Action, calls_of, count_actions, AllSent, ActionsLead, HasActed, ROOM, no_tick, next_tick, IsSweepDue}
-use Rattle.fleet_site.specs.steps.Turned.{Turned, Took, GivenOne, ReceivedOne, TickedAll, SweptOnce}
+use Rattle.fleet_site.specs.steps.Turned.{loop_state, Turned, Took, GivenOne, ReceivedOne, TickedAll, SweptOnce}
 use Rattle.fleet_site.specs.declared.outcome.SiteFault.{SiteFault}
 use Rattle.fleet_site.specs.declared.report.Report.{Report}
 use Rattle.fleet_site.proofs.ServerLists.{made_none, made_both}
-use Rattle.fleet_site.proofs.Loops.{loop_state, due_by, room, Ticking, Stepped}
+use Rattle.fleet_site.proofs.Loops.{due_by, room, Ticking, Stepped}
 
 calls_of-append : (ys bs : List Action) → calls_of (ys ++ bs) ≡ calls_of ys ++ calls_of bs
 calls_of-append [] bs = refl
@@ -160,23 +160,33 @@ heard_fault old new asked t w s r q m n i e =
       report = e;
     }
 
-pub swept_now : (old new : PortState) (every since t : ℕ) (s : SiteData) (r q : Report)
-    (peers : List Addr) (a : Result OutcomeData SiteFault)
-    → IsSweepDue every since t → peers ≡ s.config.peers → Stepped sweeping a s s
-    → CarriesOut old new peers a r q → SweptOnce (loop_state old s r) (loop_state new s q) every since t t
-swept_now old new every since t s r q peers a due i k c =
+pub swept_now : (old new : PortState) (every t from : ℕ) (since : Option ℕ) (s : SiteData)
+    (r q : Report) (peers : List Addr) (a : Result OutcomeData SiteFault)
+    → from ≡ unwrap_or since t → IsSweepDue every from t → peers ≡ s.config.peers
+    → Stepped sweeping a s s → CarriesOut old new peers a r q
+    → SweptOnce (loop_state old s r) (loop_state new s q) every t since (Some t)
+swept_now old new every t from since s r q peers a d due i k c =
     let y : CarriesOut old new s.config.peers a r q =
     subst (λ (ps : List Addr). CarriesOut old new ps a r q) i c in
     record {
       actions = action_of sweeping a y.calls ∷ [];
-      swept = inl (due, (action_of sweeping a y.calls, refl, refl, refl));
+      swept = (
+        t,
+        inl (subst (λ (m : ℕ). IsSweepDue every m t) d due,
+            (action_of sweeping a y.calls, refl, refl, refl)),
+        refl,
+      );
       took = took_one old new s s sweeping a r q k y;
     }
 
-pub swept_not : (old : PortState) (every since t : ℕ) (s : SiteData) (r : Report)
-    → (¬ IsSweepDue every since t) → SweptOnce (loop_state old s r) (loop_state old s r) every since t since
-swept_not old every since t s r not_due =
-    record { actions = []; swept = inr (not_due, (refl, refl)); took = took_none old s r }
+pub swept_not : (old : PortState) (every t from : ℕ) (since : Option ℕ) (s : SiteData) (r : Report)
+    → from ≡ unwrap_or since t → (¬ IsSweepDue every from t)
+    → SweptOnce (loop_state old s r) (loop_state old s r) every t since (Some from)
+swept_not old every t from since s r d not_due = record {
+  actions = [];
+  swept = (from, inr (subst (λ (m : ℕ). ¬ IsSweepDue every m t) d not_due, (refl, d)), refl);
+  took = took_none old s r;
+}
 
 -- ticks
 few_more : (b : Bool) (n d e : ℕ) → n + room true d ≤ MOST_ENTRIES → (b ≡ true → (0 < e) × (e < d))
@@ -244,13 +254,14 @@ ticks_all old new t b s u r q e k =
     record { actions = j.actions; ticks = j.ticks; few = omega arith; took = j.took }
 
 -- a turn
-turns_parts : (old one two new : PortState) (t w every last : ℕ) (since : Option ℕ)
-    (s u v : SiteData) (r q p z : Report)
-    → ReceivedOne (loop_state old s (record r { turns = one_more r.turns })) (loop_state one u q) t w
+pub turn_of : (old one two new : PortState) (t w every : ℕ) (since last : Option ℕ)
+    (s u v : SiteData) (r k q p z : Report)
+    → k ≡ record r { turns = one_more r.turns }
+    → ReceivedOne (loop_state old s k) (loop_state one u q) t w
     → TickedAll (loop_state one u q) (loop_state two v p) t
-    → SweptOnce (loop_state two v p) (loop_state new v z) every (unwrap_or since t) t last
+    → SweptOnce (loop_state two v p) (loop_state new v z) every t since last
     → Turned (loop_state old s r) (loop_state new v z) t w every since last
-turns_parts old one two new t w every last since s u v r q p z a b c =
+turn_of old one two new t w every since last s u v r k q p z counted a b c =
     let actions = a.actions ++ (b.actions ++ c.actions) in
     let made = made_both old one new (a.arrival ∷ calls_of a.actions)
     (calls_of b.actions ++ calls_of c.actions) a.made (made_both one two new (calls_of b.actions)
@@ -263,6 +274,8 @@ turns_parts old one two new t w every last since s u v r q p z a b c =
     (count_actions b.actions (count_actions a.actions first)) =
     count_actions-append a.actions (b.actions ++ c.actions) first
     ∙ count_actions-append b.actions c.actions (count_actions a.actions first) in
+    let received : q ≡ count_actions a.actions first =
+    a.report ∙ ap (λ (x : Report). count_actions a.actions (count_call a.arrival x)) counted in
     record {
       calls = a.arrival ∷ calls_of actions;
       made = subst (λ (x : List PortCall). Made old new (a.arrival ∷ x)) (sym e) made;
@@ -275,23 +288,11 @@ turns_parts old one two new t w every last since s u v r q p z a b c =
         is_given = a.given;
         are_ticks = b.ticks;
         few = b.few;
-        is_swept = (last, c.swept, refl);
+        is_swept = c.swept;
         acted = acted_both s u v a.actions (b.actions ++ c.actions) a.acted
             (acted_both u v v b.actions c.actions b.took.acted c.took.acted);
         calls = refl;
         report = c.took.report ∙ ap (count_actions c.actions)
-            (b.took.report ∙ ap (count_actions b.actions) a.report) ∙ sym n;
+            (b.took.report ∙ ap (count_actions b.actions) received) ∙ sym n;
       };
     }
-
--- the turn of these parts
-pub turned_at : (old one two new : PortState) (t w every last from : ℕ) (since : Option ℕ)
-    (s u v : SiteData) (r k q p z : Report)
-    → k ≡ record r { turns = one_more r.turns } → from ≡ unwrap_or since t
-    → ReceivedOne (loop_state old s k) (loop_state one u q) t w → TickedAll (loop_state one u q) (loop_state two v p) t
-    → SweptOnce (loop_state two v p) (loop_state new v z) every from t last
-    → Turned (loop_state old s r) (loop_state new v z) t w every since last
-turned_at old one two new t w every last from since s u v r k q p z d e a b c =
-    turns_parts old one two new t w every last since s u v r q p z
-    (subst (λ (y : Report). ReceivedOne (loop_state old s y) (loop_state one u q) t w) d a) b
-    (subst (λ (y : ℕ). SweptOnce (loop_state two v p) (loop_state new v z) every y t last) e c)

@@ -1,12 +1,12 @@
 //! The loop of a server.
 
-ghost use Rattle.std.specs.Prelude.{◌≡◌, ◌↔◌, IsTrue, ◌<◌, ◌+◌, ◌∷◌, [], map, is_some};
+ghost use Rattle.std.specs.Prelude.{◌≡◌, ◌↔◌, IsTrue, ◌<◌, ◌≤◌, ◌+◌, ◌∷◌, [], map, is_some, length, take};
 ghost use Rattle.fleet_site.specs.declared.bounds.TheConstants.{MOST_COUNTED};
 ghost use Rattle.fleet_site.specs.server.Sending.{to_each, to_peers, count_refusal_in, goes_on};
 ghost use Rattle.fleet_site.specs.steps.Sends.{Sends, CarriesOut, sweep_outcome};
 ghost use Rattle.fleet_site.specs.server.Turn.{IsSweepDue, HasPassed, left_after};
 ghost use Rattle.fleet_site.specs.server.Served.{Served, FollowsSteps};
-ghost use Rattle.fleet_site.specs.steps.Turned.{Turned, GivenOne, ReceivedOne, TickedAll, SweptOnce};
+ghost use Rattle.fleet_site.specs.steps.Turned.{loop_state, Turned, GivenOne, ReceivedOne, TickedAll, SweptOnce};
 
 use crate::handled::Handled;
 use crate::outcome::{Outcome, Packet, Refusal, SiteFault};
@@ -23,6 +23,26 @@ use std::alloc::{AllocError, Allocator};
 /// How many octets a turn asks for: those of the longest frame, and one more, so that the system cuts
 /// no frame to one that could be read.
 const BUFFER: usize = LONGEST_FRAME + 1;
+
+/// What a run of the loop has of its own.
+#[derive(Drop)]
+struct Run<A: Allocator> {
+    /// What a turn receives.
+    buffer: [u8; BUFFER],
+    /// The reply of a hit.
+    reply: Vec<u8, A>,
+    /// The moment that the next sweep is counted from: that of the last one, or of the first turn.
+    swept: Option<Moment>,
+    /// What was counted.
+    report: Report,
+}
+
+/// What a turn is given: the moment that it is, and a random number.
+#[derive(Clone, Copy)]
+struct Turn {
+    now: Moment,
+    word: u16,
+}
 
 /// Sends octets, and counts them.
 fn send<P: Port>(port: &mut P, to: Addr, bytes: &[u8], report: &mut Report)
@@ -120,27 +140,29 @@ fn carry_out_sweep<P: Port, A: Allocator>(
     }
 }
 
-/// Gives a datagram to the site, and sends what it gives: the reply of a hit out of the buffer.
+/// Gives the datagram in the buffer, of this length, to the site, and sends what it gives: the reply
+/// of a hit out of the other buffer.
 fn give<P: Port, A: Allocator + Copy>(
     port: &mut P,
     site: &mut Site<A>,
-    now: Moment,
+    run: &mut Run<A>,
+    turn: Turn,
     from: Addr,
-    bytes: &[u8],
-    word: u16,
-    reply: &mut Vec<u8, A>,
-    report: &mut Report,
+    len: usize,
 )
-    ensures { GivenOne (record { port = P.state port.old; site = site.old; report = report.old })
-        (record { port = P.state port.new; site = site.new; report = report.new })
-        now from bytes.now word }
+    requires { len ≤ length run.old.buffer }
+    ensures given { GivenOne (loop_state (P.state port.old) site.old run.old.report)
+        (loop_state (P.state port.new) site.new run.new.report)
+        turn.now from (take len run.old.buffer) turn.word }
+    ensures swept { run.new.swept ≡ run.old.swept }
 {
-    match site.datagram_into(now, from, bytes, word, reply) {
-        Ok(Handled::Reply) => send(port, from, reply.as_slice(), report),
+    let bytes = &run.buffer[..len];
+    match site.datagram_into(turn.now, from, bytes, turn.word, &mut run.reply) {
+        Ok(Handled::Reply) => send(port, from, run.reply.as_slice(), &mut run.report),
         Ok(Handled::Outcome(outcome)) => {
-            carry_out(port, site.peers(), Ok(outcome), report);
+            carry_out(port, site.peers(), Ok(outcome), &mut run.report);
         }
-        Err(_) => report.count_short(),
+        Err(_) => run.report.count_short(),
     }
 }
 
@@ -148,23 +170,21 @@ fn give<P: Port, A: Allocator + Copy>(
 fn receive<P: Port, A: Allocator + Copy>(
     port: &mut P,
     site: &mut Site<A>,
-    buffer: &mut [u8; BUFFER],
-    now: Moment,
-    word: u16,
-    reply: &mut Vec<u8, A>,
-    report: &mut Report,
+    run: &mut Run<A>,
+    turn: Turn,
 )
-    ensures { ReceivedOne (record { port = P.state port.old; site = site.old; report = report.old })
-        (record { port = P.state port.new; site = site.new; report = report.new })
-        now word }
+    ensures received { ReceivedOne (loop_state (P.state port.old) site.old run.old.report)
+        (loop_state (P.state port.new) site.new run.new.report)
+        turn.now turn.word }
+    ensures swept { run.new.swept ≡ run.old.swept }
 {
-    match port.recv(buffer) {
+    match port.recv(&mut run.buffer) {
         Ok(None) => {}
         Ok(Some((from, len))) => {
-            report.count_received();
-            give(port, site, now, from, &buffer[..len], word, reply, report);
+            run.report.count_received();
+            give(port, site, run, turn, from, len);
         }
-        Err(_) => report.count_faults(),
+        Err(_) => run.report.count_faults(),
     }
 }
 
@@ -175,8 +195,8 @@ fn tick_all<P: Port, A: Allocator + Copy>(
     now: Moment,
     report: &mut Report,
 )
-    ensures { TickedAll (record { port = P.state port.old; site = site.old; report = report.old })
-        (record { port = P.state port.new; site = site.new; report = report.new })
+    ensures { TickedAll (loop_state (P.state port.old) site.old report.old)
+        (loop_state (P.state port.new) site.new report.new)
         now }
 {
     // At most `MOST_ENTRIES` are due, so there is an end.
@@ -196,47 +216,43 @@ fn is_sweep_due(now: Moment, since: Moment, every: u32) -> bool
     every > 0 && now.value().saturating_sub(since.value()) >= u64::from(every)
 }
 
-/// Sweeps where it is time, and gives the moment that the next sweep is counted from.
+/// Sweeps where it is time, and notes the moment that the next sweep is counted from.
 fn sweep_if_due<P: Port, A: Allocator + Copy>(
     port: &mut P,
     site: &Site<A>,
+    run: &mut Run<A>,
     now: Moment,
-    since: Moment,
     every: u32,
-    report: &mut Report,
-) -> Moment
-    ensures { SweptOnce (record { port = P.state port.old; site = site.now; report = report.old })
-        (record { port = P.state port.new; site = site.now; report = report.new })
-        every since now result }
+)
+    ensures { SweptOnce (loop_state (P.state port.old) site.now run.old.report)
+        (loop_state (P.state port.new) site.now run.new.report)
+        every now run.old.swept run.new.swept }
 {
+    let since = run.swept.unwrap_or(now);
     if is_sweep_due(now, since, every) {
-        carry_out_sweep(port, site.peers(), site.sweep(), report);
-        now
+        carry_out_sweep(port, site.peers(), site.sweep(), &mut run.report);
+        run.swept = Some(now);
     } else {
-        since
+        run.swept = Some(since);
     }
 }
 
 /// Makes one turn: a receive, then the ticks, then a sweep where it is time for one.
-fn turn<P: Port, A: Allocator + Copy>(
+fn take_turn<P: Port, A: Allocator + Copy>(
     port: &mut P,
     site: &mut Site<A>,
-    buffer: &mut [u8; BUFFER],
-    now: Moment,
-    word: u16,
+    run: &mut Run<A>,
+    turn: Turn,
     every: u32,
-    since: Option<Moment>,
-    reply: &mut Vec<u8, A>,
-    report: &mut Report,
-) -> Moment
-    ensures { Turned (record { port = P.state port.old; site = site.old; report = report.old })
-        (record { port = P.state port.new; site = site.new; report = report.new })
-        now word every since result }
+)
+    ensures { Turned (loop_state (P.state port.old) site.old run.old.report)
+        (loop_state (P.state port.new) site.new run.new.report)
+        turn.now turn.word every run.old.swept run.new.swept }
 {
-    report.count_turns();
-    receive(port, site, buffer, now, word, reply, report);
-    tick_all(port, site, now, report);
-    sweep_if_due(port, site, now, since.unwrap_or(now), every, report)
+    run.report.count_turns();
+    receive(port, site, run, turn);
+    tick_all(port, site, turn.now, &mut run.report);
+    sweep_if_due(port, site, run, turn.now, every);
 }
 
 /// Serves a site over a port for exactly this number of turns, and returns what it counted.
@@ -278,24 +294,17 @@ pub fn serve<P: Port, C: Clock, R: Rng, A: Allocator + Copy>(
         → (P.state port.new).failed < MOST_COUNTED
         → (P.state port.new).failed ≡ (P.state port.old).failed + (result.lost + result.faults) }
 {
-    let mut counted = Report::new();
-    let mut buffer = [0u8; BUFFER];
-    let mut reply = site.reply_buffer();
-    let mut swept = None;
+    let report = Report::new();
+    let mut run = Run {
+        buffer: [0u8; BUFFER],
+        reply: site.reply_buffer(),
+        swept: None,
+        report,
+    };
     for _ in 0..turns {
         let now = clock.now();
         let word = (rng.next_u32() % 65536) as u16;
-        swept = Some(turn(
-            port,
-            site,
-            &mut buffer,
-            now,
-            word,
-            sweep_every,
-            swept,
-            &mut reply,
-            &mut counted,
-        ));
+        take_turn(port, site, &mut run, Turn { now, word }, sweep_every);
     }
-    counted
+    run.report
 }

@@ -1,6 +1,7 @@
 -- What the parts of a turn of the server did.
 -- Serves `serve`.
 use Rattle.std.specs.Prelude.{◌≡◌, ℕ, ◌≤◌, false, List, [], ◌∷◌, Option, Some, length}
+use Rattle.std.specs.Option.{unwrap_or}
 use Rattle.fleet_name.specs.Types.{OctetList}
 use Rattle.fleet_wire.specs.Types.{Seconds}
 use Rattle.fleet_pending.specs.declared.bounds.TheConstants.{MOST_ENTRIES}
@@ -18,14 +19,18 @@ pub record LoopState : Type 0 where
   pub site : SiteData
   pub report : Report
 
+-- the state of these parts
+abbrev pub loop_state : PortState → SiteData → Report → LoopState
+loop_state port site report = record { port = port; site = site; report = report }
+
 -- one turn was made; the next sweep is counted from the one moment before it, and from the other one
 -- after it
 pub record Turned (a b : LoopState) (t : Seconds) (word : ℕ) (every : Seconds)
-    (since : Option Seconds) (last : ℕ) : Type 0 where
+    (since last : Option Seconds) : Type 0 where
   pub calls : List PortCall
   pub turn : Turn t word every
       (record { site = a.site; calls = []; swept = since; report = a.report })
-      (record { site = b.site; calls = calls; swept = Some last; report = b.report })
+      (record { site = b.site; calls = calls; swept = last; report = b.report })
   pub made : Made a.port b.port calls
 
 -- steps were taken, carried out and counted
@@ -58,8 +63,11 @@ pub record TickedAll (a b : LoopState) (t : Seconds) : Type 0 where
   pub few : length actions ≤ MOST_ENTRIES
   pub took : Took a b actions
 
--- the site swept where it was time, and what that gave was carried out and counted
-pub record SweptOnce (a b : LoopState) (every since t : Seconds) (last : ℕ) : Type 0 where
+-- the site swept where it was time, and what that gave was carried out and counted; the next sweep is
+-- counted from the one moment before it, and from the other one after it
+pub record SweptOnce (a b : LoopState) (every t : Seconds) (since last : Option Seconds)
+    : Type 0 where
   pub actions : List Action
-  pub swept : SweepsWhenDue every since t actions last
+  pub swept : (moment : ℕ) × SweepsWhenDue every (unwrap_or since t) t actions moment
+      × (last ≡ Some moment)
   pub took : Took a b actions

@@ -4,7 +4,7 @@ use Rattle.fleet_site.proofs.server.serve.Goals as goal
 
 pub loop-init : goal.loop-init
 loop-init g c = record {
-  run = rw c.new-counted.ensures
+  run = rw c.new-report.ensures
       (serves_none _ _ _ c.args.sweep_every c.args.site.now);
   clock = past_none _;
   stream = refl;
@@ -15,11 +15,12 @@ loop-preserved g c =
     let l = left_more _ _ _ c.loop.counter c.next_u32.result c.loop.invariant.stream
     c.next_u32.ensures in
     record {
-      run = serves_more _ _ _ _ _ c.loop.counter c.args.sweep_every c.now-now.result _ c.turn.result
-          c.args.site.now c.loop.site c.turn.new.site c.loop.swept c.loop.counted c.turn.new.report
+      run = serves_more _ _ _ _ _ c.loop.counter c.args.sweep_every c.now-now.result _
+          c.args.site.now c.loop.site c.take_turn.new.site c.loop.run.swept
+          c.take_turn.new.run.swept c.loop.run.report c.take_turn.new.run.report
           c.loop.invariant.run
           (is_moment _ _ _ c.loop.counter c.now-now.result c.loop.invariant.clock c.now-now.ensures)
-          l.1 c.turn.ensures;
+          l.1 c.take_turn.ensures;
       clock = past_more _ _ _ c.loop.counter c.now-now.result c.loop.invariant.clock
           c.now-now.ensures;
       stream = l.0;

@@ -1,4 +1,5 @@
-use Rattle.fleet_site.proofs.Loops.{Ticking, loop_state, ticks_left, due_by}
+use Rattle.fleet_site.specs.steps.Turned.{loop_state}
+use Rattle.fleet_site.proofs.Loops.{Ticking, ticks_left, due_by}
 use Rattle.fleet_site.proofs.server.tick_all.Given as goal
 
 abbrev pub invariant-loop-more : goal.invariant-loop-more
