@@ -3,6 +3,7 @@
 
 ghost use Rattle.std.specs.Prelude.{◌≡◌, ◌++◌, ℕ};
 ghost use Rattle.fleet_name.specs.Types.{Labels, OctetList};
+ghost use Rattle.fleet_wire.specs.Types.{RType};
 ghost use Rattle.fleet_observe.specs.Body.{IsPositiveBody, IsNegativeBody};
 ghost use Rattle.fleet_observe.specs.Observation.{ObservationData};
 ghost use Rattle.fleet_gossip.specs.Entry.{entry_octets, AreBodyOctets, IsIn, IsKindIn};
@@ -17,12 +18,12 @@ use crate::name::read_name;
 use crate::reader::Reader;
 use fleet_observe::Kind;
 
-/// The size of the positive body at the front, of a type, in octets.
-fn known_positive_size(octets: &[u8], rtype: u16) -> usize
-    requires { (size : ℕ) × IsSizeOf (IsPositiveBody rtype) octets.now size }
-    ensures { IsSizeOf (IsPositiveBody rtype) octets.now result }
+/// The size of the positive body at the front, in octets.
+fn known_positive_size(octets: &[u8]) -> usize
+    requires { (rtype : RType) × (size : ℕ) × IsSizeOf (IsPositiveBody rtype) octets.now size }
+    ensures { (rtype : RType) (size : ℕ) → IsSizeOf (IsPositiveBody rtype) octets.now size
+        → IsSizeOf (IsPositiveBody rtype) octets.now result }
 {
-    let _ = rtype;
     let mut reader = Reader::new(octets);
     let Ok(count) = reader.read_u16() else {
         unreachable!()
@@ -51,27 +52,31 @@ fn known_negative_size(octets: &[u8]) -> usize
     octets.len() - reader.rest().len()
 }
 
-/// The size of the body at the front, of an entry of this kind and type, in octets.
-fn known_body_size(octets: &[u8], kind: Kind, rtype: u16) -> usize
-    requires { (n : Labels) × (size : ℕ) × IsSizeOf (AreBodyOctets kind n rtype) octets.now size }
-    ensures { (n : Labels) (size : ℕ) → IsSizeOf (AreBodyOctets kind n rtype) octets.now size
+/// The size of the body at the front, of an entry of this kind, in octets.
+fn known_body_size(octets: &[u8], kind: Kind) -> usize
+    requires { (n : Labels) × (rtype : RType) × (size : ℕ)
+        × IsSizeOf (AreBodyOctets kind n rtype) octets.now size }
+    ensures { (n : Labels) (rtype : RType) (size : ℕ)
+        → IsSizeOf (AreBodyOctets kind n rtype) octets.now size
         → IsSizeOf (AreBodyOctets kind n rtype) octets.now result }
 {
     match kind {
-        Kind::Positive => known_positive_size(octets, rtype),
+        Kind::Positive => known_positive_size(octets),
         Kind::NoData => known_negative_size(octets),
         Kind::NameError => known_negative_size(octets),
         Kind::Flush => 0,
     }
 }
 
-/// Reads the body of an entry of this kind and type.
-fn read_known_body<'a>(reader: &mut Reader<'a>, kind: Kind, rtype: u16) -> &'a [u8]
-    requires { (n : Labels) × (size : ℕ) × IsSizeOf (AreBodyOctets kind n rtype) reader.old size }
-    ensures { (n : Labels) (size : ℕ) → IsSizeOf (AreBodyOctets kind n rtype) reader.old size
+/// Reads the body of an entry of this kind.
+fn read_known_body<'a>(reader: &mut Reader<'a>, kind: Kind) -> &'a [u8]
+    requires { (n : Labels) × (rtype : RType) × (size : ℕ)
+        × IsSizeOf (AreBodyOctets kind n rtype) reader.old size }
+    ensures { (n : Labels) (rtype : RType) (size : ℕ)
+        → IsSizeOf (AreBodyOctets kind n rtype) reader.old size
         → IsPart (AreBodyOctets kind n rtype) reader.old result.now reader.new }
 {
-    let size = known_body_size(reader.rest(), kind, rtype);
+    let size = known_body_size(reader.rest(), kind);
     let Ok(body) = reader.take(size) else {
         unreachable!()
     };
@@ -95,7 +100,7 @@ pub(crate) fn read_known_entry<'a>(reader: &mut Reader<'a>, version: u8) -> Fram
     let Ok(rtype) = read_type(reader, head.kind) else {
         unreachable!()
     };
-    let body = read_known_body(reader, head.kind, rtype);
+    let body = read_known_body(reader, head.kind);
     FrameEntry {
         head,
         name,

@@ -1,6 +1,6 @@
 //! The table of open questions.
 
-ghost use Rattle.std.specs.Prelude.{◌≡◌, ◌<◌, ◌≤◌, [], IfErr, IfSome, OnErr, MatchOption, option_copied, IsTrue, ◌↔◌, Some, length};
+ghost use Rattle.std.specs.Prelude.{◌≡◌, ◌<◌, ◌≤◌, ℕ, [], IfErr, IfSome, OnErr, MatchOption, option_copied, IsTrue, ◌↔◌, Some, length};
 ghost use Rattle.fleet_pending.specs.Asking.{Asks, Opens, Settles, Advances, ask_result, with_next_upstream};
 ghost use Rattle.fleet_pending.specs.FreeId.{IsFirstFree};
 ghost use Rattle.fleet_pending.specs.Due.{Dues, due_at, due_entry};
@@ -126,7 +126,7 @@ impl<A: Allocator> Pending<A> {
         ensures lawful { IsPendingData self.new }
     {
         self.soonest = self.soonest.min(moment.value() + TRY_SECONDS);
-        enter(&mut self.entries, waiter, moment, word, id)
+        enter(&mut self.entries, waiter, moment, id)
     }
 
     /// The id of the query that asking would send now, with the same word; `None` where an entry has
@@ -292,25 +292,22 @@ fn add_entry<A: Allocator + Copy>(
         return Err(Unasked { fault, waiter });
     }
     let id = first_free_id(entries.as_slice(), word);
-    enter(entries, waiter, moment, word, id)
+    enter(entries, waiter, moment, id)
 }
 
-/// Opens an entry for a waiter whose question is new, under the first free id from `word` upwards. All
-/// memory is taken before anything changes: for the table, the name, the list of waiters.
+/// Opens an entry under an id for a waiter whose question is new. All memory is taken before anything
+/// changes: for the table, the name, the list of waiters.
 fn enter<A: Allocator + Copy>(
     entries: &mut Vec<Entry<A>, A>,
     waiter: Waiter<A>,
     moment: Moment,
-    word: u16,
     id: u16,
 ) -> Result<Asked, Unasked<A>>
     requires few { length entries.old.items < MOST_ENTRIES }
-    requires free { IsFirstFree word entries.old.items id }
-    ensures opens { Opens entries.old.items waiter moment word (ask_result result)
-        entries.new.items }
+    ensures opens { (word : ℕ) → IsFirstFree word entries.old.items id
+        → Opens entries.old.items waiter moment word (ask_result result) entries.new.items }
     ensures back { IfErr result (λ u. u.waiter ≡ waiter) }
 {
-    let _ = word;
     let fault = PendingFault::OutOfMemory;
     if let Err(_) = entries.reserve(1) {
         return Err(Unasked { fault, waiter });

@@ -1,7 +1,7 @@
 //! What a site does with octets that are asked of it: a reply at once, or a place in the table of open
 //! questions.
 
-ghost use Rattle.std.specs.Prelude.{◌≡◌, ◌<◌, ◌≤◌, ⊤, IfOk, IfErr, OnErr};
+ghost use Rattle.std.specs.Prelude.{◌≡◌, ◌<◌, ◌≤◌, ⊤, IfOk, IfErr, OnErr, length};
 ghost use Rattle.fleet_name.specs.Types.{OctetList};
 ghost use Rattle.fleet_wire.specs.Query.{query_octets};
 ghost use Rattle.fleet_wire.specs.declared.class.TheConstants.{IN};
@@ -9,7 +9,7 @@ ghost use Rattle.fleet_observe.specs.Observation.{Observations};
 ghost use Rattle.fleet_cache.specs.Cached.{IsCached};
 ghost use Rattle.fleet_pending.specs.Asking.{Asks, ask_result};
 ghost use Rattle.fleet_pending.specs.QueryId.{IsQueryId};
-ghost use Rattle.fleet_site.specs.steps.Carried.{SaysOrStops, IsAskable, IsAnswered, TurnsAway, IsFirstSaid};
+ghost use Rattle.fleet_site.specs.steps.Carried.{SaysOrStops, IsAskable, IsAnswered, TurnsAway, SendsFirst};
 ghost use Rattle.fleet_site.specs.OutcomeData.{sends};
 ghost use Rattle.fleet_site.specs.question.Handling.{handled_result, IsInPlace};
 ghost use Rattle.fleet_site.specs.question.Question.{Reacts, Forwards, Questioned, turns_away};
@@ -165,7 +165,7 @@ fn forward<A: Allocator + Copy>(
 {
     asking_uses_query_id();
     let fresh = pending.query_id(&question, arrival.word);
-    let outcome = first_outcome(alloc, pending, upstreams, arrival.word, fresh, &question)?;
+    let outcome = first_outcome(alloc, upstreams, fresh, &question)?;
     let from = arrival.from;
     let id = header.id;
     let waiter = Waiter { from, id, question };
@@ -179,19 +179,13 @@ fn forward<A: Allocator + Copy>(
 /// identifier, the query to the first upstream.
 fn first_outcome<A: Allocator + Copy>(
     alloc: A,
-    pending: &Pending<A>,
     upstreams: &[Addr],
-    word: u16,
     fresh: Option<u16>,
     question: &Question<A>,
 ) -> Result<Outcome<A>, AllocError>
-    requires table { IsTableOf upstreams.now pending.now }
-    requires fresh { IsQueryId pending.now question.now word fresh }
-    ensures { IfOk result (λ o.
-        IsFirstSaid upstreams.now pending.now word question.now o) }
+    requires { 0 < length upstreams.now }
+    ensures { IfOk result (SendsFirst upstreams.now question.now fresh) }
 {
-    let _ = pending;
-    let _ = word;
     match fresh {
         Some(id) => query_for(alloc, addr_of(upstreams, 0), id, question),
         None => Ok(Outcome::without_packets(alloc, 0, None)),

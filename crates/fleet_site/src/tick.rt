@@ -1,8 +1,7 @@
 //! What a site does as time passes.
 
-ghost use Rattle.std.specs.Prelude.{◌≡◌, ◌<◌, ◌+◌, IsTrue, IfOk, IfErr, Some, map};
-ghost use Rattle.fleet_pending.specs.Due.{NoneDue, Dues, due_entry};
-ghost use Rattle.fleet_pending.specs.PendingData.{IsEntryData};
+ghost use Rattle.std.specs.Prelude.{◌≡◌, ◌<◌, ◌+◌, IsTrue, IfOk, IfErr, map};
+ghost use Rattle.fleet_pending.specs.Due.{NoneDue};
 ghost use Rattle.fleet_site.specs.steps.Carried.{SaysOrStops};
 ghost use Rattle.fleet_site.specs.steps.Plan.{IsPlan, SaysMore};
 ghost use Rattle.fleet_site.specs.Table.{IsTableOf, KeepsTable};
@@ -82,41 +81,23 @@ fn make_plan<A: Allocator + Copy>(
 {
     match pending.due(clock) {
         None => Ok(Plan::Idle(Outcome::without_packets(alloc, 0, None))),
-        Some(due) => plan_due(alloc, pending, upstreams, clock, due),
-    }
-}
-
-/// What is written for an entry that is due.
-fn plan_due<A: Allocator + Copy>(
-    alloc: A,
-    pending: &Pending<A>,
-    upstreams: &[Addr],
-    clock: Moment,
-    due: Due<'_, A>,
-) -> Result<Plan<A>, AllocError>
-    requires table { IsTableOf upstreams.now pending.now }
-    requires dues { Dues pending.now clock (Some due) }
-    requires is_open { IsEntryData (due_entry due) }
-    ensures { IfOk result (λ p. IsPlan upstreams.now pending.now clock p) }
-{
-    let _ = pending;
-    let _ = clock;
-    match due {
-        Due::Retry {
-            upstream,
-            id,
-            entry,
-        } => {
-            let octets = entry_query(alloc, id, entry)?;
-            let to = addr_of(upstreams, upstream);
-            let outcome = Outcome::with_packet(alloc, to, octets, None)?;
-            Ok(Plan::Retry(id, outcome))
-        }
-        Due::Failed { id, entry } => {
-            let packets = failure_packets(alloc, entry.waiters.as_slice())?;
-            let outcome = Outcome::with_packets(alloc, packets, 0, None);
-            Ok(Plan::Fail(id, outcome))
-        }
+        Some(due) => match due {
+            Due::Retry {
+                upstream,
+                id,
+                entry,
+            } => {
+                let octets = entry_query(alloc, id, entry)?;
+                let to = addr_of(upstreams, upstream);
+                let outcome = Outcome::with_packet(alloc, to, octets, None)?;
+                Ok(Plan::Retry(id, outcome))
+            }
+            Due::Failed { id, entry } => {
+                let packets = failure_packets(alloc, entry.waiters.as_slice())?;
+                let outcome = Outcome::with_packets(alloc, packets, 0, None);
+                Ok(Plan::Fail(id, outcome))
+            }
+        },
     }
 }
 

@@ -11,7 +11,6 @@ use Rattle.fleet_wire.specs.declared.rcode.TheConstants.{FORMAT_ERROR}
 use Rattle.fleet_observe.specs.Observation.{Observations}
 use Rattle.fleet_cache.specs.Cached.{IsCached, CacheData}
 use Rattle.fleet_pending.specs.PendingData.{PendingData}
-use Rattle.fleet_pending.specs.QueryId.{IsQueryId}
 use Rattle.fleet_name.specs.Places.{At}
 use Rattle.fleet_pending.specs.declared.answer.PendingFault.{PendingFault}
 use Rattle.fleet_pending.specs.declared.answer.PendingFault.TheVariants.{OutOfMemory as NoRoom}
@@ -85,12 +84,6 @@ abbrev pub SendsFirst : List Addr → QuestionData → Option ℕ → OutcomeDat
 SendsFirst upstreams q (Some id) e =
     (there : Addr) × At upstreams 0 there × (e ≡ sends there (query_octets id q))
 SendsFirst upstreams q None e = e ≡ nothing
-
--- with the identifier that the table gives, if any, the query goes to the first upstream; without one
--- nothing is sent
-abbrev pub IsFirstSaid : List Addr → PendingData → ℕ → QuestionData → OutcomeData → Type 0
-IsFirstSaid upstreams o word q e =
-    (told : Option ℕ) × IsQueryId o q word told × SendsFirst upstreams q told e
 
 -- these observations were taken, or without memory the first of them
 abbrev pub TakesOrStops : Observations → Observations

@@ -33,6 +33,7 @@ read_known_body-body-requires c =
     let at = c.in-Ok-read_name.ensures in (
       at.lawful.name,
       _,
+      _,
       body_there _ _ _ _ _ _ c.in-Ok.ensures at _ _ c.in-Ok-read_type.ensures r.0 r.1 r.2 r.3,
     )
 
@@ -42,7 +43,7 @@ returns c =
     let head = c.in-Ok.ensures in
     let at = c.in-Ok-read_name.ensures in
     let t = c.in-Ok-read_type.ensures in
-    let b = c.read_known_body-body.ensures at.lawful.name _
+    let b = c.read_known_body-body.ensures at.lawful.name _ _
     (body_there _ _ _ _ _ _ head at _ _ t r.0 r.1 r.2 r.3) in (
       fact_read _ _ _ _ _ _ head at _ _ t _ _ b,
       entry_read _ _ _ _ _ _ head at _ _ t _ _ b c.in-Ok-read_name.name
