@@ -1,6 +1,6 @@
 -- What a reply means (RFC 1034 3.6.2, RFC 2308 2, RFC 2308 5).
 -- Serves `digest`, law `digest_or_fault`.
-use Rattle.std.specs.Prelude.{◌≡◌, ◌-◌, ◌⊎◌, true, false, List, [], ◌∷◌, ◌++◌, length, min, Option, Some, None}
+use Rattle.std.specs.Prelude.{◌≡◌, ◌-◌, ◌⊎◌, true, false, List, [], ◌∷◌, ◌++◌, length, min, Option, Some, None, ℕ}
 use Rattle.fleet_name.specs.Types.{Labels, OctetList}
 use Rattle.fleet_wire.specs.Types.{Seconds}
 use Rattle.fleet_name.specs.Name.{IsUnder}
@@ -28,10 +28,14 @@ pub record IsServed (r : MessageData) : Type 0 where
   pub class : r.question.class ≡ IN
   pub typed : IsDataType r.question.rtype
 
+-- an RCODE with which the walk decides what a reply means
+abbrev pub IsWalkCode : ℕ → Type 0
+IsWalkCode rcode = (rcode ≡ NO_ERROR) ⊎ (rcode ≡ NAME_ERROR)
+
 -- the reply asks for a walk: TC is clear, and its code is NO_ERROR or NAME_ERROR
 pub record AsksWalk (r : MessageData) : Type 0 where
   pub whole : r.header.tc ≡ false
-  pub code : (r.header.rcode ≡ NO_ERROR) ⊎ (r.header.rcode ≡ NAME_ERROR)
+  pub code : IsWalkCode r.header.rcode
 
 -- there is a walk from the question's name
 abbrev pub IsWalkable : MessageData → Type 0

@@ -2,7 +2,7 @@
 
 ghost use Rattle.std.specs.Prelude.{◌≡◌, ◌↔◌, ℕ, ◌⊎◌, IsTrue, MatchResult};
 ghost use Rattle.fleet_wire.specs.declared.rcode.TheConstants.{NAME_ERROR, NO_ERROR};
-ghost use Rattle.fleet_observe.specs.DigestOf.{IsServed, IsFault, IsDigest};
+ghost use Rattle.fleet_observe.specs.DigestOf.{IsServed, IsFault, IsDigest, IsWalkCode};
 
 pub(crate) mod authority;
 pub(crate) mod denial;
@@ -44,7 +44,7 @@ fn is_served<A: Allocator>(message: &Message<A>) -> bool
 
 /// Whether the RCODE is 0 or 3, so that the walk decides what the reply means.
 fn is_answered(rcode: u8) -> bool
-    ensures { IsTrue result ↔ ((rcode ≡ NO_ERROR) ⊎ (rcode ≡ NAME_ERROR)) }
+    ensures { IsTrue result ↔ IsWalkCode rcode }
 {
     if rcode == NO_ERROR {
         return true;

@@ -11,6 +11,7 @@ use Rattle.fleet_cache.specs.Live.{lasts}
 use Rattle.fleet_cache.specs.steps.Held.{IsHeld}
 use Rattle.fleet_cache.specs.steps.Packed.{words_of}
 use Rattle.fleet_cache.specs.steps.Reclaimed.{turn, IsReclaimed}
+use Rattle.fleet_cache.specs.steps.Soonest.{NoneSooner}
 
 -- how many of the items pass a test
 abbrev pub count : (ObservationData → Bool) → Observations → ℕ
@@ -115,5 +116,5 @@ pub record HasGone (floor : Seconds) (items new : Observations) (at to : List �
 -- nothing in memory ends before the moment `soonest`, and nothing that the round came to before the
 -- moment `passed`
 pub record HasSoonest (soonest passed : Seconds) (at : List ℕ) (items : Observations) : Type 0 where
-  pub all : (o : ObservationData) → Has items o → soonest ≤ expires o
+  pub all : NoneSooner soonest items
   pub come : (o : ObservationData) → Has items o → is_ahead at o ≡ false → passed ≤ expires o

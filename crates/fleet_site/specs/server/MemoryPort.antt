@@ -1,6 +1,6 @@
 -- A clock over a list, a port over memory, and a log in memory.
 -- Serves `MemoryPort`, `ListClock`, `MemoryLog`.
-use Rattle.std.specs.Prelude.{◌≡◌, ◌⊎◌, ℕ, zero, suc, ◌-◌, min, Bool, true, false, List, [], ◌∷◌, map, get_or, length, take, drop, Option, Some, None, Result, Ok, Err, IsOk, IsErr}
+use Rattle.std.specs.Prelude.{◌≡◌, ◌⊎◌, ℕ, zero, suc, ◌-◌, min, Bool, true, false, List, [], ◌∷◌, map, get_or, length, drop, Option, Some, None, Result, Ok, Err, IsOk, IsErr}
 use Rattle.fleet_name.specs.Types.{OctetList}
 use Rattle.fleet_wire.specs.Types.{Seconds}
 use Rattle.fleet_pending.specs.declared.addr.Addr.{Addr}
@@ -9,6 +9,7 @@ use Rattle.fleet_site.specs.declared.port.PortFault.{PortFault}
 use Rattle.fleet_site.specs.declared.memory_port.Note.{Note}
 use Rattle.fleet_site.specs.declared.memory_port.Note.TheVariants as note
 use Rattle.fleet_site.specs.declared.memory_port.MemoryPort.{MemoryPort}
+use Rattle.fleet_site.specs.socket.Waiting.{Fills}
 
 -- the moment at a place of a list, and the last one from there on; 0 where the list is empty
 abbrev pub moment_of : List Seconds → ℕ → Seconds
@@ -35,9 +36,7 @@ record_of p = record_of_notes p.is_noting p.notes.items
 abbrev pub Arrives : ℕ → List (Option (Addr × OctetList)) → Option (Addr × ℕ) → OctetList → Type 0
 Arrives asked [] got buffer = got ≡ None
 Arrives asked (None ∷ behind) got buffer = got ≡ None
-Arrives asked (Some a ∷ behind) got buffer =
-    (got ≡ Some (a.0, min (length a.1) asked))
-    × (take (min (length a.1) asked) buffer ≡ take asked a.1)
+Arrives asked (Some a ∷ behind) got buffer = Fills asked a got buffer
 
 -- a receive uses up the arrival whose turn it is, and one that failed uses up none
 abbrev pub Gives : ℕ → List (Option (Addr × OctetList)) → Result (Option (Addr × ℕ)) PortFault → OctetList
