@@ -27,6 +27,10 @@ pub record InSet (s : List RecordData) (n : Labels) (t : RType) (d : OctetList) 
   pub is_of_rrset : IsOfRrSet n t carrier
   pub rdata : carrier.rdata ≡ d
 
+-- the section has an RRset at name n and type t
+abbrev pub HasSet : List RecordData → Labels → RType → Type 0
+HasSet s n t = (d : OctetList) × InSet s n t d
+
 -- the section has no RRset at name n and type t
 abbrev pub IsEmpty : List RecordData → Labels → RType → Type 0
 IsEmpty s n t = (d : OctetList) → ¬ InSet s n t d

@@ -6,7 +6,7 @@ use Rattle.fleet_wire.specs.Types.{RType}
 use Rattle.fleet_name.specs.Name.{wire, IsName}
 use Rattle.fleet_wire.specs.Record.{RecordData}
 use Rattle.fleet_wire.specs.declared.rtype.TheConstants.{CNAME}
-use Rattle.fleet_observe.specs.RrSet.{InSet, IsEmpty, IsOnly, RrSetData, IsRrSet}
+use Rattle.fleet_observe.specs.RrSet.{InSet, IsEmpty, IsOnly, RrSetData, IsRrSet, HasSet}
 use Rattle.fleet_observe.specs.declared.bounds.TheConstants.{MOST_LINKS}
 
 -- at name n the walk goes on to name m: no RRset of the question's type, and an alias with this
@@ -18,7 +18,7 @@ pub record GoesOn (s : List RecordData) (t : RType) (n m : Labels) : Type 0 wher
 
 -- at name n the walk ends with records; those of an alias have one target
 pub record EndsFound (s : List RecordData) (t : RType) (n : Labels) : Type 0 where
-  pub some : (d : OctetList) × InSet s n t d
+  pub some : HasSet s n t
   pub single : t ≡ CNAME → (d e : OctetList) → InSet s n t d → InSet s n t e → d ≡ e
 
 -- at name n the walk ends without records

@@ -4,7 +4,7 @@ ghost use Rattle.std.specs.Prelude.{◌≡◌, ◌≤◌, ◌⊎◌, ◌↔◌, 
 ghost use Rattle.fleet_name.specs.Types.{OctetList};
 ghost use Rattle.fleet_name.specs.Name.{labels_of};
 ghost use Rattle.fleet_observe.specs.Members.{Has, IsAscending};
-ghost use Rattle.fleet_observe.specs.RrSet.{SpellsName, IsOfRrSet, InSet, IsTtl, IsRrSet, read_ttl, rrset_of_rows, count_below};
+ghost use Rattle.fleet_observe.specs.RrSet.{SpellsName, IsOfRrSet, InSet, IsTtl, IsRrSet, read_ttl, rrset_of_rows, count_below, HasSet};
 
 use crate::bounds::LONGEST_LIFE;
 use crate::items::Items;
@@ -87,7 +87,7 @@ pub(crate) fn bounded_ttl(ttl: u32) -> u32
 /// The least TTL of the RRset's records, in seconds (RFC 2181 5.2).
 fn least_ttl<A: Allocator>(section: &[Record<A>], name: &[u8], rtype: u16) -> u32
     requires spelled { SpellsName name.now }
-    requires some { (d : OctetList) × InSet section.now (labels_of name.now) rtype d }
+    requires some { HasSet section.now (labels_of name.now) rtype }
     ensures { IsTtl section.now (labels_of name.now) rtype result }
 {
     let mut least = LONGEST_LIFE;
@@ -150,7 +150,7 @@ pub(crate) fn rrset_at<A: Allocator + Copy>(
     owner: &Name<A>,
     rtype: u16,
 ) -> Result<RrSet<A>, AllocError>
-    requires { (d : OctetList) × InSet section.now owner.now rtype d }
+    requires { HasSet section.now owner.now rtype }
     ensures { IfOk result (λ x. IsRrSet section.now owner.now rtype x) }
 {
     let name = owner.octets();
