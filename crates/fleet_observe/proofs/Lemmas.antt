@@ -14,6 +14,8 @@ use Rattle.fleet_observe.specs.declared.observation.kind.Kind.{Kind}
 use Rattle.fleet_observe.specs.declared.observation.lent.LentObservation.{LentObservation}
 use Rattle.fleet_observe.specs.declared.observation.kind.Kind.TheVariants.{NameError, NoData, Positive, Flush}
 pub use Rattle.fleet_observe.proofs.LawfulMeanings.{denied_is}
+pub use Rattle.fleet_observe.proofs.Faults.{meaning_sound}
+pub use Rattle.fleet_observe.proofs.OneDigest.{meaning_is}
 
 -- what is equal one after the other is equal both times
 pub then_parts : (a b : Ordering) → ordering_then a b ≡ Equal → (a ≡ Equal) × (b ≡ Equal)

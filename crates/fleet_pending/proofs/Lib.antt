@@ -11,3 +11,4 @@ pub mod Waiting
 pub mod DueCount
 pub mod Unchanged
 mod Soonest
+pub mod Lemmas

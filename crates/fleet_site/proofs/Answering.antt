@@ -13,7 +13,7 @@ use Rattle.fleet_pending.specs.PendingData.{EntryData, PendingData, AsksFor}
 use Rattle.fleet_pending.specs.Waiting.{IsWaiting}
 use Rattle.fleet_pending.specs.Due.{NoneDue}
 use Rattle.fleet_pending.specs.Asking.{Joins, waits_already, waits_too, no_place, no_memory_for_place, Opens, is_sent, no_room, no_memory_for_room, Asks, joins, opens, new_entry, with_next_upstream, Advances}
-use Rattle.fleet_pending.proofs.Placed.{at_left, at_push, at_remove}
+use Rattle.fleet_pending.proofs.Lemmas.{at_left, at_push, at_remove}
 use Rattle.fleet_pending.specs.declared.answer.Asked.{Asked as Opened}
 use Rattle.fleet_pending.specs.declared.answer.Asked.TheVariants.{Again, Joined, Send}
 use Rattle.fleet_pending.specs.declared.answer.PendingFault.{PendingFault}

@@ -6,6 +6,7 @@ use Rattle.fleet_wire.specs.Number.{u16_octets, u32_octets}
 use Rattle.fleet_wire.specs.Shape.{IsPlain}
 use Rattle.fleet_wire.specs.declared.rtype.TheConstants.{CNAME}
 pub use Rattle.fleet_wire.proofs.Lawful.{question_asked}
+pub use Rattle.fleet_wire.proofs.Records.{one_reply}
 
 -- two octets, and four
 pub u16_long : (n : ℕ) → length (u16_octets n) ≡ 2
