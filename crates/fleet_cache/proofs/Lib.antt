@@ -1,7 +1,7 @@
 mod Places
 mod SameKeys
 mod Keys
-mod Names
+mod Parent
 mod Under
 mod Voids
 mod Beats
@@ -11,7 +11,7 @@ mod Holdings
 mod Memories
 mod Counting
 mod Rounds
-mod KeyCounts
+mod KeysHoldFew
 mod LentItems
 pub mod Lemmas
 mod Packed
@@ -21,7 +21,7 @@ mod Reclaiming
 mod Best
 mod Past
 mod Looked
-mod Passing
+mod IsStale
 mod Merging
 mod Both
 mod Storing
@@ -29,15 +29,15 @@ mod Trimming
 mod ShortKeys
 mod ListedFronts
 mod Turns
-mod PassedFronts
+mod CursorPass
 mod Climbing
 mod Answers
 mod Underway
 mod Follow
-mod Paths
+mod AnswersArePaths
 mod KindsOfParts
 mod OneAnswer
 mod Existence
-mod Relevance
-mod Worked
-mod Dominated
+mod TestsHold
+mod WorkedRows
+mod Dominance

@@ -3,7 +3,7 @@ pub mod Fields
 pub mod EntryLines
 pub mod Rows
 pub mod Names
-pub mod Under
+pub mod IsUnder
 pub mod Parts
 pub mod Bodies
 pub mod Entries
@@ -13,7 +13,7 @@ pub mod Passing
 pub mod BodySteps
 pub mod Packing
 pub mod NameSteps
-pub mod Memory
+pub mod Decode
 pub mod Making
 pub mod FrameSteps
 pub mod Taking

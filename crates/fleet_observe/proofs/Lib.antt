@@ -1,6 +1,6 @@
 pub mod Results
 pub mod Lists
-pub mod Lawful
+pub mod ObservationNegative
 pub mod Orders
 pub mod Lemmas
 pub mod Bodies
@@ -16,4 +16,4 @@ pub mod Kept
 pub mod Lines
 pub mod Faults
 pub mod OneDigest
-pub mod Distinct
+pub mod EachOnce

@@ -1,13 +1,13 @@
 pub mod Placed
-pub mod Kept
+pub mod WaitersKept
 pub mod Keeping
 pub mod FreeId
 pub mod FirstDue
 pub mod Table
-pub mod QueryId
-pub mod Refused
-pub mod Settled
-pub mod Waiting
+pub mod AskingUsesQueryId
+pub mod RefusalsAreExact
+pub mod SettlingGivesItsEntry
+pub mod WaitersStay
 pub mod DueCount
 pub mod Unchanged
 mod Soonest

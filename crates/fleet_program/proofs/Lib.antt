@@ -1,8 +1,8 @@
 mod Numbers
-mod Octets
+mod HexNew
 mod NameWords
-mod Addresses
-mod Apart
+mod Address
+mod NewConfig
 mod Configurations
-mod Sockets
-mod Chains
+mod SystemAddr
+mod FirstWords

@@ -25,9 +25,9 @@ use Rattle.fleet_world.specs.declared.event.Event.TheVariants.{Datagram, Tick, S
 use Rattle.fleet_world.proofs.Agreed.{run_both, two as delivered_two}
 use Rattle.fleet_world.proofs.Addresses.{ran_of}
 use Rattle.fleet_world.proofs.Arrived.{alike_itself}
-use Rattle.fleet_world.proofs.Busy.{Settled, runs_busy}
+use Rattle.fleet_world.proofs.TellingBusy.{Settled, runs_busy}
 use Rattle.fleet_world.proofs.Covers.{Covers, covers_outlives, shown_from}
-use Rattle.fleet_world.proofs.Latest.{horizons}
+use Rattle.fleet_world.proofs.TellingLatest.{horizons}
 use Rattle.fleet_world.proofs.Named.{beats_under, named_by}
 use Rattle.fleet_world.proofs.Packs.{OneList}
 use Rattle.fleet_world.proofs.Reached.{ran_ok, hears}

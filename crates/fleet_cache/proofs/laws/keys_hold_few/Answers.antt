@@ -1,4 +1,4 @@
-use Rattle.fleet_cache.proofs.KeyCounts.{cached_apart, held_apart, key_holds, denial_holds}
+use Rattle.fleet_cache.proofs.KeysHoldFew.{cached_apart, held_apart, key_holds, denial_holds}
 use Rattle.fleet_cache.proofs.laws.keys_hold_few.Goals as goal
 
 pub returns-clause-observations : goal.returns-clause-observations

@@ -1,6 +1,6 @@
 use Rattle.std.proofs.Common.{◌+◌, drop, length, sym, ap, ◌∙◌, arith}
 use Rattle.fleet_name.proofs.Lemmas.{wire_some, wire_exact}
-use Rattle.fleet_cache.proofs.Names.{root_read, more_read}
+use Rattle.fleet_cache.proofs.Parent.{root_read, more_read}
 use Rattle.fleet_cache.proofs.lookup.parent.Goals as goal
 
 pub bounds-name-0 : goal.bounds-name-0

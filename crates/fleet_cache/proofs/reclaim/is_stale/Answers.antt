@@ -6,7 +6,7 @@ use Rattle.fleet_observe.specs.Observation.{ObservationData}
 use Rattle.fleet_cache.specs.Cut.{is_hidden}
 use Rattle.fleet_cache.specs.Live.{is_live}
 use Rattle.fleet_cache.proofs.Looked.{first_has, key_cut, twice}
-use Rattle.fleet_cache.proofs.Passing.{unended_lives, none_of}
+use Rattle.fleet_cache.proofs.IsStale.{unended_lives, none_of}
 use Rattle.fleet_cache.proofs.reclaim.is_stale.Goals as goal
 
 pub returns-then-not-flushes-clause-unended : goal.returns-then-not-flushes-clause-unended

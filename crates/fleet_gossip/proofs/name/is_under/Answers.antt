@@ -2,7 +2,7 @@ use Rattle.std.proofs.Common.{◌≡◌, ◌∙◌, sym, ap, subst, arith, rules
 use Rattle.std.proofs.Common.{ℕ, List}
 use Rattle.fleet_name.specs.Name.{wire, IsUnder}
 use Rattle.fleet_name.proofs.Lemmas.{wire_some, wire_exact}
-use Rattle.fleet_gossip.proofs.Under.{drop_first, name_behind, under_behind, under_before, under_same, under_self}
+use Rattle.fleet_gossip.proofs.IsUnder.{drop_first, name_behind, under_behind, under_before, under_same, under_self}
 use Rattle.fleet_gossip.proofs.name.is_under.Goals as goal
 
 pub loop-rest-init : goal.loop-rest-init

@@ -1,7 +1,7 @@
 use Rattle.std.proofs.Common.{List, sym, subst}
 use Rattle.fleet_observe.specs.Members.{AllDistinct}
 use Rattle.fleet_observe.specs.Observation.{ObservationData}
-use Rattle.fleet_observe.proofs.Distinct.{observed_distinct}
+use Rattle.fleet_observe.proofs.EachOnce.{observed_distinct}
 use Rattle.fleet_observe.proofs.laws.each_once.Goals as goal
 
 pub returns : goal.returns

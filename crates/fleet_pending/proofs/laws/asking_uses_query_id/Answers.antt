@@ -1,4 +1,4 @@
-use Rattle.fleet_pending.proofs.QueryId.{asks_under_query_id}
+use Rattle.fleet_pending.proofs.AskingUsesQueryId.{asks_under_query_id}
 use Rattle.fleet_pending.proofs.laws.asking_uses_query_id.Goals as goal
 
 pub returns : goal.returns

@@ -1,4 +1,4 @@
-use Rattle.fleet_pending.proofs.Settled.{settles_its_entry}
+use Rattle.fleet_pending.proofs.SettlingGivesItsEntry.{settles_its_entry}
 use Rattle.fleet_pending.proofs.laws.settling_gives_its_entry.Goals as goal
 
 pub returns : goal.returns

@@ -1,7 +1,7 @@
 use Rattle.std.proofs.Common.{lit<, ◌==◌}
 use Rattle.std.specs.List.{slice_split}
 use Rattle.std.proofs.lemmas.Iterator.Splits.{YieldsList-from_str_split}
-use Rattle.fleet_program.proofs.Chains.{all_from_extend, short_take}
+use Rattle.fleet_program.proofs.FirstWords.{all_from_extend, short_take}
 use Rattle.std.proofs.lemmas.Iterator.{YieldsList-from_take}
 use Rattle.std.proofs.lemmas.Iterator.Consumers.{YieldsList-at}
 use Rattle.fleet_program.proofs.command.first_words.Goals as goal

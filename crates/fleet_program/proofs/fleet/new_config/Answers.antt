@@ -1,4 +1,4 @@
-use Rattle.fleet_program.proofs.Apart.{none_fails_of}
+use Rattle.fleet_program.proofs.NewConfig.{none_fails_of}
 use Rattle.fleet_program.proofs.fleet.new_config.Goals as goal
 
 pub unreachable-requires : goal.unreachable-requires

@@ -1,5 +1,5 @@
 use Rattle.std.proofs.Common.{rules}
-use Rattle.fleet_program.proofs.Sockets.{address_back}
+use Rattle.fleet_program.proofs.SystemAddr.{address_back}
 use Rattle.fleet_program.proofs.udp_port.system_addr.Goals as goal
 
 pub returns : goal.returns

@@ -1,4 +1,4 @@
-use Rattle.fleet_program.proofs.Addresses.{not_split, without_host, without_port, address_read}
+use Rattle.fleet_program.proofs.Address.{not_split, without_host, without_port, address_read}
 use Rattle.fleet_program.proofs.words.address.Goals as goal
 
 pub returns-in_err-host : goal.returns-in_err-host

@@ -2,7 +2,7 @@ use Rattle.std.proofs.Common.{◌≡◌, [], ◌∷◌, ◌++◌, sym, ap, subst
 use Rattle.fleet_observe.specs.Observation.{flush_at}
 use Rattle.fleet_gossip.specs.Packed.{IsPacked}
 use Rattle.fleet_site.specs.OutcomeData.{nothing}
-use Rattle.fleet_site.proofs.Flushing.{carries_flush, stops_flush}
+use Rattle.fleet_site.proofs.FlushName.{carries_flush, stops_flush}
 use Rattle.fleet_site.proofs.flush.flush_name.Goals as goal
 
 pub returns-in-Ok-clause-flushed : goal.returns-in-Ok-clause-flushed

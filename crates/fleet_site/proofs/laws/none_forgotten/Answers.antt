@@ -1,5 +1,5 @@
 use Rattle.fleet_site.proofs.Answering as answering
-use Rattle.fleet_site.proofs.Awaited as awaited
+use Rattle.fleet_site.proofs.NoneForgotten as awaited
 use Rattle.fleet_site.proofs.laws.none_forgotten.Goals as goal
 
 pub returns-clause-at_once : goal.returns-clause-at_once

@@ -1,7 +1,7 @@
 use Rattle.std.proofs.Common.{◌+◌, ◌++◌, length, List, ℕ, sym, ap, ◌∙◌, arith}
 use Rattle.fleet_name.specs.Name.{wire}
 use Rattle.fleet_name.proofs.Lemmas.{labels_of-spelled}
-use Rattle.fleet_wire.proofs.PlainQueries.{front_is, name_lent, question_lies, plain_behind}
+use Rattle.fleet_wire.proofs.ReadPlainQuery.{front_is, name_lent, question_lies, plain_behind}
 use Rattle.fleet_wire.proofs.query.read_plain_query.Goals as goal
 
 pub returns-then-is_cut-clause-only : goal.returns-then-is_cut-clause-only

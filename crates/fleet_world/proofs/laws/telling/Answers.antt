@@ -1,4 +1,4 @@
-use Rattle.fleet_world.proofs.Latest as latest
+use Rattle.fleet_world.proofs.TellingLatest as latest
 use Rattle.fleet_world.proofs.Telling as telling
 use Rattle.fleet_world.proofs.Told as told
 use Rattle.fleet_world.proofs.laws.telling.Goals as goal

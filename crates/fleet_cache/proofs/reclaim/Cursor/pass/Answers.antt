@@ -6,7 +6,7 @@ use Rattle.fleet_cache.specs.steps.Packed.{words_of, short_words}
 use Rattle.fleet_cache.specs.steps.Reclaimed.{StaysIn}
 use Rattle.fleet_cache.specs.steps.Rounds.{count, is_ahead}
 use Rattle.fleet_cache.proofs.ListedFronts.{words_least}
-use Rattle.fleet_cache.proofs.PassedFronts.{IsShort, IsAny, IsNearShort, first_of_key, passes_one, looks_on, has_looked, stops_after, passed_to, passed_at, most, none_left, begins_short, begins_long, begins_looking, looks_further, short_before, stays_later}
+use Rattle.fleet_cache.proofs.CursorPass.{IsShort, IsAny, IsNearShort, first_of_key, passes_one, looks_on, has_looked, stops_after, passed_to, passed_at, most, none_left, begins_short, begins_long, begins_looking, looks_further, short_before, stays_later}
 use Rattle.fleet_cache.proofs.reclaim.Cursor.pass.Goals as goal
 use Rattle.fleet_cache.proofs.reclaim.Cursor.pass.Goals.{then-len-le-SHORT_WORDS+in-None, else-len-le-SHORT_WORDS}
 

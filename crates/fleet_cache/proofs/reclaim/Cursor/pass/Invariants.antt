@@ -1,7 +1,7 @@
 use Rattle.std.proofs.Common.{◌≡◌, vec_capacity}
 use Rattle.fleet_cache.specs.steps.Packed.{short_words}
 use Rattle.fleet_cache.specs.steps.Reclaimed.{StaysIn}
-use Rattle.fleet_cache.proofs.PassedFronts.{ArePassing, HasLooked, IsShort, IsAny, IsNearShort}
+use Rattle.fleet_cache.proofs.CursorPass.{ArePassing, HasLooked, IsShort, IsAny, IsNearShort}
 use Rattle.fleet_cache.proofs.reclaim.Cursor.pass.Given as goal
 
 abbrev pub invariant-loop-key : goal.invariant-loop-key

@@ -3,7 +3,7 @@ use mathlib.Core.Bool.{false≢true}
 use Rattle.fleet_observe.specs.Body.{IsDenial}
 use Rattle.fleet_observe.specs.Checks.{MakesNegative, bad_body}
 use Rattle.fleet_observe.specs.Soa.{SoaData}
-use Rattle.fleet_observe.proofs.Lawful.{negative_lawful, denied_negative}
+use Rattle.fleet_observe.proofs.ObservationNegative.{negative_lawful, denied_negative}
 use Rattle.fleet_observe.proofs.observation.Observation.negative.Goals as goal
 
 pub invariant_of-result : goal.invariant_of-result

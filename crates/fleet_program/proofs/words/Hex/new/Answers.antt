@@ -4,7 +4,7 @@ use Rattle.std.specs.Prelude.{is_ok, codes}
 use Rattle.std.specs.List.{AllPass}
 use Rattle.std.specs.Result.{result_unwrap_or}
 use Rattle.hex.specs.Hex.{is_hex_digit}
-use Rattle.fleet_program.proofs.Octets.{none_decoded, digits_of, is_decoded, octets_decoded}
+use Rattle.fleet_program.proofs.HexNew.{none_decoded, digits_of, is_decoded, octets_decoded}
 use Rattle.fleet_program.proofs.words.Hex.new.Goals as goal
 
 pub invariant_of-result : goal.invariant_of-result

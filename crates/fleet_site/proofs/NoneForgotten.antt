@@ -3,11 +3,10 @@ use Rattle.std.proofs.Common.{◌≡◌, inl, inr, ℕ, max, List, refl, sym, ap
 use Rattle.fleet_name.specs.Places.{At, Has}
 use Rattle.fleet_wire.specs.Message.{MessageData}
 use Rattle.fleet_wire.specs.declared.header.Header.{Header}
-use Rattle.fleet_wire.proofs.Records.{one_reply}
+use Rattle.fleet_wire.proofs.Lemmas.{one_reply}
 use Rattle.fleet_observe.specs.Digest.{DigestData}
 use Rattle.fleet_observe.specs.DigestOf.{IsServed, AsksWalk, IsWalkable, IsDigest}
-use Rattle.fleet_observe.proofs.Faults.{meaning_sound}
-use Rattle.fleet_observe.proofs.OneDigest.{meaning_is}
+use Rattle.fleet_observe.proofs.Lemmas.{meaning_sound, meaning_is}
 use Rattle.fleet_pending.specs.Waiter.{WaiterData}
 use Rattle.fleet_pending.specs.PendingData.{EntryData, Matches}
 use Rattle.fleet_pending.specs.Waiting.{IsWaiting}
