@@ -1,4 +1,6 @@
 -- What the lookups find is what the definition takes.
+-- Serves `finish`, `follow`, `Cache::answer_at`, the laws `answers_are_paths`, `dominance`,
+-- `one_answer`.
 use Rattle.std.proofs.Common.{ℕ, zero, suc, ◌≡◌, ◌≤◌, Bool, true, false, ◌&&◌, ◌||◌, nat_eq, List, [], ◌∷◌, ◌++◌, inl, inr, Option, Some, None, sym, ap, refl, ◌∙◌, arith}
 use Rattle.std.proofs.lemmas.Bool.{and_parts, and_from, or_cases, or_left, or_right, eqb-true, eq-eqb}
 use Rattle.fleet_wire.specs.declared.rtype.TheConstants.{CNAME}

@@ -1,5 +1,7 @@
 -- One relation for both ways in which an observation makes another one needless: it dominates it, or
 -- withdraws it. A cache is the front of its set by this relation.
+-- Serves what `Answers`, `Best`, `Caches`, `Holdings`, `IsStale`, `Past`, `Rounds`, `TestsHold`
+-- serve, and fleet_gossip, fleet_world.
 use Rattle.std.proofs.Common.{ℕ, ◌≡◌, Bool, true, false, not, ◌&&◌, ◌||◌, nat_le, List, ◌⊎◌, inl, inr, sym, ap, refl, ◌∙◌, subst, arith}
 use mathlib.Core.Bool.{false≢true}
 use Rattle.std.specs.declared.cmp.Ordering.{Ordering}

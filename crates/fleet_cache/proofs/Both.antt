@@ -1,4 +1,7 @@
 -- What the two maps hold together: short names are in one of them, the others in the other one.
+-- Serves `Fronts::at`, `Fronts::covers`, `Fronts::front`, `Fronts::long_behind`,
+-- `Fronts::short_behind`, `Fronts::store`, `Fronts::trim`, `Held::trim`, and what `ListedFronts`
+-- serves.
 use Rattle.std.proofs.Common.{ℕ, ◌≡◌, Bool, true, false, not, List, [], ◌∷◌, ◌↔◌, inl, inr, Option, Some, None, MatchOption, Bor, Result, Ok, Err, IfOk, OnErr, length, refl, sym, ap, ◌∙◌, subst}
 use Rattle.std.specs.Map.{lookup}
 use mathlib.Core.Bool.{true≢false}

@@ -1,4 +1,7 @@
 -- How the items of a cache follow the set.
+-- Serves `Cache::holds`, `Cache::is_past_lent`, `Cache::merge`, `Cache::same`, `Cache::take`,
+-- `Cache::take_copy`, `Cache::take_list`, the laws `merges`, `one_cache`, what `Holdings`,
+-- `KeysHoldFew`, `OneAnswer` serve, and fleet_gossip, fleet_world.
 use Rattle.std.proofs.Common.{ℕ, ◌≡◌, ◌<◌, ◌≤◌, true, false, not, List, [], ◌∷◌, ◌++◌, ◌⊎◌, inl, inr, length, take, slice_get, Some, Result, Ok, Err, OnOk, OnErr, sym, ap, refl, ◌∙◌, subst, arith, length-append}
 use mathlib.Core.Bool.{false≢true}
 use Rattle.std.proofs.Math.Seq.{take-append_seam}

@@ -1,4 +1,5 @@
 -- The way up from a name, one label after another.
+-- Serves `flush_above`, `preferred_above`, `next_above`.
 use Rattle.std.proofs.Common.{ℕ, ◌≡◌, ◌<◌, ◌≤◌, Bool, List, [], ◌∷◌, ◌++◌, length, Option, sym, ap, ◌∙◌, subst, arith, length-append}
 use Rattle.fleet_name.specs.Name.{wire, IsWire, IsUnder}
 use Rattle.fleet_observe.specs.Members.{Has}

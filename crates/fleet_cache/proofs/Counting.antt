@@ -1,4 +1,6 @@
 -- How many members of a list pass a test.
+-- Serves `Cursor::pass`, `Round::go_on`, `Round::step`, `take_in`, the laws `keys_hold_few`,
+-- `memory_falls`, `memory_follows`.
 use Rattle.std.proofs.Common.{◌≡◌, ◌+◌, ◌≤◌, Bool, true, false, List, [], ◌∷◌, inl, inr, length, refl, sym, ap, ◌∙◌, arith}
 use Rattle.std.specs.declared.cmp.Ordering.{Ordering}
 use Rattle.std.specs.declared.cmp.Ordering.TheVariants.{Greater}

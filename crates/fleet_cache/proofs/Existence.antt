@@ -1,5 +1,6 @@
 -- Each set of observations has a cache at each floor: of what is live of it, in order, what no such
 -- member dominates.
+-- Serves law `caches_exist`, and what `Holdings` serves.
 use Rattle.std.proofs.Common.{ℕ, ◌≡◌, Bool, false, refl, not, List, [], ◌∷◌, inl, inr, sym, ap, ◌∙◌, subst}
 use mathlib.Core.Bool.{false≢true}
 use Rattle.std.specs.List.{filter, list_any}

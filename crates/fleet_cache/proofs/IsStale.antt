@@ -1,4 +1,5 @@
 -- What is live of a front, where a purge passes over it.
+-- Serves `is_stale`.
 use Rattle.std.proofs.Common.{◌≡◌, ℕ, ◌<◌, Bool, false, inl, inr, List, [], ◌∷◌, subst, arith}
 use Rattle.std.proofs.lemmas.Bool.{cases_Bool, or_parts}
 use Rattle.std.proofs.lemmas.Bool.Decides.{nat_tests}

@@ -1,4 +1,5 @@
 -- How many observations of one key are undominated.
+-- Serves law `keys_hold_few`.
 use Rattle.std.proofs.Common.{◌≡◌, ℕ, ◌+◌, ◌*◌, ◌<◌, ◌≤◌, Bool, true, false, ◌&&◌, nat_eq, nat_le, nat_lt, List, [], ◌∷◌, inl, inr, length, refl, sym, ap, ◌∙◌, arith}
 use mathlib.Core.Bool.{false≢true}
 use Rattle.std.specs.List.{filter}

@@ -1,4 +1,5 @@
 -- The parts of an answer are of the kinds that their places say.
+-- Serves `Cache::answer_at`, and fleet_world.
 use Rattle.std.proofs.Common.{◌≡◌, ℕ, zero, suc, List, Option, Some, None, Bool, true, false, if◌then◌else◌, refl, sym, subst}
 use mathlib.Core.Bool.{false≢true}
 use Rattle.fleet_observe.specs.declared.bounds.TheConstants.{MOST_LINKS}

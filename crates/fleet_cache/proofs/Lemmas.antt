@@ -1,4 +1,5 @@
 -- The lemmas of this crate's words. Crates above cite these, and no other file of proofs/.
+-- Serves fleet_gossip, fleet_world.
 pub use Rattle.fleet_cache.specs.steps.Orders.{Over, over_from, over_to, over_chain, ended_below}
 pub use Rattle.fleet_cache.proofs.Places.{place_total, place_exact, place_laws}
 pub use Rattle.fleet_cache.proofs.SameKeys.{HasKeyOf, key_parts}

@@ -1,4 +1,5 @@
 -- What is lent and found among what is held.
+-- Serves `Cache::holds`, `has_lent`, `soonest_of`.
 use Rattle.std.proofs.Common.{◌≡◌, ℕ, zero, suc, ◌+◌, ◌<◌, ◌≤◌, ◌⊎◌, ◌↔◌, inl, inr, nat_eq, Bool, true, false, IsTrue, List, [], ◌∷◌, length, get_or, drop, not, nat_le, nat_lt, cond, ◌==◌, refl, sym, ap, ◌∙◌, subst, add-one, arith}
 use Rattle.std.specs.Ordering.{nat_cmp, ordering_then, ordering_reverse, is_gt}
 use Rattle.std.specs.declared.cmp.Ordering.{Ordering}

@@ -1,4 +1,6 @@
 -- The fronts that each of the two maps has after a key.
+-- Serves `Fronts::long_behind`, `Fronts::short_behind`, `Cursor::pass`, `Round::go_on`,
+-- `Round::step`, `take_in`, the laws `memory_falls`, `memory_follows`.
 use Rattle.std.proofs.Common.{◌≡◌, ℕ, suc, zero, ◌<◌, ◌≤◌, ◌&&◌, Bool, true, false, List, [], ◌∷◌, inl, inr, length, drop, refl, sym, ap, ◌∙◌, subst, arith}
 use mathlib.Core.Bool.{false≢true}
 use Rattle.std.specs.List.{All, filter}

@@ -1,4 +1,7 @@
 -- What is found by a name is the most preferred of its items.
+-- Serves `Fronts::covers`, `Held::at`, `Held::heads`, `flush_at`, `preferred_of`, `is_stale`,
+-- `trim`, `short::drop_hidden`, `short::store`, `store::drop_hidden`, `store::store`, and what
+-- `Both`, `Trimming` serve.
 use Rattle.std.proofs.Common.{ℕ, ◌≡◌, ◌<◌, ◌||◌, ◌⊎◌, nat_eq, arith, Bool, true, false, refl, not, List, [], ◌∷◌, length, inl, inr, Option, Some, None, slice_get, MatchOption, ◌↔◌, sym, ap, ◌∙◌, subst}
 use mathlib.Core.Bool.{false≢true}
 use Rattle.std.specs.Map.{lookup}

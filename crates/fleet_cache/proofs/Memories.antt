@@ -1,4 +1,6 @@
 -- What is lent of a cache's memory.
+-- Serves `Cache::answer_at`, `Cache::holds`, `Cache::is_past`, `Cache::is_past_lent`,
+-- `Cache::items`, `Cache::needs`.
 use Rattle.std.proofs.Common.{◌≡◌, ℕ, List}
 use Rattle.fleet_observe.specs.Observation.{ObservationData}
 use Rattle.fleet_cache.specs.Live.{live_of}

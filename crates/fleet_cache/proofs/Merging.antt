@@ -1,4 +1,5 @@
 -- What two lists hold as one, and what a change of one of them does to the whole.
+-- Serves what `Both`, `ListedFronts` serve.
 use Rattle.std.proofs.Common.{ℕ, ◌+◌, ◌≤◌, ◌≡◌, true, false, List, [], ◌∷◌, ◌⊎◌, ◌↔◌, inl, inr, length, refl, sym, ap, ◌∙◌, subst, arith}
 use mathlib.Core.Bool.{false≢true}
 use Rattle.std.specs.List.{filter}

@@ -1,4 +1,5 @@
 -- Sets with one cache answer alike.
+-- Serves `Cache::answer_at`, law `one_answer`.
 use Rattle.std.proofs.Common.{ℕ, zero, suc, ◌≡◌, ◌≤◌, if◌then◌else◌, List, Option, Some, None, sym, ap, refl, ◌∙◌}
 use Rattle.fleet_observe.specs.declared.bounds.TheConstants.{MOST_LINKS}
 use Rattle.fleet_observe.specs.Observation.{ObservationData}

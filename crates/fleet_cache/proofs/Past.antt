@@ -1,4 +1,5 @@
 -- What is live at a name, by the latest flush above it.
+-- Serves `preferred_above`, `cut_at`, `decider`, `flush_at`.
 use Rattle.std.proofs.Common.{ℕ, ◌≡◌, ◌≤◌, Bool, true, false, not, nat_le, List, inl, inr, Option, Some, None, refl, sym, ap, ◌∙◌, subst, arith}
 use mathlib.Core.Bool.{false≢true}
 use Rattle.std.specs.declared.cmp.Ordering.{Ordering}

@@ -1,4 +1,6 @@
 -- The order of a cache's items keeps the laws of a ranked type too.
+-- Serves what `Best`, `Caches`, `Existence`, `Holdings`, `Merging`, `Rounds`, `Slots` serve, and
+-- fleet_gossip, fleet_world.
 use Rattle.std.proofs.Common.{◌≡◌, true, ap, ◌∙◌}
 use Rattle.std.specs.declared.cmp.Ordering.TheVariants.{Equal, Greater}
 use Rattle.std.specs.Ordering.{ordering_then}

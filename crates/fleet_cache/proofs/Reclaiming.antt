@@ -1,4 +1,5 @@
 -- What dropping what a cut hides of one key does to the map.
+-- Serves `short::drop_hidden`, `store::drop_hidden`.
 use Rattle.std.proofs.Common.{ℕ, length-append, arith, ◌≡◌, Bool, true, false, not, List, [], ◌∷◌, ◌++◌, ◌⊎◌, inl, inr, Some, sym, ap, refl, ◌∙◌, subst}
 use Rattle.std.specs.List.{filter}
 use Rattle.std.specs.Map.{lookup, set_value, remove_entry}

@@ -1,4 +1,5 @@
 -- What rounds of takes leave in memory.
+-- Serves `Round::go_on`, `Round::step`, `take_in`, the laws `memory_falls`, `memory_follows`.
 use Rattle.std.proofs.Common.{◌≡◌, ℕ, zero, suc, ◌+◌, ◌-◌, ◌*◌, ◌<◌, ◌≤◌, min, Bool, true, false, not, List, [], ◌∷◌, ◌⊎◌, inl, inr, length, nat_le, refl, sym, ap, ◌∙◌, subst, arith}
 use mathlib.Core.Bool.{false≢true}
 use Rattle.std.specs.Ordering.{is_lt, ordering_reverse}

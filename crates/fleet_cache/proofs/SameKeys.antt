@@ -1,4 +1,5 @@
 -- When the keys of two observations are one.
+-- Serves `has_key_of`, what `Beats`, `KeysHoldFew`, `Voids` serve, and fleet_gossip, fleet_world.
 use Rattle.std.proofs.Common.{◌≡◌, true, false, inl, inr, sym, ap, ◌∙◌}
 use mathlib.Core.Bool.{false≢true}
 use Rattle.std.specs.Ordering.{is_eq}

@@ -1,4 +1,5 @@
 -- The keys of short names compare as their words do.
+-- Serves `short::drop_hidden`, `short::store`, and what `Both`, `ListedFronts` serve.
 use Rattle.std.proofs.Common.{◌≡◌, Bool, ap, refl}
 use Rattle.std.proofs.Math.Path.{fun_ext}
 use Rattle.std.specs.declared.cmp.Ordering.{Ordering}

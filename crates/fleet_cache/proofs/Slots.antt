@@ -1,4 +1,6 @@
 -- What an edit of one slot does to the items.
+-- Serves `Fronts::both`, `short::store`, `front_of`, `store::store`, and what `Both`,
+-- `ListedFronts`, `Looked`, `Merging`, `Storing`, `Trimming` serve.
 use Rattle.std.proofs.Common.{ℕ, ◌+◌, ◌≤◌, length, length-append, arith, ◌≡◌, Bool, true, false, List, [], ◌∷◌, ◌++◌, ◌⊎◌, ◌↔◌, inl, inr, Some, None, sym, ap, refl, ◌∙◌, subst, append_assoc}
 use mathlib.Core.Bool.{false≢true}
 use Rattle.std.specs.Map.{lookup, set_value, values_of}

@@ -1,4 +1,5 @@
 -- The front of a key, with an observation more.
+-- Serves `short::store`, `store::store`.
 use Rattle.std.proofs.Common.{◌≡◌, ◌+◌, ◌≤◌, length, ℕ, Bool, false, List, ◌∷◌, ◌↔◌, Some, Result, Ok, Err, IfOk, OnOk, OnErr, sym, ap, ◌∙◌}
 use Rattle.std.specs.Map.{lookup, set_value}
 use Rattle.std.specs.Ordering.{is_eq}

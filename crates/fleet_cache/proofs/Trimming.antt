@@ -1,4 +1,5 @@
 -- The front of a key, without what a cut hides of it.
+-- Serves `short::drop_hidden`, `store::drop_hidden`.
 use Rattle.std.proofs.Common.{ℕ, ◌≡◌, ◌≢◌, Bool, true, false, not, List, [], ◌∷◌, Some, length, sym, ap, refl, ◌∙◌, subst, arith}
 use Rattle.std.specs.Bool.{◌==◌}
 use Rattle.std.specs.Ordering.{is_eq}

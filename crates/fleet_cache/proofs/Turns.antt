@@ -1,4 +1,6 @@
 -- Where a cursor comes to a key, and what is ahead of it.
+-- Serves `Cursor::pass`, `Round::go_on`, `Round::step`, `take_in`, the laws `memory_falls`,
+-- `memory_follows`.
 use Rattle.std.proofs.Common.{◌≡◌, ℕ, ◌<◌, ◌≤◌, true, false, List, [], ◌∷◌, inl, inr, length, nat_lt, nat_eq, refl, sym, ap, ◌∙◌, arith}
 use mathlib.Core.Bool.{false≢true}
 use Rattle.std.specs.Cmp.{IsTotalOrder}

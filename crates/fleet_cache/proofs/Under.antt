@@ -1,4 +1,5 @@
 -- The tests for names and for those below them.
+-- Serves what `Answers`, `TestsHold`, `Voids` serve, and fleet_gossip, fleet_world.
 use Rattle.std.proofs.Common.{ℕ, ◌≡◌, true, List, [], ◌∷◌, ◌++◌, inl, inr, sym, ap, ◌∙◌}
 use Rattle.std.specs.Ordering.{is_eq}
 use Rattle.std.specs.Cmp.{Equal-is}

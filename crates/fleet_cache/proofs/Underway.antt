@@ -1,4 +1,5 @@
 -- How far a chain of aliases was followed.
+-- Serves `finish`, `follow`.
 use Rattle.std.specs.Prelude.{◌≡◌, ℕ, ◌-◌, ◌≤◌, List, length, Option}
 use Rattle.fleet_name.specs.Name.{wire, IsWire}
 use Rattle.fleet_observe.specs.declared.bounds.TheConstants.{MOST_LINKS}

@@ -1,4 +1,6 @@
 -- What flushes withdraw: the tests, and what is withdrawn with what dominates it.
+-- Serves what `Beats`, `Caches`, `Holdings`, `IsStale`, `Past`, `TestsHold` serve, and
+-- fleet_gossip, fleet_world.
 use Rattle.std.proofs.Common.{◌≡◌, ◌≤◌, true, false, not, ◌&&◌, nat_le, List, [], ◌∷◌, inl, inr, sym, ap, refl, ◌∙◌, subst, arith}
 use mathlib.Core.Bool.{false≢true}
 use Rattle.std.proofs.lemmas.Bool.{cases_Bool, and_parts, and_from, or_cases, or_left, or_right}

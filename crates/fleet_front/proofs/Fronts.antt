@@ -1,4 +1,5 @@
 -- What taking a value in makes of a front.
+-- Serves `Front::first_shown`, `Front::take`.
 use Rattle.std.proofs.Common.{◌≡◌, Bool, true, false, ◌||◌, not, if◌then◌else◌, List, [], ◌∷◌, ◌⊎◌, inl, inr, sym, ap, refl, ◌∙◌, subst}
 use mathlib.Core.Bool.{false≢true}
 use Rattle.std.specs.List.{filter, insert, list_any}

@@ -1,5 +1,7 @@
 -- What the laws of a ranked type give of fronts. Crates above cite these, and no other file of
 -- proofs/.
+-- Serves `Front::drop_hidden`, `Front::first_shown`, `Front::take`, and fleet_cache, fleet_gossip,
+-- fleet_world.
 use Rattle.std.proofs.Common.{◌≡◌, Bool, true, false, not, List, [], ◌∷◌, ◌++◌, ◌⊎◌, inl, inr, Result, Ok, Err, OnErr, sym, ap, refl, ◌∙◌, subst}
 use mathlib.Core.Bool.{false≢true}
 use Rattle.std.specs.declared.cmp.Ordering.{Ordering}

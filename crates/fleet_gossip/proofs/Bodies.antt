@@ -1,4 +1,5 @@
 -- Bodies determine what they hold, whatever follows them, and have no fault.
+-- Serves what `BodySteps`, `Entries`, `Making`, `Passing` serve.
 use Rattle.std.proofs.Common.{◌≡◌, ◌≢◌, ℕ, ◌+◌, ◌<◌, List, [], ◌∷◌, ◌++◌, length, refl, sym, ap, ◌∙◌, subst, arith, length-append, append_assoc}
 use Rattle.std.proofs.lemmas.Grind.{flat_map-append}
 use Rattle.std.specs.List.{flat_map}

@@ -1,4 +1,5 @@
 -- The steps of reading a body.
+-- Serves `is_next`, `negative_size`, `positive_size`, `read_owner`, `read_rdatas`, `read_sized`.
 use Rattle.std.proofs.Common.{◌≡◌, ℕ, ◌+◌, ◌<◌, ◌≤◌, inl, inr, List, [], ◌∷◌, ◌++◌, length, refl, sym, ap, ◌∙◌, subst, arith, length-append, append_assoc}
 use Rattle.std.specs.declared.cmp.Ordering.TheVariants.{Less}
 use Rattle.std.specs.Ordering.{nat_cmp}

@@ -1,4 +1,5 @@
 -- Entries determine their observation, whatever follows them, and have no fault.
+-- Serves what `FrameSteps`, `Frames`, `Heads`, `Passing` serve.
 use Rattle.std.proofs.Common.{◌≡◌, ℕ, List, ◌++◌, refl, sym, ap, ◌∙◌, subst, arith, append_assoc}
 use Rattle.fleet_name.specs.Name.{wire, IsName}
 use Rattle.fleet_wire.specs.Number.{u16_octets, u32_octets}

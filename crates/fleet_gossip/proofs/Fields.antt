@@ -1,5 +1,7 @@
 -- A number at the front, or octets there, and their faults exclude each other, and they have one
 -- fault at most.
+-- Serves `read_entry`, `read_head`, `read_known_entry`, and what `Bodies`, `Entries`, `Frames`,
+-- `Names` serve.
 use Rattle.std.proofs.Common.{◌≡◌, ℕ, ◌<◌, List, ◌++◌, length, sym, ap, ◌∙◌, subst, arith, length-append}
 use Rattle.fleet_name.proofs.Lemmas.{split_same}
 use Rattle.fleet_gossip.specs.Faults.{FieldFails, cut, refused, behind, OctetsFail, cut_octets, refused_octets}

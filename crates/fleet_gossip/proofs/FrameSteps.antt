@@ -1,4 +1,6 @@
 -- The steps of reading a frame.
+-- Serves `check_entries`, `decode`, `read_frame`, `read_opening`, `to_observations`,
+-- `Packer::finish`, `take_frame`, `to_made`.
 use Rattle.std.proofs.Common.{◌≡◌, ℕ, ◌+◌, ◌<◌, ◌≤◌, inl, inr, List, [], ◌∷◌, ◌++◌, length, refl, sym, ap, ◌∙◌, subst, arith, length-append, append_assoc, Result, Ok, Err}
 use Rattle.std.specs.Prelude.{IfErr}
 use Rattle.std.proofs.lemmas.List.{append-nil, nil_from_length}

@@ -1,4 +1,6 @@
 -- A frame spells one list, and has no fault.
+-- Serves `decode`, `encode`, `to_observations`, `take_frame`, the laws `list_or_fault`,
+-- `one_fault`, `one_list`, `one_spelling`, and what `FrameSteps`, `PackSteps` serve.
 use Rattle.std.proofs.Common.{◌≡◌, ℕ, inl, inr, List, [], ◌∷◌, ◌++◌, length, refl, sym, ap, ◌∙◌, subst, arith, length-append, append_assoc}
 use Rattle.std.proofs.lemmas.List.{append-nil}
 use Rattle.fleet_wire.specs.Number.{u16_octets}

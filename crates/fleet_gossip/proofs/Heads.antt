@@ -1,4 +1,6 @@
 -- What fails behind the first numbers of an entry.
+-- Serves `read_entry`, `read_head`, `known_negative_size`, `known_positive_size`,
+-- `read_known_entry`, `to_made`.
 use Rattle.std.proofs.Common.{◌≡◌, ℕ, List, ◌++◌, refl, sym, ap, ◌∙◌, Bor}
 use Rattle.fleet_name.specs.Name.{wire, IsWire}
 use Rattle.fleet_wire.specs.Number.{u16_octets, u32_octets}

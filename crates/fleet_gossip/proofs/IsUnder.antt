@@ -1,4 +1,5 @@
 -- A name without its first labels.
+-- Serves `is_under`.
 use Rattle.std.proofs.Common.{◌≡◌, ℕ, ◌+◌, ◌<◌, ◌≤◌, List, [], ◌∷◌, ◌++◌, length, get_or, drop, refl, sym, ap, ◌∙◌, arith, length-append}
 use Rattle.fleet_name.specs.Name.{label_octets, wire, IsName, IsUnder}
 use Rattle.fleet_name.proofs.Lemmas.{wire_cons, wire_some, wire_exact, named_rest}

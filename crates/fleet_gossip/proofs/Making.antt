@@ -1,4 +1,5 @@
 -- The steps of making an observation of an entry.
+-- Serves `FrameEntry::to_denial`, `FrameEntry::to_records`, `copy_rdatas`, `copy_soa`.
 use Rattle.std.proofs.Common.{◌≡◌, ℕ, ◌<◌, List, [], ◌∷◌, ◌++◌, length, sym, ap, ◌∙◌, subst, arith, append_assoc, Option, Some, None}
 use Rattle.std.proofs.lemmas.List.{append-nil}
 use Rattle.std.specs.List.{flat_map}

@@ -1,4 +1,5 @@
 -- Names in full determine their labels, whatever follows them, and have unlike fault.
+-- Serves what `Bodies`, `Entries`, `Making`, `NameSteps`, `Passing` serve.
 use Rattle.std.proofs.Common.{◌≡◌, ℕ, List, [], ◌∷◌, ◌++◌, length, refl, sym, ap, ◌∙◌, subst, arith, length-append, append_assoc}
 use Rattle.std.proofs.lemmas.Grind.{flat_map-append}
 use Rattle.std.specs.List.{flat_map, AllByRecursion}

@@ -1,4 +1,5 @@
 -- Octets of a number determine it, and are as many as its size.
+-- Serves what `Entries`, `Frames`, `Names`, `Passing` serve.
 use Rattle.std.proofs.Common.{◌≡◌, ℕ, ◌/◌, ◌%◌, List, ◌++◌, length, refl, arith}
 use Rattle.fleet_wire.specs.Number.{u32_octets}
 use Rattle.fleet_wire.proofs.Lemmas.{u32_exact}

@@ -1,4 +1,5 @@
 -- The steps of packing.
+-- Serves `encode`, `frame_size`, `Packer::add`, `Packer::finish`, `pack`, `push_head`.
 use Rattle.std.proofs.Common.{◌≡◌, ℕ, ◌+◌, ◌<◌, ◌≤◌, List, [], ◌∷◌, ◌++◌, length, refl, sym, ap, ◌∙◌, subst, inl, inr, arith, length-append, append_assoc, take, drop, get_or, add-one, drop-cons}
 use Rattle.std.proofs.Math.ListN.{drop_of_length-le}
 use Rattle.std.proofs.lemmas.List.Folds.{length-flat_map-take}

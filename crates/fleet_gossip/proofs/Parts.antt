@@ -1,4 +1,5 @@
 -- Parts at the front of octets.
+-- Serves `read_body`, `read_known_body`, `read_name`.
 use Rattle.std.proofs.Common.{ℕ, List, length, sym, ap, ◌∙◌, subst, arith, length-append}
 use Rattle.fleet_gossip.specs.steps.Reading.{AreMissing, IsSplitAfter, IsPart, IsSizeOf}
 use Rattle.fleet_gossip.specs.declared.fault.FrameFault.{FrameFault}

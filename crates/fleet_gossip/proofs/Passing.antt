@@ -1,4 +1,5 @@
 -- Entries that are known to be at the front of octets.
+-- Serves `known_negative_size`, `known_positive_size`, `read_known_entry`, `to_made`.
 use Rattle.std.proofs.Common.{◌≡◌, ℕ, ◌+◌, ◌<◌, ◌≤◌, List, [], ◌∷◌, ◌++◌, length, inl, refl, sym, ap, ◌∙◌, subst, arith, length-append, append_assoc}
 use Rattle.std.specs.List.{flat_map}
 use Rattle.fleet_name.specs.Name.{wire, IsWire}

@@ -1,5 +1,6 @@
 -- Things in a row, each spelled by octets that determine it: two rows at the front of the same
 -- octets agree as far as both go.
+-- Serves what `Bodies`, `Frames`, `Making`, `Names` serve.
 use Rattle.std.proofs.Common.{◌≡◌, ℕ, ◌<◌, List, [], ◌∷◌, ◌++◌, length, refl, sym, ap, ◌∙◌, subst, arith, length-append, append_assoc}
 use Rattle.std.specs.List.{flat_map}
 use Rattle.fleet_gossip.specs.declared.fault.FrameFault.{FrameFault}

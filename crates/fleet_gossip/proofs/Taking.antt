@@ -1,4 +1,5 @@
 -- Which observations of a frame are made, and how far they are taken.
+-- Serves `take_made`, `to_made`.
 use Rattle.std.proofs.Common.{◌≡◌, ◌⊎◌, ℕ, suc, ◌+◌, ◌≤◌, List, [], ◌∷◌, ◌++◌, length, inl, inr, refl, sym, ap, ◌∙◌, subst, arith, length-append, append_assoc, Result, Ok, Err, OnErr}
 use Rattle.std.proofs.lemmas.List.{append-nil, nil_from_length}
 use Rattle.fleet_name.proofs.Lemmas.{has_left}

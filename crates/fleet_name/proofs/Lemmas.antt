@@ -1,4 +1,7 @@
 -- The lemmas of this crate's words. Crates above cite these, and no other file of proofs/.
+-- Serves `Name::root`, `Name::same`, law `one_name`, what `Spelling`, `Whole` serve, and
+-- fleet_wire, fleet_observe, fleet_front, fleet_cache, fleet_gossip, fleet_pending, fleet_site,
+-- fleet_world, fleet_program.
 use Rattle.std.proofs.Common.{◌≡◌, ◌≢◌, ℕ, zero, suc, ◌+◌, ◌<◌, ◌≤◌, ◌⊎◌, inl, inr, Bool, true, List, [], ◌∷◌, ◌++◌, Some, None, length, map, filter, get_or, slice_set, refl, sym, ap, ◌∙◌, append_assoc, arith, length-append}
 use Rattle.std.proofs.lemmas.Bool.{cases_Bool}
 use Rattle.std.proofs.lemmas.Grind.{flat_map-append}

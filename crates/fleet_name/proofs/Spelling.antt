@@ -1,4 +1,6 @@
 -- What the functions make of the octets of a name.
+-- Serves `Name::from_spelled`, `Name::is_under`, `Name::push`, `Name::root`, `after_labels`,
+-- `lower_octets`, `push_labels`.
 use Rattle.std.proofs.Common.{◌≡◌, ℕ, suc, ◌+◌, ◌-◌, ◌<◌, ◌≤◌, List, [], ◌∷◌, ◌++◌, length, take, drop, get_or, set, refl, sym, ap, ◌∙◌, append_assoc, arith, length-append, drop-cons, add-one}
 use Rattle.std.proofs.lemmas.List.{length-map, map-append, append-nil, take-append-drop, take_more, length-take-le, set_at}
 use Rattle.std.proofs.Math.Seq.{drop-append_seam, take-append_seam, get_or-append_seam, drop-length, take-length}

@@ -1,4 +1,5 @@
 -- What is at the front of a name in full.
+-- Serves `Name::copy_of`, `labels_in`, `push_labels`, `suffix_in`.
 use Rattle.std.proofs.Common.{◌≡◌, ℕ, suc, ◌+◌, ◌<◌, ◌≤◌, List, [], ◌∷◌, ◌++◌, length, take, drop, get_or, refl, sym, ap, ◌∙◌, add-one, drop-cons, arith, length-append}
 use Rattle.std.proofs.Math.Seq.{drop-append_seam, take-append_seam}
 use Rattle.std.proofs.lemmas.List.{take-append-drop, length-take-le, take_more, append-nil, nil_from_length}

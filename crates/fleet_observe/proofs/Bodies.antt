@@ -1,4 +1,5 @@
 -- The parts of bodies, and how many octets they have.
+-- Serves `Observation::try_clone`, `push_rdatas`, `is_positive_body`.
 use Rattle.std.proofs.Common.{◌≡◌, ℕ, ◌≤◌, List, [], ◌∷◌, length, refl, ap, ◌∙◌, subst, arith, length-append}
 use Rattle.std.specs.List.{flat_map}
 use Rattle.fleet_observe.specs.Body.{octets_with_length, positive_body, negative_body, AreRdatas, IsDenial}

@@ -1,4 +1,5 @@
 -- Nothing is wrong with a reply that means something.
+-- Serves law `digest_or_fault`, and fleet_site.
 use Rattle.std.proofs.Common.{◌≡◌, List, inl, inr}
 use Rattle.fleet_wire.specs.Message.{MessageData}
 use Rattle.fleet_observe.specs.declared.reply.ending.DigestFault.{DigestFault}

@@ -1,4 +1,6 @@
 -- What a reply that was read means is lawful.
+-- Serves `digest`, `digest_along_walk`, `digest_without_walk`, `end_of`, the laws
+-- `digest_or_fault`, `one_digest`, and fleet_site, fleet_world.
 use Rattle.std.proofs.Common.{◌≡◌, ℕ, ◌≤◌, inl, inr, Bool, true, false, IsTrue, ◌↔◌, ◌⊎◌, min, List, [], ◌∷◌, length, ap, sym, ◌∙◌, refl, arith, subst, Some, None}
 use mathlib.Core.Bool.{false≢true}
 use Rattle.std.specs.List.{AllByRecursion}

@@ -1,4 +1,6 @@
 -- The lemmas of this crate's words. Crates above cite these, and no other file of proofs/.
+-- Serves `Observation::cmp`, `preference_laws`, the laws `one_key`, `one_lent`, what `Kept`,
+-- `ObservationNegative`, `Orders` serve, and fleet_cache, fleet_gossip, fleet_site, fleet_world.
 use Rattle.std.proofs.Common.{◌≡◌, ℕ, inl, inr, ◌/◌, ◌%◌, List, [], ◌∷◌, length, refl, sym, ap, ◌∙◌, arith, length-append}
 use Rattle.std.specs.declared.cmp.Ordering.{Ordering}
 use Rattle.std.specs.declared.cmp.Ordering.TheVariants.{Less, Equal, Greater}

@@ -1,4 +1,5 @@
 -- Octets that begin with a part, and what is behind it.
+-- Serves `behind_sized`, `behind_u16`, `is_negative_body`, `is_positive_body`.
 use Rattle.std.proofs.Common.{◌≡◌, ◌≢◌, ℕ, ◌+◌, ◌<◌, ◌/◌, ◌%◌, ◌↔◌, Bool, false, List, [], ◌∷◌, ◌++◌, length, get_or, drop, Option, Some, None, MatchOption, IsTrue, Bor, sym, ap, ◌∙◌, subst, arith, append_assoc, length-append, eqb}
 use mathlib.Core.Bool.{false≢true}
 use Rattle.std.specs.List.{flat_map}

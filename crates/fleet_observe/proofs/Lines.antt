@@ -1,4 +1,5 @@
 -- The lines of a relayed reply.
+-- Serves `outline_of`, `add_rows`.
 use Rattle.std.proofs.Common.{◌≡◌, ◌<◌, arith, ℕ, Bool, List, [], ◌∷◌, ◌++◌, ap, sym, ◌∙◌, refl, append_assoc, append-nil, map, Option, Some}
 use Rattle.fleet_wire.specs.Question.{QuestionData}
 use Rattle.fleet_wire.specs.Record.{RecordData}

@@ -1,4 +1,7 @@
 -- The members of a list, from an index on, and ascending lists.
+-- Serves `are_ascending`, `are_plain`, `ns_sets`, `owns`, `first_soa`, `denied_at`, `put_links`,
+-- `put_ns`, `holds`, `find_rrset`, what `Lent`, `Orders`, `Owners`, `Sections`, `Sets`, `Soas`
+-- serve, and fleet_site, fleet_world.
 use Rattle.std.proofs.Common.{◌≡◌, ℕ, zero, suc, ◌+◌, ◌-◌, ◌<◌, ◌≤◌, ◌⊎◌, inl, inr, List, [], ◌∷◌, ◌++◌, length, get_or, drop, refl, sym, ap, ◌∙◌, subst, add-one, arith, true, false}
 use Rattle.std.proofs.Math.Seq.{drop-cons}
 use Rattle.std.specs.declared.cmp.Ordering.{Ordering}

@@ -1,4 +1,5 @@
 -- Values that meet the checks make observations.
+-- Serves `Observation::negative`.
 use Rattle.std.proofs.Common.{ℕ, ◌≤◌, inl, inr, List, ap, refl, arith, Option, Some, None}
 use Rattle.fleet_name.specs.Name.{IsName}
 use Rattle.fleet_observe.proofs.Lemmas.{any_rank}

@@ -1,4 +1,5 @@
 -- The owners of the NS RRsets of a section.
+-- Serves `ns_sets`, `owns`.
 use Rattle.std.proofs.Common.{◌≡◌, ℕ, ◌⊎◌, inl, inr, List, [], ◌∷◌, ◌++◌, ap, sym, ◌∙◌, refl, subst, arith, append_assoc, append-nil}
 use Rattle.fleet_wire.specs.Record.{RecordData}
 use Rattle.fleet_wire.specs.declared.rtype.TheConstants.{NS}

@@ -1,4 +1,5 @@
 -- What is so however a call ends.
+-- Serves `ns_sets`, `soa_for`, `observations`, `put_denial`, `put_links`, `put_ns`, `put_set`.
 use Rattle.std.proofs.Common.{Result, Ok, Err}
 use Rattle.std.specs.Result.{IfErr}
 

@@ -1,4 +1,5 @@
 -- RDATAs in ascending order, and TTLs.
+-- Serves `add`, `least_ttl`, `rrset_at`, what `LawfulMeanings` serves, and fleet_site, fleet_world.
 use Rattle.std.proofs.Common.{◌≡◌, ℕ, suc, zero, ◌≤◌, ◌⊎◌, inl, inr, true, false, if◌then◌else◌, min, nat_le, List, [], ◌∷◌, ◌++◌, ap, sym, ◌∙◌, refl, arith, subst}
 use mathlib.Core.Bool.{false≢true}
 use Rattle.std.specs.List.{insert}

@@ -1,4 +1,6 @@
 -- Which SOA counts.
+-- Serves `first_soa`, `soa_for`, `digest`, `digest_along_walk`, `digest_without_walk`, `end_of`,
+-- the laws `digest_or_fault`, `one_digest`, and fleet_site, fleet_world.
 use Rattle.std.proofs.Common.{◌≡◌, ℕ, ◌+◌, ◌<◌, ◌≤◌, inl, inr, List, [], ◌∷◌, ◌++◌, length, take, drop, get_or, ap, sym, ◌∙◌, refl, arith, subst}
 use Rattle.std.proofs.lemmas.List.{length-append, take-append-drop}
 use Rattle.fleet_name.specs.Name.{wire, IsUnder}

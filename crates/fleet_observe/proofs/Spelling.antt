@@ -1,4 +1,6 @@
 -- Octets that are names in full.
+-- Serves `digest`, `denied_at`, `rrset_at`, `digest_along_walk`, what `Kept`, `Walks` serve, and
+-- fleet_site, fleet_world.
 use Rattle.std.proofs.Common.{◌≡◌, ℕ, List, ◌++◌, sym, ap, ◌∙◌, append-nil}
 use Rattle.fleet_name.specs.Name.{wire, IsName}
 use Rattle.fleet_name.proofs.Lemmas.{labels_of-spelled}

@@ -1,4 +1,5 @@
 -- How many are due, as they are served.
+-- Serves `Pending::due`, law `serving_leaves_fewer_due`.
 use Rattle.std.proofs.Common.{◌≡◌, ℕ, suc, ◌+◌, ◌<◌, ◌≤◌, ◌↔◌, Bool, true, false, cond, leb, List, [], ◌∷◌, Option, Some, None, length, slice_set, get_or, refl, sym, ◌∙◌, subst, ap, arith, count_by, ◌⊎◌, inl, inr}
 use Rattle.std.specs.List.{remove}
 use Rattle.std.proofs.lemmas.Bool.{cases_lt, le-leb, lt-leb}

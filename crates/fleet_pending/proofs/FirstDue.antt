@@ -1,4 +1,5 @@
 -- The entry that is to be served first, of the first `n`.
+-- Serves `Pending::due`, `first_due_entry`.
 use Rattle.std.proofs.Common.{◌≡◌, ℕ, ◌+◌, ◌<◌, ◌≤◌, ◌⊎◌, inl, inr, List, Option, Some, None, length, refl, sym, ◌∙◌, subst, ap, arith, ◌≢◌, MatchOption, Bor}
 use Rattle.std.proofs.lemmas.Option.{slice_get_within}
 use Rattle.std.proofs.lemmas.Bool.{cases_eq, cases_lt}

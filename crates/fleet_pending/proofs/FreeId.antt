@@ -1,4 +1,5 @@
 -- The first id that no entry has.
+-- Serves `first_free_id`, `mark_taken`.
 use Rattle.std.proofs.Common.{◌≡◌, ℕ, zero, suc, ◌+◌, ◌%◌, ◌<◌, ◌≤◌, ◌⊎◌, inl, inr, Bool, true, false, List, length, slice_set, get_or, replicate, length-set, refl, sym, ◌∙◌, subst, ap, arith, ◌≢◌}
 use Rattle.std.specs.List.{remove}
 use Rattle.std.proofs.lemmas.List.Edits.{length-remove}

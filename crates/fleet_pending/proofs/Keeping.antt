@@ -1,4 +1,6 @@
 -- What each call keeps.
+-- Serves `Pending::advance`, `Pending::ask`, `Pending::due`, `Pending::entry`, `Pending::find`,
+-- `Pending::open`, `Pending::settle`, `first_due_entry`.
 use Rattle.std.proofs.Common.{◌≡◌, ℕ, zero, suc, ◌+◌, ◌<◌, ◌≤◌, inl, inr, List, [], ◌∷◌, ◌++◌, Some, None, length, slice_set, refl, sym, ◌∙◌, subst, ap, arith, Result, length-append, length-set}
 use Rattle.std.specs.List.{remove}
 use Rattle.std.proofs.lemmas.List.Edits.{length-remove}

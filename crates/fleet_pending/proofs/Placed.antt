@@ -1,4 +1,6 @@
 -- Members of a list by their index.
+-- Serves `place_of_id`, `place_of_question`, `is_among`, what `FirstDue`, `FreeId`, `Keeping`,
+-- `Soonest`, `WaitersStay` serve, and fleet_site.
 use Rattle.std.proofs.Common.{◌≡◌, ℕ, zero, suc, ◌+◌, ◌<◌, ◌≤◌, ◌⊎◌, inl, inr, List, [], ◌∷◌, ◌++◌, Some, None, length, slice_set, get_or, refl, sym, ◌∙◌, ap, subst, arith, ◌≢◌}
 use Rattle.std.specs.List.{remove}
 use Rattle.std.proofs.lemmas.Option.{slice_get_within, same_Some}

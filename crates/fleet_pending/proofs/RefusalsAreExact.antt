@@ -1,4 +1,5 @@
 -- Where a waiter is refused.
+-- Serves law `refusals_are_exact`.
 use Rattle.std.proofs.Common.{◌≡◌, ℕ, ◌≤◌, List, Result, Err, length, sym, ◌∙◌, subst, arith}
 use Rattle.fleet_name.specs.Places.{At}
 use Rattle.fleet_pending.specs.declared.bounds.TheConstants.{MOST_ENTRIES, MOST_WAITERS}

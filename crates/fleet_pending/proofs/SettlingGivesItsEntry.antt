@@ -1,4 +1,5 @@
 -- What settling gives back.
+-- Serves law `settling_gives_its_entry`.
 use Rattle.std.proofs.Common.{◌≡◌, Some, None, sym, ◌∙◌, subst, ap}
 use Rattle.std.specs.List.{remove}
 use Rattle.fleet_name.specs.Places.{At}

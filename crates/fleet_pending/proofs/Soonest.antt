@@ -1,4 +1,6 @@
 -- The moment before which no entry's time is over.
+-- Serves `Pending::advance`, `Pending::ask`, `Pending::due`, `Pending::open`, `Pending::settle`,
+-- `soonest_of`.
 use Rattle.std.proofs.Common.{◌≡◌, ℕ, ◌+◌, ◌<◌, ◌≤◌, ◌⊎◌, inl, inr, List, length, min, slice_set, Result, subst, ap, arith, ◌≢◌}
 use Rattle.std.proofs.lemmas.List.{nil_from_length}
 use Rattle.std.proofs.lemmas.Option.{slice_get_within}

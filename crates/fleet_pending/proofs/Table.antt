@@ -1,4 +1,6 @@
 -- What is read and written at a place of the table.
+-- Serves `Pending::advance`, `Pending::ask`, `Pending::due`, `Pending::entry`, `Pending::find`,
+-- `Pending::open`, `Pending::settle`, `first_due_entry`.
 use Rattle.std.proofs.Common.{◌≡◌, ℕ, ◌+◌, ◌<◌, ◌≤◌, List, Some, None, true, length, slice_set, get_or, refl, sym, ◌∙◌, subst, ap, arith, Result}
 use Rattle.std.specs.List.{remove}
 use Rattle.std.proofs.lemmas.Option.{slice_get_within}

@@ -1,4 +1,5 @@
 -- What a waiter that was not taken leaves.
+-- Serves `Pending::ask`, `Pending::open`.
 use Rattle.std.proofs.Common.{◌≡◌, ℕ, List, Result, Ok, Err, OnErr, slice_set, ◌∙◌, ap}
 use Rattle.fleet_pending.specs.Waiter.{WaiterData}
 use Rattle.fleet_pending.specs.Asking.{Asks, Joins, waits_already, waits_too, no_place, no_memory_for_place, Opens, is_sent, no_room, no_memory_for_room, joins, opens, ask_result}

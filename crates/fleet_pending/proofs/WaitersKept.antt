@@ -1,4 +1,5 @@
 -- Each waiter accepted is given back or waits.
+-- Serves law `waiters_kept`.
 use Rattle.std.proofs.Common.{◌≡◌, ℕ, zero, suc, ◌+◌, List, [], ◌∷◌, ◌++◌, Some, None, Result, Ok, Err, Bool, true, false, slice_set, refl, ap, arith}
 use Rattle.std.specs.List.{count_by, flat_map, remove}
 use Rattle.std.proofs.lemmas.List.Sums.{sum_by-append}

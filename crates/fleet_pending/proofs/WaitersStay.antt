@@ -1,4 +1,5 @@
 -- Who waits, over the calls that change a table.
+-- Serves law `waiters_stay`.
 use Rattle.std.proofs.Common.{◌≡◌, ℕ, zero, suc, ◌⊎◌, inl, inr, Bool, true, false, List, [], ◌∷◌, ◌++◌, Option, Some, None, Result, length, slice_set, sym, subst, ◌≢◌}
 use Rattle.std.specs.List.{remove}
 use Rattle.std.proofs.lemmas.Option.{same_Some}

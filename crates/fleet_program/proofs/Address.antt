@@ -1,4 +1,5 @@
 -- Words that are addresses.
+-- Serves `address`.
 use Rattle.std.proofs.Common.{◌≡◌, ◌≢◌, ℕ, zero, suc, ◌<◌, List, [], ◌∷◌, ◌++◌, length, get_or, Option, Some, None, Result, Ok, Err, true, sym, subst, ap, ◌∙◌, arith, append_assoc, lit<, Bor}
 use mathlib.Core.Bool.{false≢true}
 use Rattle.std.specs.Prelude.{MatchOption, codes, decimal}

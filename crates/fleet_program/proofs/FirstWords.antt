@@ -1,4 +1,5 @@
 -- What a chain of iterators gives, as far as it is called.
+-- Serves `first_words`.
 use Rattle.std.proofs.Common.{◌≡◌, ℕ, ◌≤◌, List, [], ◌∷◌, ◌++◌, ap, length, map, take, refl, ap₂, sym, ◌∙◌, subst}
 use Rattle.std.specs.Prelude.{Option, None, Result, Ok, Err, OnErr}
 use Rattle.std.specs.Iterator.{AlwaysYields, Yields, Drains}

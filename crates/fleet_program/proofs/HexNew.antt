@@ -1,4 +1,5 @@
 -- Words that spell octets.
+-- Serves `Hex::new`.
 use Rattle.std.proofs.Common.{◌≡◌, ◌≢◌, ◌%◌, ℕ, List, [], length, true, Ok, inl, inr, refl, sym, ap, ◌∙◌}
 use Rattle.std.specs.Prelude.{is_ok, codes}
 use Rattle.std.specs.List.{AllPass}

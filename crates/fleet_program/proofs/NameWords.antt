@@ -1,4 +1,5 @@
 -- Words that spell names.
+-- Serves `Hex::spells_name`, `NameWord::new`.
 use Rattle.std.proofs.Common.{◌≡◌, ℕ, ◌<◌, ◌/◌, ◌*◌, ◌↔◌, List, [], length, drop, true, Option, Some, None, Result, Ok, Err, refl, sym, ap, ◌∙◌, subst, arith}
 use Rattle.std.proofs.lemmas.List.{length-map}
 use mathlib.Core.Bool.{false≢true}

@@ -1,4 +1,5 @@
 -- No address of a script appears twice.
+-- Serves `new_config`.
 use Rattle.std.proofs.Common.{◌≡◌, ℕ, zero, suc, ◌+◌, ◌<◌, ◌≤◌, List, [], ◌∷◌, ◌++◌, Some, None, length, true, false, nat_eq, refl, sym, ap, ◌∙◌, arith, lit≤, cond, length-append, subst}
 use Rattle.std.proofs.lemmas.Option.{same_Some}
 use Rattle.fleet_pending.specs.declared.addr.Addr.{Addr}

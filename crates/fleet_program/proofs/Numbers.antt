@@ -1,4 +1,5 @@
 -- Words that are numbers.
+-- Serves `address`, `number`.
 use Rattle.std.proofs.Common.{◌≡◌, ℕ, ◌<◌, ◌≤◌, ◌^◌, List, length, true, rules, arith, Result, Ok, Err}
 use Rattle.std.specs.Char.{is_ascii_digit}
 use Rattle.std.specs.List.{AllPass, list_all}

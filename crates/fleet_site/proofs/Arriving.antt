@@ -1,4 +1,5 @@
 -- Each datagram that a server receives is given to its site, in one of its turns.
+-- Serves the laws `own_replies`, `questions_answered`.
 use Rattle.std.proofs.Common.{◌≡◌, ◌⊎◌, inl, inr, ℕ, zero, suc, ◌+◌, ◌<◌, List, [], ◌∷◌, ◌++◌, Some, None, length, refl, subst, arith}
 use Rattle.std.proofs.lemmas.Option.{same_Some}
 use Rattle.fleet_name.specs.Places.{At}

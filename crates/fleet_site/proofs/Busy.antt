@@ -1,5 +1,5 @@
 -- A receive of a port in which something waits.
--- Serves `Bursts::take_in`, `take_next`, `send_waiting` and `work`.
+-- Serves `Bursts::send_waiting`, `Bursts::take_in`, `Bursts::take_next`, `Bursts::work`.
 use Rattle.std.proofs.Common.{◌≡◌, ◌⊎◌, inl, inr, ℕ, ◌+◌, ◌≤◌, ◌<◌, Bool, true, false, cond, not, List, [], ◌∷◌, ◌++◌, length, take, Option, Some, None, Result, Ok, Err, IfOk, IfSome, refl, sym, ap, subst, ◌∙◌, arith}
 use Rattle.std.proofs.lemmas.Bool.{cases_lt}
 use Rattle.fleet_pending.specs.declared.addr.Addr.{Addr}

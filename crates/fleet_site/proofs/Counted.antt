@@ -1,4 +1,5 @@
 -- What the count of short steps says.
+-- Serves the laws `own_replies`, `questions_answered`.
 use Rattle.std.proofs.Common.{◌≡◌, zero, suc, ◌<◌, ◌≤◌, List, [], ◌∷◌, ◌++◌, Bool, true, false, Result, Ok, Err, IsOk, is_some, refl, sym, ap, ◌∙◌, subst, arith}
 use Rattle.std.specs.List.{AllByRecursion}
 use Rattle.fleet_site.specs.OutcomeData.{OutcomeData}

@@ -1,4 +1,5 @@
 -- What a step of a site does to those who wait, and what it sends to clients.
+-- Serves the laws `none_forgotten`, `own_replies`, `questions_answered`.
 use Rattle.std.proofs.Common.{◌≡◌, inl, inr, ℕ, zero, suc, List, [], ◌∷◌, ◌++◌, true, Option, Some, None, Result, Ok, Err, map, slice_set, refl, sym, ap, ◌∙◌, subst, append_assoc}
 use Rattle.std.specs.List.{flat_map, remove}
 use Rattle.std.proofs.lemmas.List.{append-nil}

@@ -1,4 +1,6 @@
 -- What the records of a port and of its socket say together.
+-- Serves `BurstPort::finish`, `BurstPort::new`, `BurstPort::recv`, `BurstPort::send`,
+-- `serve_socket`, the laws `own_replies`, `questions_answered`.
 use Rattle.std.proofs.Common.{◌≡◌, ℕ, Bool, true, false, cond, min, List, [], ◌∷◌, ◌++◌, length, take, Option, Some, None, Result, Ok, Err, refl, sym, ap, subst, ◌∙◌, append_assoc, IfSome, ◌⊎◌, inl, inr}
 use Rattle.std.proofs.lemmas.List.{append-nil}
 use Rattle.fleet_pending.specs.declared.addr.Addr.{Addr}

@@ -1,4 +1,5 @@
 -- What the flush of a name does to a site.
+-- Serves `flush_name`.
 use Rattle.std.proofs.Common.{◌≡◌, ℕ, ◌<◌, List, [], ◌∷◌, ◌++◌, take, length, inr, refl, subst, Ok, Err}
 use Rattle.fleet_observe.specs.Observation.{ObservationData, flush_at}
 use Rattle.fleet_cache.specs.Cached.{IsCached, CacheData}

@@ -1,4 +1,6 @@
 -- What the loops of a server keep.
+-- Serves `give`, `receive`, `serve`, `sweep_if_due`, `take_turn`, `tick_all`, the laws
+-- `own_replies`, `questions_answered`.
 use Rattle.std.specs.Prelude.{◌≡◌, ℕ, ◌+◌, ◌<◌, ◌≤◌, max, Bool, true, false, List, length, Option, Result}
 use Rattle.rand_core.specs.Stream.{Stream}
 use Rattle.fleet_pending.specs.declared.bounds.TheConstants.{MOST_ENTRIES}

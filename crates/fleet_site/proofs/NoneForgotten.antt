@@ -1,4 +1,5 @@
 -- A reply that is awaited goes to each who waits for it.
+-- Serves law `none_forgotten`.
 use Rattle.std.proofs.Common.{◌≡◌, inl, inr, ℕ, max, List, refl, sym, ap, ◌∙◌, subst, arith}
 use Rattle.fleet_name.specs.Places.{At, Has}
 use Rattle.fleet_wire.specs.Message.{MessageData}

@@ -1,4 +1,5 @@
 -- Frames that wait, each once for all its addresses.
+-- Serves `Outbox::join_last`, `Outbox::remove_first`, `Outgoing::join`.
 use Rattle.std.proofs.Common.{◌≡◌, ℕ, zero, suc, ◌+◌, ◌<◌, get_or, set, List, [], ◌∷◌, ◌++◌, length, map, drop, sym, ap, ◌∙◌, append_assoc, arith}
 use Rattle.std.proofs.lemmas.List.{append-nil, map_push}
 use Rattle.fleet_pending.specs.declared.addr.Addr.{Addr}

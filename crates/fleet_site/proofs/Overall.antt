@@ -1,4 +1,5 @@
 -- What the clients of a server over a socket get.
+-- Serves the laws `own_replies`, `questions_answered`.
 use Rattle.std.proofs.Common.{◌≡◌, ℕ, zero, suc, List, [], ◌∷◌, ◌++◌, append_assoc, length, sym, ap, ◌∙◌, subst}
 use Rattle.fleet_name.specs.Places.{At}
 use Rattle.fleet_site.specs.server.PortRecord.{PortCall, Received}

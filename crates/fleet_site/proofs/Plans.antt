@@ -1,4 +1,5 @@
 -- What the first due entry makes a site do.
+-- Serves `entry_query`, `and_more`, `serve_due`.
 use Rattle.std.proofs.Common.{◌≡◌, ◌≢◌, ℕ, ◌+◌, inl, inr, List, ◌++◌, Option, Some, Bool, true, false, map, refl, sym, ◌∙◌, ap, subst, arith}
 use Rattle.std.specs.Prelude.{IsTrue}
 use mathlib.Core.Bool.{false≢true}

@@ -1,4 +1,5 @@
 -- A server replies at most once to each datagram.
+-- Serves the laws `none_forgotten`, `own_replies`, `questions_answered`.
 use Rattle.std.proofs.Common.{◌≡◌, inl, inr, ℕ, zero, suc, ◌+◌, List, [], ◌∷◌, ◌++◌, Bool, Option, Some, None, Result, Ok, Err, length, append_assoc, map, refl, sym, ap, ◌∙◌, subst}
 use Rattle.std.specs.List.{flat_map}
 use Rattle.std.proofs.lemmas.List.{append-nil}

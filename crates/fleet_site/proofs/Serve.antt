@@ -1,4 +1,5 @@
 -- Runs of a server, and what its counts say.
+-- Serves `serve`.
 use Rattle.std.proofs.Common.{◌≡◌, ℕ, suc, zero, ◌+◌, ◌%◌, ◌<◌, ◌≤◌, List, [], ◌∷◌, ◌++◌, Bool, true, false, Option, Some, None, Result, Ok, Err, IfSome, is_some, refl, sym, ap, subst, ◌∙◌, arith, add-one, add-zero}
 use Rattle.rand_core.specs.Stream.{Stream, next_u32}
 use Rattle.fleet_site.specs.declared.bounds.TheConstants.{MOST_COUNTED}

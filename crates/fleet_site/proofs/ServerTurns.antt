@@ -1,4 +1,6 @@
 -- Steps, ticks and turns of a server.
+-- Serves `give`, `receive`, `serve`, `sweep_if_due`, `take_turn`, `tick_all`, the laws
+-- `own_replies`, `questions_answered`.
 use Rattle.std.proofs.Common.{◌≡◌, IsTrue, IfOk, Vec, ℕ, ◌+◌, ◌<◌, ◌≤◌, List, [], ◌∷◌, ◌++◌, Bool, true, false, max, Option, Some, Result, Ok, Err, inl, inr, refl, sym, ap, subst, ◌∙◌, append_assoc, length, length-append, arith}
 use Rattle.std.proofs.lemmas.List.{append-nil}
 use Rattle.std.specs.Option.{unwrap_or}

@@ -1,4 +1,5 @@
 -- Each step of a turn does one deed.
+-- Serves the laws `none_forgotten`, `own_replies`, `questions_answered`.
 use Rattle.std.proofs.Common.{◌≡◌, inl, inr, ℕ, suc, ◌+◌, max, false, List, [], ◌∷◌, Option, Some, None, Result, Ok, Err, refl, sym, ap, ◌∙◌, subst}
 use Rattle.fleet_name.specs.Places.{At, Has}
 use Rattle.fleet_wire.specs.Question.{QuestionData}

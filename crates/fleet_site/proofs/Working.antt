@@ -1,4 +1,7 @@
 -- What a port over a socket did, one call of the socket after the other.
+-- Serves `Bursts::finish`, `Bursts::read_clock`, `Bursts::receive_burst`, `Bursts::recv`,
+-- `Bursts::send_burst`, `Bursts::send_more`, `Bursts::take_in`, `Bursts::wait`, `Bursts::work`, and
+-- what `Busy`, `Carried`, `Flowing`, `SocketLedger` serve.
 use Rattle.std.proofs.Common.{◌≡◌, inl, inr, ℕ, ◌+◌, ◌≤◌, ◌<◌, Bool, true, false, cond, not, min, List, [], ◌∷◌, ◌++◌, length, take, Option, Some, None, Result, Ok, Err, refl, sym, ap, subst, ◌∙◌, append_assoc, arith, length-append, lit<}
 use Rattle.std.proofs.Math.Nat.{min-eq_left}
 use Rattle.std.proofs.lemmas.List.{append-nil, length-take-le, take_all}

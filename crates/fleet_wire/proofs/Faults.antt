@@ -1,4 +1,5 @@
 -- The fault that octets show at a place, and the one of a header.
+-- Serves what `FirstFaults`, `Readings`, `Records` serve, and fleet_site, fleet_world.
 use Rattle.std.proofs.Common.{◌≡◌, ℕ, ◌+◌, ◌-◌, ◌*◌, ◌<◌, ◌≤◌, List, length, refl, sym, ◌∙◌, arith, Option, Some, None, if◌then◌else◌, nat_le}
 use Rattle.std.proofs.lemmas.Bool.{le-leb, lt-leb}
 use Rattle.std.specs.Prelude.{slice_index}

@@ -1,4 +1,5 @@
 -- A message has one first fault at most.
+-- Serves the laws `one_query_fault`, `one_reply_fault`.
 use mathlib.Core.Logic.{inl, inr}
 use Rattle.std.proofs.Common.{◌≡◌, ℕ, ◌+◌, List, [], ◌∷◌, length, sym, ◌∙◌, subst, arith, Option, Some, None, Bool, true, false}
 use Rattle.fleet_wire.specs.Number.{u16_at}

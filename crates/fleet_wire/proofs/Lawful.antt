@@ -1,4 +1,6 @@
 -- What is read is lawful: a question spells its name, and the RDATA of a record is plain.
+-- Serves `question_of`, `message_of`, `reply_head`, `append_name`, law `reply_is_read`, and
+-- fleet_world.
 use Rattle.std.proofs.Common.{◌≡◌, ℕ, ◌+◌, List, [], ◌∷◌, length, take, drop, refl, sym, ap, ◌∙◌, subst, arith, Option, Some, None, Bool, true, false, get_or}
 use Rattle.std.proofs.lemmas.List.{length-take-le, length-drop}
 use Rattle.std.specs.Prelude.{IsTrue}

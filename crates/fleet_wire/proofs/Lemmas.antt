@@ -1,4 +1,5 @@
 -- The lemmas of this crate's words. Crates above cite these, and no other file of proofs/.
+-- Serves fleet_gossip, fleet_site, fleet_world.
 use Rattle.std.proofs.Common.{◌≡◌, ℕ, ◌/◌, ◌%◌, List, ◌++◌, length, refl, ap, ◌∙◌, arith}
 use Rattle.std.proofs.lemmas.List.{append-nil}
 use Rattle.fleet_name.specs.Name.{wire, IsWire}

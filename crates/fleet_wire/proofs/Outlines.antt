@@ -1,4 +1,5 @@
 -- The octets of an outline, piece by piece.
+-- Serves `push_whole`, `write_reply`, `write_reply_into`.
 use Rattle.std.proofs.Common.{◌≡◌, ℕ, ◌+◌, ◌<◌, ◌≤◌, List, [], ◌∷◌, ◌++◌, length, refl, sym, ap, ◌∙◌, arith, append_assoc, length-append, Bool, cond}
 use Rattle.std.proofs.lemmas.Bool.{le-leb, lt-leb}
 use Rattle.fleet_name.specs.Name.{wire}

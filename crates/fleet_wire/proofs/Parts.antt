@@ -1,4 +1,6 @@
 -- The parts of RDATA at a place are read in one way, or have a first fault.
+-- Serves `name_at`, `are_plain`, `record_at`, `record_end`, `parts_at`, `parts_end`, `rdata_of`,
+-- what `FirstFaults`, `Lawful`, `Records` serve, and fleet_site, fleet_world.
 use mathlib.Core.Logic.{inl, inr}
 use Rattle.std.proofs.Common.{◌≡◌, ℕ, ◌+◌, ◌<◌, ◌≤◌, List, [], ◌∷◌, ◌++◌, length, take, drop, refl, sym, ap, ◌∙◌, subst, arith, append_assoc, get_or, add-one, drop-cons, Option, Some, None}
 use Rattle.std.proofs.Math.ListN.{drop_of_length-le}

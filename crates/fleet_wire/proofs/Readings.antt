@@ -1,4 +1,6 @@
 -- A place of a message has one reading, or one first fault.
+-- Serves `name_end`, `spelling_at`, `run_at`, `question_at`, law `one_name`, what `FirstFaults`,
+-- `Parts`, `PlainNames`, `ReadPlainQuery`, `Records` serve, and fleet_site, fleet_world.
 use Rattle.std.proofs.Common.{◌≡◌, ℕ, ◌+◌, ◌<◌, ◌≤◌, List, [], ◌∷◌, ◌++◌, length, refl, sym, ap, ◌∙◌, subst, arith, length-append, append_assoc, Option}
 use Rattle.std.proofs.lemmas.List.{length-map, map-append, append-nil}
 use Rattle.std.specs.Option.{unwrap_or}

@@ -1,4 +1,7 @@
 -- Records, a query and a reply are read in one way, or have a first fault.
+-- Serves `read_query`, `record_at`, `records_end`, `records_of`, `message_of`, `read_reply`,
+-- `reply_head`, the laws `one_query`, `one_reply`, `query_or_fault`, `reply_or_fault`, what
+-- `FirstFaults` serves, and fleet_site.
 use mathlib.Core.Logic.{inl, inr}
 use Rattle.std.proofs.Common.{◌≡◌, ℕ, ◌+◌, ◌<◌, ◌≤◌, List, [], ◌∷◌, ◌++◌, length, refl, sym, ap, ◌∙◌, subst, arith, Bool, true, false, get_or}
 use Rattle.fleet_name.specs.Name.{wire, lower_all}

@@ -1,4 +1,6 @@
 -- Octets that are those of a name in lower case.
+-- Serves `run_at`, `after_name`, `are_plain`, `read_plain_query`, `write_query`, `write_reply`, the
+-- laws `query_reads_back`, `reply_reads_back`.
 use Rattle.std.proofs.Common.{◌≡◌, ℕ, ◌≤◌, List, [], ◌∷◌, ◌++◌, length, take, drop, refl, sym, ap, ◌∙◌, arith, append_assoc}
 use Rattle.std.proofs.Math.Seq.{drop-append_seam, take-append_seam}
 use Rattle.std.proofs.lemmas.List.{length-map, take-map, take-append-drop}

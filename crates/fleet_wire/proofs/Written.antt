@@ -1,4 +1,6 @@
 -- What is written is read again.
+-- Serves `run_at`, `after_name`, `are_plain`, `read_plain_query`, `write_query`, `write_reply`, the
+-- laws `query_reads_back`, `reply_reads_back`.
 use Rattle.std.proofs.Common.{◌≡◌, ℕ, ◌+◌, ◌*◌, ◌/◌, ◌%◌, ◌<◌, ◌≤◌, List, [], ◌∷◌, ◌++◌, length, take, drop, get_or, refl, sym, ap, ◌∙◌, subst, arith, append_assoc, length-append, Bool, true, false, Option, Some, None, nat_eq, nat_le, cond}
 use Rattle.std.proofs.Math.Seq.{drop-append_seam, take-append_seam, get_or-append_seam}
 use Rattle.std.proofs.lemmas.List.{append-nil}

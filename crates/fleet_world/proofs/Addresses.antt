@@ -1,4 +1,5 @@
 -- The addresses of sites stay, along any run.
+-- Serves the laws `deliveries`, `fresh`, `origin`, `servers`, `telling`, `withdrawn`.
 use Rattle.std.proofs.Common.{◌≡◌, ℕ, inl, inr, List, [], ◌∷◌, slice_set, refl, sym, ap, subst, ◌∙◌, Result, Ok, Err}
 use Rattle.fleet_name.specs.Places.{At}
 use Rattle.fleet_name.proofs.Lemmas.{at_set, at_mapped}

@@ -1,4 +1,5 @@
 -- Sites that have heard of the same agree.
+-- Serves the laws `agreement`, `fresh`, `telling`, `withdrawn`.
 use Rattle.std.proofs.Common.{◌≡◌, ℕ, ◌<◌, ◌↔◌, List, [], ◌∷◌, ◌++◌, sym, ap₂, subst, ◌∙◌, arith}
 use Rattle.fleet_name.specs.Places.{At, Has}
 use Rattle.fleet_observe.specs.Observation.{ObservationData, AreObservations, expires}

@@ -1,4 +1,5 @@
 -- What is read in what a site answers.
+-- Serves the laws `fresh`, `withdrawn`.
 use Rattle.std.proofs.Common.{◌≡◌, ℕ, ◌<◌, max, inl, inr, List, [], ◌∷◌, ◌++◌, refl, sym, subst, ◌∙◌, arith, Option, Some, None}
 use Rattle.std.specs.List.{AllByRecursion}
 use Rattle.fleet_name.specs.Places.{At, Has}

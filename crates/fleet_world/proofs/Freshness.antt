@@ -1,4 +1,5 @@
 -- Each part of an answer is fresh.
+-- Serves the laws `fresh`, `withdrawn`.
 use Rattle.std.proofs.Common.{ℕ, ◌+◌, ◌-◌, ◌<◌, min, List, ap, subst, ◌∙◌}
 use Rattle.fleet_name.specs.Places.{Has}
 use Rattle.fleet_observe.specs.Observation.{ObservationData, expires}

@@ -1,4 +1,5 @@
 -- What is answered of some names is of what bears on them alone.
+-- Serves the laws `agreement`, `telling`.
 use Rattle.std.proofs.Common.{◌≡◌, ℕ, zero, suc, ◌<◌, ◌≤◌, Bool, true, false, not, ◌&&◌, nat_le, if◌then◌else◌, inl, inr, List, [], ◌++◌, filter, refl, sym, ap, subst, ◌∙◌, arith, append_assoc, Option, Some, None}
 use mathlib.Core.Bool.{false≢true}
 use Rattle.std.proofs.lemmas.Bool.{or_cases, and_parts, and_from}

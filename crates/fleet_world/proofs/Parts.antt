@@ -1,4 +1,5 @@
 -- What the parts of an answer are.
+-- Serves the laws `fresh`, `withdrawn`.
 use Rattle.std.proofs.Common.{◌≡◌, ℕ, zero, suc, Bool, true, false, ◌&&◌, if◌then◌else◌, ◌⊎◌, inl, inr, List, refl, subst, Option, Some, None}
 use mathlib.Core.Bool.{false≢true}
 use Rattle.std.proofs.lemmas.Bool.{and_parts}

@@ -1,4 +1,6 @@
 -- Who was reached has heard of all that the one which reached it had heard of.
+-- Serves the laws `agreement`, `deliveries`, `fresh`, `reaching`, `servers`, `telling`,
+-- `withdrawn`.
 use Rattle.std.proofs.Common.{◌≡◌, ◌≢◌, ℕ, zero, suc, ◌+◌, ◌<◌, ◌≤◌, max, Bool, true, false, cond, ◌⊎◌, inl, inr, List, [], ◌∷◌, length, slice_set, nat_eq, refl, sym, ap, subst, ◌∙◌, arith, length-append, Option, Some, None, Result, Ok, Err}
 use Rattle.std.proofs.lemmas.Bool.{and_from, or_left, or_right}
 use Rattle.std.proofs.lemmas.Bool.Decides.{nat_tests}

@@ -1,4 +1,5 @@
 -- What a site sends of a reply is of that reply.
+-- Serves the laws `fresh`, `withdrawn`.
 use Rattle.std.proofs.Common.{◌≡◌, ℕ, suc, ◌<◌, max, true, false, inl, inr, List, [], ◌∷◌, ◌++◌, length, refl, sym, ap, subst, ◌∙◌, Some, None, Ok, arith}
 use Rattle.std.specs.List.{AllByRecursion}
 use Rattle.fleet_name.specs.Name.{IsName}

@@ -1,4 +1,5 @@
 -- The records of fresh parts are fresh.
+-- Serves the laws `fresh`, `withdrawn`.
 use Rattle.std.proofs.Common.{◌≡◌, ℕ, ◌<◌, inl, inr, List, [], ◌∷◌, ◌++◌, map, refl, sym, ap, subst, ◌∙◌, append_assoc}
 use Rattle.fleet_name.specs.Name.{IsUnder}
 use Rattle.fleet_name.specs.Places.{Has}

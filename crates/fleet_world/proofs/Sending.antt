@@ -1,4 +1,5 @@
 -- What is read in the datagrams that a site sends.
+-- Serves the laws `fresh`, `withdrawn`.
 use Rattle.std.proofs.Common.{◌≡◌, ℕ, max, inl, inr, List, length, refl, subst, Option, Some, Result, Ok, Err}
 use Rattle.fleet_name.specs.Places.{At, Has}
 use Rattle.fleet_name.proofs.Lemmas.{at_same}

@@ -1,4 +1,5 @@
 -- What clients read in what servers send.
+-- Serves the laws `fresh`, `withdrawn`.
 use Rattle.std.proofs.Common.{ℕ, zero, suc, inl, inr, List, [], ◌∷◌, ap, subst, length, Some, Result, Ok, Err}
 use Rattle.fleet_name.specs.Places.{At, Has}
 use Rattle.fleet_name.proofs.Lemmas.{has_either}

@@ -1,4 +1,5 @@
 -- What servers did side by side is a run of the fleet.
+-- Serves the laws `fresh`, `servers`, `withdrawn`.
 use Rattle.std.proofs.Common.{◌≡◌, ◌≢◌, ℕ, zero, suc, ◌+◌, max, Bool, true, false, if◌then◌else◌, ◌⊎◌, nat_eq, inl, inr, List, [], ◌∷◌, ◌++◌, length, slice_set, refl, sym, ap, subst, ◌∙◌, arith, length-append, add-zero, slice_get, Option, Some, None, Result, Ok, Err}
 use Rattle.std.proofs.lemmas.Bool.Decides.{nat_tests}
 use Rattle.fleet_name.specs.Places.{At, Has}

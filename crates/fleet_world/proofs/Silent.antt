@@ -1,5 +1,6 @@
 -- Where nothing new comes in, nothing new is heard of; and a site that sends no frame knows nothing
 -- that lasts.
+-- Serves the laws `agreement`, `fresh`, `telling`, `withdrawn`.
 use Rattle.std.proofs.Common.{◌≡◌, ℕ, suc, ◌<◌, ◌≤◌, Bool, true, false, cond, ◌⊎◌, inl, inr, List, [], ◌∷◌, ◌++◌, length, slice_set, take, refl, sym, ap, subst, ◌∙◌, arith, Option, Some, None, Result, Ok, Err}
 use Rattle.std.proofs.lemmas.List.{append_cancel_right}
 use Rattle.std.proofs.lemmas.Option.{slice_get_within}

@@ -1,4 +1,5 @@
 -- Which reply an observation is of, and how long the reply allows to use it.
+-- Serves the laws `fresh`, `withdrawn`.
 use Rattle.std.proofs.Common.{◌≡◌, ℕ, max, Bool, true, false, if◌then◌else◌, inl, inr, List, [], ◌∷◌, length, refl, sym, ap, subst, ◌∙◌, nat_eq, nat_lt, Option, Some, None}
 use Rattle.fleet_name.specs.Places.{Has}
 use Rattle.fleet_name.proofs.Lemmas.{has_either}

@@ -1,4 +1,5 @@
 -- What octets in a body or in a message spell is one thing, and what was read is lawful.
+-- Serves the laws `fresh`, `withdrawn`.
 use Rattle.std.proofs.Common.{◌≡◌, ℕ, Bool, true, false, inl, inr, List, [], ◌∷◌, ◌++◌, length, refl, sym, ap, subst, ◌∙◌, append_assoc, arith}
 use Rattle.std.specs.List.{flat_map, AllByRecursion}
 use Rattle.fleet_name.specs.Name.{wire, IsLabel, IsName}

@@ -1,4 +1,5 @@
 -- Sites of a served fleet agree.
+-- Serves law `telling`.
 use Rattle.std.proofs.Common.{◌≡◌, ℕ, ◌<◌, ◌≤◌, ◌↔◌, false, append_assoc, inl, inr, List, [], ◌∷◌, ◌++◌, length, refl, sym, ap, subst, ◌∙◌, arith}
 use mathlib.Core.Bool.{false≢true}
 use Rattle.fleet_name.specs.Types.{Labels}

@@ -1,4 +1,5 @@
 -- Of some observations none is new, whatever else comes in.
+-- Serves law `telling`.
 use Rattle.std.proofs.Common.{◌≡◌, ℕ, inl, inr, List, [], ◌∷◌, length, slice_set, zero, suc, refl, sym, subst, Some, None, Result, Ok, Err}
 use Rattle.std.specs.List.{AllZip}
 use Rattle.fleet_name.specs.Places.{At, Has}

@@ -1,4 +1,5 @@
 -- No horizon lies after the latest moment of a run.
+-- Serves law `telling`.
 use Rattle.std.proofs.Common.{◌≡◌, ℕ, ◌≤◌, max, Bool, true, false, cond, inl, inr, List, [], ◌∷◌, length, slice_set, refl, sym, ap, subst, arith, Option, Some, None, Result, Ok, Err}
 use Rattle.fleet_name.specs.Places.{At, Has}
 use Rattle.fleet_name.proofs.Lemmas.{has_either, at_set, at_mapped}

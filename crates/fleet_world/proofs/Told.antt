@@ -1,4 +1,5 @@
 -- What events and their results say of who was reached.
+-- Serves the laws `fresh`, `servers`, `telling`, `withdrawn`.
 use Rattle.std.proofs.Common.{◌≡◌, ◌≢◌, ℕ, zero, suc, ◌⊎◌, inl, inr, List, [], ◌∷◌, ◌++◌, length, slice_set, refl, sym, ap, subst, ◌∙◌, arith, Option, Some, None, Result, Ok, Err}
 use Rattle.fleet_name.specs.Places.{At, Has}
 use Rattle.fleet_name.proofs.Lemmas.{at_same}

@@ -1,4 +1,5 @@
 -- Who waits asked a lawful question, along any run.
+-- Serves the laws `fresh`, `withdrawn`.
 use Rattle.std.proofs.Common.{◌≡◌, ℕ, true, inl, inr, List, [], ◌∷◌, slice_set, refl, sym, ap, subst, ◌∙◌, Some, None, Result, Ok, Err}
 use Rattle.fleet_name.specs.Places.{At, NoneIs}
 use Rattle.fleet_name.proofs.Lemmas.{at_set, at_mapped}

@@ -1,4 +1,5 @@
 -- What a flush withdraws is no part of an answer.
+-- Serves the laws `fresh`, `withdrawn`.
 use Rattle.std.proofs.Common.{◌≡◌, ℕ, zero, suc, ◌<◌, ◌≤◌, Bool, true, false, ◌&&◌, if◌then◌else◌, inl, inr, List, [], ◌∷◌, ◌++◌, filter, refl, sym, ap, subst, ◌∙◌, Option, Some, None, Ok, arith}
 use mathlib.Core.Bool.{false≢true}
 use Rattle.fleet_name.specs.Places.{Has}
