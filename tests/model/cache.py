@@ -16,9 +16,9 @@ def is_void(observations, observation):
     return any(withdraws(flush, observation) for flush in observations if flush.kind == FLUSH)
 
 
-def is_live(observations, moment, observation):
+def is_live(observations, now, observation):
     """Whether an observation has not ended and is not withdrawn. One that is stamped later is live."""
-    return moment < observation.expires and not is_void(observations, observation)
+    return now < observation.expires and not is_void(observations, observation)
 
 
 def is_relevant(name, rtype, observation):
@@ -31,9 +31,9 @@ def is_relevant(name, rtype, observation):
     return observation.kind == NAME_ERROR and is_under(name, observation.name)
 
 
-def decider(observations, moment, name, rtype):
+def decider(observations, now, name, rtype):
     """The most preferred observation that is live and relevant, or None."""
-    fitting = [one for one in observations if is_relevant(name, rtype, one) and is_live(observations, moment, one)]
+    fitting = [one for one in observations if is_relevant(name, rtype, one) and is_live(observations, now, one)]
     if len({one.kind for one in fitting}) > 1:
         note("answer: several kinds fit")
     elif len(fitting) > 1:
@@ -46,13 +46,13 @@ def preference(observation):
     return observation.preference
 
 
-def answer(observations, moment, name, rtype):
+def answer(observations, now, name, rtype):
     """The aliases of the way and the observation that ends it, or None of a miss.
 
     A miss at an alias's target is a miss, and so is a ninth alias."""
     chain = []
     while True:
-        best = decider(observations, moment, name, rtype)
+        best = decider(observations, now, name, rtype)
         if best is None:
             note("answer: miss behind an alias" if chain else "answer: miss")
             return None

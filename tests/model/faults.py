@@ -39,9 +39,9 @@ def withdraws_only_what_was_before(flush, observation):
     return RIGHT_WITHDRAWS(flush, observation) and flush.stamp > observation.stamp
 
 
-def purges_without_a_floor(self, moment):
+def purges_without_a_floor(self, now):
     """A purge drops what has ended, and forgets to which moment."""
-    self.taken = {one for one in self.taken if one.expires > max(self.floor, moment)}
+    self.taken = {one for one in self.taken if one.expires > max(self.floor, now)}
 
 
 def denies_the_name_alone(name, rtype, observation):
@@ -51,10 +51,10 @@ def denies_the_name_alone(name, rtype, observation):
     return RIGHT_RELEVANT(name, rtype, observation)
 
 
-def prefers_the_least(observations, moment, name, rtype):
+def prefers_the_least(observations, now, name, rtype):
     """The least preferred answers."""
     fitting = [one for one in observations
-               if cache.is_relevant(name, rtype, one) and cache.is_live(observations, moment, one)]
+               if cache.is_relevant(name, rtype, one) and cache.is_live(observations, now, one)]
     return min(fitting, key=cache.preference, default=None)
 
 
@@ -123,9 +123,9 @@ def reads_a_top_bit_as_large(ttl):
     return min(ttl, LONGEST_LIFE)
 
 
-def serves_the_least_identifier(entries, moment):
+def serves_the_least_identifier(entries, now):
     """The open question that is due first is that with the least identifier."""
-    return sorted(RIGHT_DUE(entries, moment), key=lambda entry: entry.identifier)
+    return sorted(RIGHT_DUE(entries, now), key=lambda entry: entry.identifier)
 
 
 def denies_the_question_name(meaning):

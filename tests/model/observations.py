@@ -46,11 +46,11 @@ class Observation:
         return name_octets(owner) + numbers(len(rdata)) + rdata
 
 
-def flush_of(name, moment):
+def flush_of(name, stamp):
     """The flush of a name, as of a moment."""
-    return Observation(FLUSH, name, 0, 3, moment, LONGEST_LIFE, ())
+    return Observation(FLUSH, name, 0, 3, stamp, LONGEST_LIFE, ())
 
 
-def shown_ttl(moment, observation):
+def shown_ttl(now, observation):
     """The TTL that is shown at a moment: the seconds that are left, and never more than its life."""
-    return min(observation.expires - moment, observation.life)
+    return min(observation.expires - now, observation.life)

@@ -39,7 +39,7 @@ def free_identifier(entries, word):
     return word
 
 
-def ask(entries, waiter, moment, word):
+def ask(entries, waiter, now, word):
     """Enters who waits. The result is "again", "joined" or "full", or the open question that is new."""
     question = waiter.question
     for entry in entries:
@@ -55,7 +55,7 @@ def ask(entries, waiter, moment, word):
         note("question: an open question too many")
         return "full"
     identifier = free_identifier(entries, word)
-    entry = OpenQuestion(question.name, question.rtype, identifier, 0, moment + TRY_SECONDS, [waiter])
+    entry = OpenQuestion(question.name, question.rtype, identifier, 0, now + TRY_SECONDS, [waiter])
     entries.append(entry)
     return entry
 
@@ -70,7 +70,7 @@ def find(entries, upstream, identifier, question):
     return None
 
 
-def due(entries, moment):
+def due(entries, now):
     """The open questions whose time is over, by deadline and identifier."""
-    over = [entry for entry in entries if entry.deadline <= moment]
+    over = [entry for entry in entries if entry.deadline <= now]
     return sorted(over, key=lambda entry: (entry.deadline, entry.identifier))

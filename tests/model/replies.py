@@ -125,7 +125,7 @@ def denied_name(meaning):
     return plain_labels(meaning.chain[-1].rdatas[0]) if meaning.chain else meaning.name
 
 
-def denial(meaning, moment):
+def denial(meaning, stamp):
     """The observation of a denial, as a list of one, or of none where no SOA counts or its TTL is zero."""
     if meaning.value is None or meaning.value[1] == 0:
         note("reply: a denial that is not kept")
@@ -133,28 +133,28 @@ def denial(meaning, moment):
     owner, ttl, rdata = meaning.value
     rank = 3 if meaning.authoritative and not meaning.chain else 1
     kind, rtype = (NO_DATA, meaning.rtype) if meaning.end == "NoData" else (NAME_ERROR, 0)
-    return [Observation(kind, denied_name(meaning), rtype, rank, moment, ttl, (owner, rdata))]
+    return [Observation(kind, denied_name(meaning), rtype, rank, stamp, ttl, (owner, rdata))]
 
 
-def observations_of(meaning, moment):
+def observations_of(meaning, stamp):
     """What is kept of a reply, in order: the links, the records or the denial, the name servers."""
     own_rank = 3 if meaning.authoritative else 1
     ranked = [(link, own_rank if link.name == meaning.name else 1) for link in meaning.chain]
     if meaning.end == "Records":
         ranked.append((meaning.value, own_rank if meaning.value.name == meaning.name else 1))
-    kept = [positive(records, rank, moment) for records, rank in ranked]
+    kept = [positive(records, rank, stamp) for records, rank in ranked]
     if meaning.end in ("NoData", "NxDomain"):
-        kept += denial(meaning, moment)
-    kept += [positive(servers, 2, moment) for servers in meaning.name_servers]
+        kept += denial(meaning, stamp)
+    kept += [positive(servers, 2, stamp) for servers in meaning.name_servers]
     kept = [one for one in kept if one.life > 0 and len(one.body) <= BODY_LIMIT]
     for one in kept:
         note(f"observed: {KIND_WORDS[one.kind]} of rank {one.rank}")
     return kept
 
 
-def positive(records, rank, moment):
+def positive(records, rank, stamp):
     """The observation of an RRset."""
-    return Observation(POSITIVE, records.name, records.rtype, rank, moment, records.ttl, records.rdatas)
+    return Observation(POSITIVE, records.name, records.rtype, rank, stamp, records.ttl, records.rdatas)
 
 
 def rows_of(records):

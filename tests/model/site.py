@@ -215,9 +215,9 @@ class Site:
         self.entries.remove(entry)
         return [(waiter.address, failure(waiter)) for waiter in entry.waiters]
 
-    def purge(self, moment):
+    def purge(self, now):
         """Raises the floor."""
-        self.floor = max(self.floor, moment)
+        self.floor = max(self.floor, now)
 
     def sweep(self):
         """All that it holds, as frames."""

@@ -50,10 +50,10 @@ class Sent:
         return other
 
 
-def tick_all(site, moment, sent, listener):
+def tick_all(site, now, sent, listener):
     """Ticks at a moment until none is due."""
-    while open_questions.due(site.entries, moment):
-        sent.add_step(site.tick(moment), listener)
+    while open_questions.due(site.entries, now):
+        sent.add_step(site.tick(now), listener)
 
 
 class Watched:

@@ -5,7 +5,7 @@ use Rattle.std.proofs.Common.{ℕ, zero, suc, ◌≡◌, ◌≤◌, Bool, true, 
 use Rattle.std.proofs.lemmas.Bool.{and_parts, and_from, or_cases, or_left, or_right, eqb-true, eq-eqb}
 use Rattle.fleet_wire.specs.declared.rtype.TheConstants.{CNAME}
 use Rattle.fleet_observe.specs.declared.observation.kind.Kind.{Kind}
-use Rattle.fleet_observe.specs.declared.observation.kind.Kind.TheVariants.{NameError, NoData as WithoutData, Positive, Flush}
+use Rattle.fleet_observe.specs.declared.observation.kind.Kind.TheVariants.{NameError, NoData as KindNoData, Positive, Flush}
 use Rattle.fleet_observe.specs.Members.{Has}
 use Rattle.fleet_observe.specs.Observation.{ObservationData, IsObservation, AreObservations, key_of}
 use Rattle.fleet_cache.specs.Void.{is_void}
@@ -62,8 +62,8 @@ speaks_from lives n q o lawful m = by_cases o.kind refl
             of_type = eqb-true _ _ alias;
           })
         ])
-    by_cases WithoutData k =
-        let both : speaks_of n q WithoutData o.name o.rtype ≡ true = rw k at m.1 in
+    by_cases KindNoData k =
+        let both : speaks_of n q KindNoData o.name o.rtype ≡ true = rw k at m.1 in
         let b = and_parts (is_name n o.name) (nat_eq o.rtype q) both in
         inr (inl (record {
           live = m.0;

@@ -4,7 +4,7 @@ use Rattle.std.proofs.Common.{◌≡◌, ℕ, zero, suc, List, Option, Some, Non
 use mathlib.Core.Bool.{false≢true}
 use Rattle.fleet_observe.specs.declared.bounds.TheConstants.{MOST_LINKS}
 use Rattle.fleet_observe.specs.declared.observation.kind.Kind.{Kind}
-use Rattle.fleet_observe.specs.declared.observation.kind.Kind.TheVariants.{NameError, NoData as WithoutData, Positive, Flush}
+use Rattle.fleet_observe.specs.declared.observation.kind.Kind.TheVariants.{NameError, NoData as KindNoData, Positive, Flush}
 use Rattle.fleet_observe.specs.Observation.{ObservationData}
 use Rattle.fleet_cache.specs.declared.answer.Answer.{Answer}
 use Rattle.fleet_cache.specs.Answer.{ShownData, answer_of_kind, AnswerData, Missed, Found, NoData, NxDomain, add_link, by_kind, is_link, target, answer_by, decider, answer_within, answer_of, part_at}
@@ -23,7 +23,7 @@ has_kinds-by_kind p = by_cases p.observation.kind refl
   where
     by_cases : (k : Kind) → p.observation.kind ≡ k → HasKinds (answer_of_kind k p)
     by_cases Positive e = (tt, e)
-    by_cases WithoutData e = (tt, e)
+    by_cases KindNoData e = (tt, e)
     by_cases NameError e = (tt, e)
     by_cases Flush e = tt
 
@@ -37,7 +37,7 @@ link_positive rtype o e = by_cases o.kind refl
   where
     by_cases : (k : Kind) → o.kind ≡ k → o.kind ≡ Positive
     by_cases Positive is = is
-    by_cases WithoutData is = absurd (false≢true (rw is at e))
+    by_cases KindNoData is = absurd (false≢true (rw is at e))
     by_cases NameError is = absurd (false≢true (rw is at e))
     by_cases Flush is = absurd (false≢true (rw is at e))
 

@@ -1,7 +1,7 @@
 -- The kinds of an answer's parts.
 -- Serves `Cache::answer`, `Cache::answer_lent`.
 use Rattle.std.specs.Prelude.{◌≡◌, List, [], ◌∷◌}
-use Rattle.fleet_observe.specs.declared.observation.kind.Kind.TheVariants.{NameError, NoData as WithoutData, Positive}
+use Rattle.fleet_observe.specs.declared.observation.kind.Kind.TheVariants.{NameError, NoData as KindNoData, Positive}
 use Rattle.fleet_cache.specs.Answer.{ShownData, AnswerData, Missed, Found, NoData, NxDomain}
 
 -- a part that has records
@@ -18,5 +18,5 @@ ArePositiveParts (p ∷ ps) = IsPositivePart p × ArePositiveParts ps
 abbrev pub HasKinds : AnswerData → Type 0
 HasKinds Missed = Unit {0}
 HasKinds (Found chain set) = ArePositiveParts chain × IsPositivePart set
-HasKinds (NoData chain soa) = ArePositiveParts chain × (soa.observation.kind ≡ WithoutData)
+HasKinds (NoData chain soa) = ArePositiveParts chain × (soa.observation.kind ≡ KindNoData)
 HasKinds (NxDomain chain soa) = ArePositiveParts chain × (soa.observation.kind ≡ NameError)

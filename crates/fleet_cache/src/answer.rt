@@ -56,22 +56,22 @@ pub enum Answer<'a, A: Allocator = Global> {
 
 /// The TTL of an observation at the moment, in seconds: what is left of its life, and at most the
 /// life.
-fn shown_ttl<A: Allocator>(observation: &Observation<A>, moment: Moment) -> u32
-    ensures { result ≡ ttl_at moment observation.now }
+fn shown_ttl<A: Allocator>(observation: &Observation<A>, now: Moment) -> u32
+    ensures { result ≡ ttl_at now observation.now }
 {
     observation
         .expires()
-        .saturating_sub(moment.value())
+        .saturating_sub(now.value())
         .min(u64::from(observation.life())) as u32
 }
 
 /// An observation with its TTL at the moment.
-fn show<'a, A: Allocator>(observation: &'a Observation<A>, moment: Moment) -> Shown<'a, A>
-    ensures { result ≡ part_at moment observation.now }
+fn show<'a, A: Allocator>(observation: &'a Observation<A>, now: Moment) -> Shown<'a, A>
+    ensures { result ≡ part_at now observation.now }
 {
     Shown {
         observation,
-        ttl: shown_ttl(observation, moment),
+        ttl: shown_ttl(observation, now),
     }
 }
 
@@ -112,21 +112,21 @@ pub(crate) fn follow<'a, A: Allocator>(
     held: &'a Held<A>,
     name: &[u8],
     rtype: u16,
-    moment: Moment,
+    now: Moment,
 ) -> Answer<'a, A>
     requires named { IsWire name.now }
     ensures filled { AllSome (chain_of result) }
     ensures answer { (n : Labels) → name.now ≡ wire n
-        → answer_data result ≡ answer_of held.now moment n rtype }
+        → answer_data result ≡ answer_of held.now now n rtype }
     ensures own { IsHeld held.now }
 {
     let mut chain = ArrayVec::new();
     let mut at = name;
     loop {
-        let Some(observation) = decider(held, at, rtype, moment) else {
+        let Some(observation) = decider(held, at, rtype, now) else {
             return Answer::Miss;
         };
-        let part = show(observation, moment);
+        let part = show(observation, now);
         if !is_link(observation, rtype) {
             return finish(chain, part);
         }

@@ -208,15 +208,15 @@ impl<A: Allocator> Cache<A> {
     ///
     /// A purge takes no memory. It may ask for smaller room in place of greater one, and keeps what it
     /// has where there is none.
-    pub fn purge(&mut self, moment: Moment)
+    pub fn purge(&mut self, now: Moment)
         ensures purged { (s : Observations) → IsCached s self.old.floor self.old.items
             → IsCached s self.new.floor self.new.items }
-        ensures floor { self.new.floor ≡ max self.old.floor moment }
+        ensures floor { self.new.floor ≡ max self.old.floor now }
     {
-        if moment.value() <= self.memory.floor().value() {
+        if now.value() <= self.memory.floor().value() {
             return;
         }
-        self.memory.purge(moment);
+        self.memory.purge(now);
     }
 
     /// Drops all items and sets the floor back to 0: the cache is then as a new one. This allocates
@@ -283,37 +283,37 @@ impl<A: Allocator> Cache<A> {
     ///
     /// The answer borrows from the cache, so nothing is taken or purged while it is in use, and nothing
     /// is allocated.
-    pub fn answer<B: Allocator>(&self, question: &Question<B>, moment: Moment) -> Answer<'_, A>
+    pub fn answer<B: Allocator>(&self, question: &Question<B>, now: Moment) -> Answer<'_, A>
         ensures filled { AllSome (chain_of result) }
         ensures kinds { HasKinds (answer_data result) }
         ensures answer { (s : Observations) → IsCached s self.now.floor self.now.items
             → answer_data result
-            ≡ answer_of s (max self.now.floor moment) question.now.name question.now.rtype }
+            ≡ answer_of s (max self.now.floor now) question.now.name question.now.rtype }
     {
-        self.answer_at(question.name.octets(), question.rtype, moment)
+        self.answer_at(question.name.octets(), question.rtype, now)
     }
 
     /// The answer to a question that borrows its name, as `answer` gives it.
-    pub fn answer_lent(&self, question: &LentQuestion<'_>, moment: Moment) -> Answer<'_, A>
+    pub fn answer_lent(&self, question: &LentQuestion<'_>, now: Moment) -> Answer<'_, A>
         ensures filled { AllSome (chain_of result) }
         ensures kinds { HasKinds (answer_data result) }
         ensures answer { (s : Observations) → IsCached s self.now.floor self.now.items
             → answer_data result
-            ≡ answer_of s (max self.now.floor moment) question.now.name question.now.rtype }
+            ≡ answer_of s (max self.now.floor now) question.now.name question.now.rtype }
     {
-        self.answer_at(question.name(), question.rtype(), moment)
+        self.answer_at(question.name(), question.rtype(), now)
     }
 
     /// The answer to a question for a type of a name, given by its octets in full.
-    fn answer_at(&self, name: &[u8], rtype: u16, moment: Moment) -> Answer<'_, A>
+    fn answer_at(&self, name: &[u8], rtype: u16, now: Moment) -> Answer<'_, A>
         requires { IsWire name.now }
         ensures filled { AllSome (chain_of result) }
         ensures kinds { HasKinds (answer_data result) }
         ensures answer { (s : Observations) → IsCached s self.now.floor self.now.items
             → (n : Labels) → name.now ≡ wire n
-            → answer_data result ≡ answer_of s (max self.now.floor moment) n rtype }
+            → answer_data result ≡ answer_of s (max self.now.floor now) n rtype }
     {
-        let at = self.memory.floor().later(moment);
+        let at = self.memory.floor().later(now);
         follow(self.memory.held(), name, rtype, at)
     }
 

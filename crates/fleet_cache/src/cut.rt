@@ -30,11 +30,11 @@ impl Model for Cut {
 
 impl Cut {
     /// The cut that hides what has ended by a moment, and nothing else.
-    pub fn at(moment: Moment) -> Cut
-        ensures { result ≡ record { moment = moment; flushed = None } }
+    pub fn at(now: Moment) -> Cut
+        ensures { result ≡ record { moment = now; flushed = None } }
     {
         Cut {
-            moment,
+            moment: now,
             flushed: None,
         }
     }

@@ -97,14 +97,14 @@ impl<A: Allocator> Memory<A> {
     }
 
     /// Raises the floor to a later moment, and drops what is not live at it, in a part of the fronts.
-    pub(crate) fn purge(&mut self, moment: Moment)
-        requires { self.old.floor ≤ moment }
+    pub(crate) fn purge(&mut self, now: Moment)
+        requires { self.old.floor ≤ now }
         ensures own { IsHeld self.old.items }
-        ensures floor { self.new.floor ≡ moment }
+        ensures floor { self.new.floor ≡ now }
         ensures purged { IsPurged self.old self.new }
     {
-        self.floor = moment;
-        reclaim(&mut self.held, &mut self.cursor, moment);
+        self.floor = now;
+        reclaim(&mut self.held, &mut self.cursor, now);
     }
 
     /// Drops all observations, and sets the floor back to 0. This allocates nothing.

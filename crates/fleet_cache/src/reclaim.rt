@@ -97,18 +97,12 @@ impl<A: Allocator> Cursor<A> {
     /// with `flushes` alone. It allocates nothing: without room for the key it goes back to the start
     /// too. With room for any key, each front that it looked at held some observation, and nothing
     /// that it passed over is to drop, or ends before `soonest`.
-    pub(crate) fn pass(
-        &mut self,
-        held: &Held<A>,
-        moment: Moment,
-        left: usize,
-        flushes: bool,
-    ) -> Passed
+    pub(crate) fn pass(&mut self, held: &Held<A>, now: Moment, left: usize, flushes: bool) -> Passed
         ensures passed { MOST_WORDS ≤ vec_capacity self.old.key
-            → IsPassed (StaysIn held.now moment flushes result.soonest) held.now
+            → IsPassed (StaysIn held.now now flushes result.soonest) held.now
             self.old.key.items self.new.key.items }
         ensures stopped { MOST_WORDS ≤ vec_capacity self.old.key → result.is_stale ≡ false
-            → IsPassedAt (StaysIn held.now moment flushes result.soonest) held.now
+            → IsPassedAt (StaysIn held.now now flushes result.soonest) held.now
             self.new.key.items }
         ensures stops { StopsAfter held.now self.old.key.items self.new.key.items }
         ensures looked { MOST_WORDS ≤ vec_capacity self.old.key
@@ -123,7 +117,7 @@ impl<A: Allocator> Cursor<A> {
         };
         if self.key.len() <= SHORT_WORDS {
             for (key, front) in held.short_behind(&self.key) {
-                if passed.look(held, front, moment, flushes) {
+                if passed.look(held, front, now, flushes) {
                     if !self.stop_at(&key.words()) {
                         passed.left = 0;
                     }
@@ -133,7 +127,7 @@ impl<A: Allocator> Cursor<A> {
             self.key.clear();
         }
         for (key, front) in held.long_behind(&self.key) {
-            if passed.look(held, front, moment, flushes) {
+            if passed.look(held, front, now, flushes) {
                 if !self.stop_at(key) {
                     passed.left = 0;
                 }
@@ -175,18 +169,18 @@ impl Passed {
         &mut self,
         held: &Held<A>,
         front: &Slot<A>,
-        moment: Moment,
+        now: Moment,
         flushes: bool,
     ) -> bool
         requires { (words : List ℕ) × IsOfKey held.now words front.now }
         ensures left { self.new.left ≡ self.old.left - 1 }
         ensures soonest { self.new.soonest ≤ self.old.soonest }
         ensures stays { self.new.is_stale ≡ false → (o : ObservationData) → Has front.now o
-            → StaysIn held.now moment flushes self.new.soonest o }
+            → StaysIn held.now now flushes self.new.soonest o }
         ensures goes_on { result ≡ false → self.new.is_stale ≡ false }
     {
         self.left = self.left.saturating_sub(1);
-        self.is_stale = is_stale(held, front, moment, flushes);
+        self.is_stale = is_stale(held, front, now, flushes);
         if self.is_stale {
             return true;
         }
@@ -199,13 +193,13 @@ impl Passed {
 // it is dropped: that costs time alone.
 /// Whether a front of a cache holds anything that has ended at the moment, or with `flushes` anything
 /// that is not live. None of its items is looked at without `flushes`, or where no flush was noted.
-fn is_stale<A: Allocator>(held: &Held<A>, front: &Slot<A>, moment: Moment, flushes: bool) -> bool
+fn is_stale<A: Allocator>(held: &Held<A>, front: &Slot<A>, now: Moment, flushes: bool) -> bool
     requires { (words : List ℕ) × IsOfKey held.now words front.now }
     ensures unended { result ≡ false → (o : ObservationData) → Has front.now o
-        → moment < expires o }
-    ensures live { result ≡ false → flushes ≡ true → IsLiveFront moment held.now front.now }
+        → now < expires o }
+    ensures live { result ≡ false → flushes ≡ true → IsLiveFront now held.now front.now }
 {
-    if front.soonest() <= moment.value() {
+    if front.soonest() <= now.value() {
         return true;
     }
     if !flushes {
@@ -217,7 +211,7 @@ fn is_stale<A: Allocator>(held: &Held<A>, front: &Slot<A>, moment: Moment, flush
     let Some(first) = front.items().first() else {
         return false;
     };
-    let cut = cut_at(held, first.observation().name().octets(), moment);
+    let cut = cut_at(held, first.observation().name().octets(), now);
     hides_any(&cut, front.items())
 }
 
@@ -236,26 +230,26 @@ fn hides_any<A: Allocator>(cut: &Cut, items: &[Item<A>]) -> bool
 /// with them, and back to the start after the last one. A front of which nothing is left is dropped
 /// too. So of up to 2^20 fronts what has ended is gone n / 4096 + 2 purges later at most, where n counts
 /// the fronts that there were and that came meanwhile; of more, a round takes some 256 purges.
-pub(crate) fn reclaim<A: Allocator>(held: &mut Held<A>, cursor: &mut Cursor<A>, moment: Moment)
-    ensures reclaimed { IsReclaimed moment held.old held.new }
+pub(crate) fn reclaim<A: Allocator>(held: &mut Held<A>, cursor: &mut Cursor<A>, now: Moment)
+    ensures reclaimed { IsReclaimed now held.old held.new }
     ensures own { IsHeld held.old }
     ensures own_new { IsHeld held.new }
 {
     let mut left = (held.len() / SHARE).max(LEAST);
     while left > 0 {
-        let passed = cursor.pass(held, moment, left, true);
+        let passed = cursor.pass(held, now, left, true);
         if passed.is_stale {
-            trim(held, &cursor.key, moment);
+            trim(held, &cursor.key, now);
         }
         left = passed.left.min(left - 1);
     }
 }
 
 /// Drops, of the front of a name, what is not live at the moment.
-pub(crate) fn trim<A: Allocator>(held: &mut Held<A>, key: &Key<A>, moment: Moment)
+pub(crate) fn trim<A: Allocator>(held: &mut Held<A>, key: &Key<A>, now: Moment)
     ensures own { IsHeld held.new }
-    ensures reclaimed { IsReclaimed moment held.old held.new }
-    ensures live { AllLive key.now.items moment held.old held.new }
+    ensures reclaimed { IsReclaimed now held.old held.new }
+    ensures live { AllLive key.now.items now held.old held.new }
 {
     let Some(front) = held.front(key) else {
         return;
@@ -263,6 +257,6 @@ pub(crate) fn trim<A: Allocator>(held: &mut Held<A>, key: &Key<A>, moment: Momen
     let Some(first) = front.items().first() else {
         return;
     };
-    let cut = cut_at(held, first.observation().name().octets(), moment);
+    let cut = cut_at(held, first.observation().name().octets(), now);
     held.trim(key, &cut);
 }

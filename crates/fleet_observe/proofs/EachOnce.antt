@@ -9,7 +9,7 @@ use Rattle.fleet_observe.specs.Observation.{ObservationData, kind_number}
 use Rattle.fleet_observe.specs.RrSet.{RrSetData}
 use Rattle.fleet_observe.specs.Walk.{last, IsWalk, AreLinks}
 use Rattle.fleet_observe.specs.Soa.{SoaData}
-use Rattle.fleet_observe.specs.Digest.{EndData, WithRecords, WithoutData, WithoutName, WithCode, CutOff, DigestData, denied_by}
+use Rattle.fleet_observe.specs.Digest.{EndData, Records, NoData, NxDomain, Code, Truncated, DigestData, denied_by}
 use Rattle.fleet_observe.specs.DigestOf.{EndsAs, IsNs, AreOwners, owners_of, IsAuthority, IsDigest}
 use Rattle.fleet_observe.specs.Observations.{living_observation, set_observation, soa_observation, positive_observations, denial_observations, answer_rank, denial_rank, link_observations, end_observations, ns_observations, reply_observations}
 use Rattle.fleet_name.proofs.Lemmas.{has_left, has_right, has_either}
@@ -203,15 +203,15 @@ no_link_at_end s t n later chain w links h =
 -- the owners of the links of a reply
 chain_distinct : (r : MessageData) (chain : List RrSetData) (e : EndData) → EndsAs r chain e
     → AllDistinct (owners_of chain)
-chain_distinct r chain (WithRecords x) t = owners_of_links r.answer r.question.rtype
+chain_distinct r chain (Records x) t = owners_of_links r.answer r.question.rtype
     r.question.name t.later chain t.walk t.links
-chain_distinct r chain (WithoutData soa) t = owners_of_links r.answer r.question.rtype
+chain_distinct r chain (NoData soa) t = owners_of_links r.answer r.question.rtype
     r.question.name t.later chain t.walk t.links
-chain_distinct r chain (WithoutName soa) t = owners_of_links r.answer r.question.rtype
+chain_distinct r chain (NxDomain soa) t = owners_of_links r.answer r.question.rtype
     r.question.name t.later chain t.walk t.links
-chain_distinct r chain (WithCode c) t = subst (λ (xs : List RrSetData). AllDistinct (owners_of xs))
+chain_distinct r chain (Code c) t = subst (λ (xs : List RrSetData). AllDistinct (owners_of xs))
     (sym t.4) tt
-chain_distinct r chain CutOff t = subst (λ (xs : List RrSetData). AllDistinct (owners_of xs))
+chain_distinct r chain Truncated t = subst (λ (xs : List RrSetData). AllDistinct (owners_of xs))
     (sym t.1) tt
 
 kinds_apart : (a b : Kind) → a ≡ b → kind_number a < 3 → b ≡ Positive → ⊥
@@ -220,44 +220,44 @@ kinds_apart a b e less three = let same = ap kind_number (e ∙ three) in omega 
 -- no link's observation is that of the end
 end_apart : (r : MessageData) (d : DigestData) (stamp : ℕ) (e : EndData) (o : ObservationData)
     → EndsAs r d.chain e → OfLink d.chain o → ¬ Has (end_observations d stamp e) o
-end_apart r d stamp (WithRecords x) o t link h =
+end_apart r d stamp (Records x) o t link h =
     let named = sym (ap (λ (f : ObservationData). f.name)
     (positive_is x (answer_rank d.aa d.name x.name) stamp o h)) ∙ t.end_is.name in
     no_link_at_end r.answer r.question.rtype r.question.name t.later d.chain t.walk t.links
     (subst (λ (n : List (List ℕ)). Has (owners_of d.chain) n) named link.owner)
-end_apart r d stamp (WithoutData soa) o t link h =
+end_apart r d stamp (NoData soa) o t link h =
     kinds_apart NoData o.kind (negative_is NoData (denied_by d.name d.chain) d.rtype
     (denial_rank d.aa d.chain) stamp soa o h).0 (omega arith) link.kind
-end_apart r d stamp (WithoutName soa) o t link h =
+end_apart r d stamp (NxDomain soa) o t link h =
     kinds_apart NameError o.kind (negative_is NameError (denied_by d.name d.chain) 0
     (denial_rank d.aa d.chain) stamp soa o h).0 (omega arith) link.kind
-end_apart r d stamp (WithCode c) o t link h = h
-end_apart r d stamp CutOff o t link h = h
+end_apart r d stamp (Code c) o t link h = h
+end_apart r d stamp Truncated o t link h = h
 
 end_distinct : (d : DigestData) (stamp : ℕ) (e : EndData) → AllDistinct (end_observations d stamp e)
-end_distinct d stamp (WithRecords x) = positive_distinct x (answer_rank d.aa d.name x.name) stamp
-end_distinct d stamp (WithoutData soa) = negative_distinct NoData (denied_by d.name d.chain)
+end_distinct d stamp (Records x) = positive_distinct x (answer_rank d.aa d.name x.name) stamp
+end_distinct d stamp (NoData soa) = negative_distinct NoData (denied_by d.name d.chain)
     d.rtype (denial_rank d.aa d.chain) stamp soa
-end_distinct d stamp (WithoutName soa) = negative_distinct NameError (denied_by d.name d.chain) 0
+end_distinct d stamp (NxDomain soa) = negative_distinct NameError (denied_by d.name d.chain) 0
     (denial_rank d.aa d.chain) stamp soa
-end_distinct d stamp (WithCode c) = tt
-end_distinct d stamp CutOff = tt
+end_distinct d stamp (Code c) = tt
+end_distinct d stamp Truncated = tt
 
 end_not_two : (d : DigestData) (stamp : ℕ) (e : EndData) (o : ObservationData)
     → Has (end_observations d stamp e) o → ¬ (o.rank ≡ AUTHORITY)
-end_not_two d stamp (WithRecords x) o h two =
+end_not_two d stamp (Records x) o h two =
     answer_not_two d.aa d.name x.name (ap (λ (f : ObservationData). f.rank)
     (positive_is x (answer_rank d.aa d.name x.name) stamp o h) ∙ two)
-end_not_two d stamp (WithoutData soa) o h two =
+end_not_two d stamp (NoData soa) o h two =
     denial_not_two d.aa d.chain
     ((negative_is NoData (denied_by d.name d.chain) d.rtype (denial_rank d.aa d.chain) stamp
     soa o h).1 ∙ two)
-end_not_two d stamp (WithoutName soa) o h two =
+end_not_two d stamp (NxDomain soa) o h two =
     denial_not_two d.aa d.chain
     ((negative_is NameError (denied_by d.name d.chain) 0 (denial_rank d.aa d.chain) stamp soa o
     h).1 ∙ two)
-end_not_two d stamp (WithCode c) o h two = h
-end_not_two d stamp CutOff o h two = h
+end_not_two d stamp (Code c) o h two = h
+end_not_two d stamp Truncated o h two = h
 
 -- no owner is that of an earlier record
 owner_apart : (q : List (List ℕ)) (before s : List RecordData) (os : List (List (List ℕ)))

@@ -5,18 +5,18 @@ use Rattle.fleet_wire.specs.Message.{MessageData}
 use Rattle.fleet_observe.specs.declared.reply.ending.DigestFault.{DigestFault}
 use Rattle.fleet_observe.specs.declared.reply.ending.DigestFault.TheVariants.{OutOfMemory}
 use Rattle.fleet_observe.specs.RrSet.{RrSetData}
-use Rattle.fleet_observe.specs.Digest.{EndData, WithRecords, WithoutData, WithoutName, WithCode, CutOff, DigestData}
+use Rattle.fleet_observe.specs.Digest.{EndData, Records, NoData, NxDomain, Code, Truncated, DigestData}
 use Rattle.fleet_observe.specs.DigestOf.{AsksWalk, IsWalkable, IsFault, not_reply, bad_chain, no_memory, IsDigest, IsSound, EndsAs}
 use Rattle.fleet_observe.proofs.LawfulMeanings.{no_walk_cut, no_walk_coded}
 
 ends_walkable : (r : MessageData) (chain : List RrSetData) (e : EndData) → EndsAs r chain e
     → AsksWalk r → IsWalkable r
-ends_walkable r chain CutOff ends_as asks = absurd (no_walk_cut r ends_as.0 asks)
-ends_walkable r chain (WithCode c) ends_as asks =
+ends_walkable r chain Truncated ends_as asks = absurd (no_walk_cut r ends_as.0 asks)
+ends_walkable r chain (Code c) ends_as asks =
     absurd (no_walk_coded r (λ h. elim h [ inl e ↦ ends_as.1 e | inr e ↦ ends_as.2 e ]) asks)
-ends_walkable r chain (WithRecords x) ends_as asks = (ends_as.later, ends_as.walk)
-ends_walkable r chain (WithoutData soa) ends_as asks = (ends_as.later, ends_as.walk)
-ends_walkable r chain (WithoutName soa) ends_as asks = (ends_as.later, ends_as.walk)
+ends_walkable r chain (Records x) ends_as asks = (ends_as.later, ends_as.walk)
+ends_walkable r chain (NoData soa) ends_as asks = (ends_as.later, ends_as.walk)
+ends_walkable r chain (NxDomain soa) ends_as asks = (ends_as.later, ends_as.walk)
 
 pub meaning_sound : (r : MessageData) (d : DigestData) → IsDigest r d → IsSound r
 meaning_sound r d meaning = (meaning.served, ends_walkable r d.chain d.end meaning.ends_as)

@@ -14,14 +14,14 @@ use Rattle.fleet_observe.specs.Observation.{ObservationData, IsObservation, AreO
 use Rattle.fleet_observe.specs.Checks.{IsNegativeFault, IsDeniedType, bad_rank, bad_life, bad_kind, bad_body}
 use Rattle.fleet_observe.specs.RrSet.{RrSetData, SpellsName}
 use Rattle.fleet_observe.specs.Soa.{SoaData}
-use Rattle.fleet_observe.specs.Digest.{EndData, WithRecords, WithoutData, WithoutName, WithCode, CutOff, DigestData, denied_by, target_of, first_or, IsLawfulSet, IsLawfulLink, IsLawfulSoa, IsLawful, IsLawfulEnd}
+use Rattle.fleet_observe.specs.Digest.{EndData, Records, NoData, NxDomain, Code, Truncated, DigestData, denied_by, target_of, first_or, IsLawfulSet, IsLawfulLink, IsLawfulSoa, IsLawful, IsLawfulEnd}
 use Rattle.fleet_observe.specs.Observations.{living_observation, fitting_observation, set_observation, soa_observation, positive_observations, denial_observations, answer_rank, denial_rank, link_observations, end_observations, ns_observations, reply_observations}
 use Rattle.fleet_name.proofs.Lemmas.{has_either}
 use Rattle.fleet_observe.proofs.Spelling.{plain_alias}
 use Rattle.fleet_wire.specs.declared.rtype.TheConstants.{CNAME}
 use Rattle.fleet_observe.specs.declared.bounds.TheConstants.{LATEST, LONGEST_BODY, LONGEST_DENIAL, LONGEST_LIFE}
 use Rattle.fleet_observe.specs.declared.observation.kind.Kind.{Kind}
-use Rattle.fleet_observe.specs.declared.observation.kind.Kind.TheVariants.{NameError, NoData}
+use Rattle.fleet_observe.specs.declared.observation.kind.Kind.TheVariants.{NameError, NoData as KindNoData}
 
 living_is : (f : ObservationData) → ¬ (f.life ≡ 0) → living_observation f ≡ f ∷ []
 living_is f some = let a : nat_eq f.life 0 ≡ false = grind (arith, nat_tests) in rw a refl
@@ -176,11 +176,11 @@ module _ (stamp : ℕ) (stamped : stamp ≤ LATEST) where
   day_life n h = omega arith
 
   no_data_lawful : (n : List (List ℕ)) (t rank : ℕ) (soa : Option SoaData) → IsName n
-      → IsDataType t → IsDenialRank rank → IsLawfulEnd n (WithoutData soa)
-      → AreObservations (denial_observations NoData n t rank stamp soa)
+      → IsDataType t → IsDenialRank rank → IsLawfulEnd n (NoData soa)
+      → AreObservations (denial_observations KindNoData n t rank stamp soa)
   no_data_lawful n t rank None named typed ranked is o h = absurd h
   no_data_lawful n t rank (Some x) named typed ranked is o h =
-      let k = living_kept (soa_observation NoData n t rank stamp x) o h in
+      let k = living_kept (soa_observation KindNoData n t rank stamp x) o h in
       subst IsObservation k.0 (record {
         named = named;
         rank = any_rank rank ranked;
@@ -209,7 +209,7 @@ module _ (stamp : ℕ) (stamped : stamp ≤ LATEST) where
       })
 
   name_error_lawful : (n : List (List ℕ)) (rank : ℕ) (soa : Option SoaData) → IsName n
-      → IsDenialRank rank → IsLawfulEnd n (WithoutName soa)
+      → IsDenialRank rank → IsLawfulEnd n (NxDomain soa)
       → AreObservations (denial_observations NameError n 0 rank stamp soa)
   name_error_lawful n rank None named ranked is o h = absurd h
   name_error_lawful n rank (Some x) named ranked is o h =
@@ -277,14 +277,14 @@ module _ (stamp : ℕ) (stamped : stamp ≤ LATEST) where
   end_lawful : (d : DigestData) (e : EndData) → IsName (denied_by d.name d.chain)
       → IsDataType d.rtype → IsLawfulEnd (denied_by d.name d.chain) e
       → AreObservations (end_observations d stamp e)
-  end_lawful d (WithRecords x) named typed is = positive_lawful x (answer_rank d.aa d.name x.name)
+  end_lawful d (Records x) named typed is = positive_lawful x (answer_rank d.aa d.name x.name)
       is (answer_ranked d.aa d.name x.name)
-  end_lawful d (WithoutData soa) named typed is = no_data_lawful (denied_by d.name d.chain) d.rtype
+  end_lawful d (NoData soa) named typed is = no_data_lawful (denied_by d.name d.chain) d.rtype
       (denial_rank d.aa d.chain) soa named typed (denial_ranked d.aa d.chain) is
-  end_lawful d (WithoutName soa) named typed is = name_error_lawful (denied_by d.name d.chain)
+  end_lawful d (NxDomain soa) named typed is = name_error_lawful (denied_by d.name d.chain)
       (denial_rank d.aa d.chain) soa named (denial_ranked d.aa d.chain) is
-  end_lawful d (WithCode c) named typed is = λ o h. absurd h
-  end_lawful d CutOff named typed is = λ o h. absurd h
+  end_lawful d (Code c) named typed is = λ o h. absurd h
+  end_lawful d Truncated named typed is = λ o h. absurd h
 
 target_named : (n : List (List ℕ)) (x : RrSetData) (ds : List (List ℕ)) → IsName n → IsLawfulLink x
     → x.rdatas ≡ ds → IsName (target_of n ds)

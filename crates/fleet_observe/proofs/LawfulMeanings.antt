@@ -17,7 +17,7 @@ use Rattle.fleet_observe.specs.RrSet.{RrSetData, IsRrSet, InSet, IsOnly, read_tt
 use Rattle.fleet_observe.specs.Walk.{IsPath, AreLinks, last, Ends, EndsFound}
 use Rattle.fleet_observe.specs.steps.Following.{ArePlainRecords}
 use Rattle.fleet_observe.specs.Soa.{SoaData}
-use Rattle.fleet_observe.specs.Digest.{EndData, WithRecords, WithoutData, WithoutName, WithCode, CutOff, DigestData, target_of, denied_by, IsLawfulSet, IsLawfulLink, IsLawfulSoa, IsLawfulEnd, IsLawful}
+use Rattle.fleet_observe.specs.Digest.{EndData, Records, NoData, NxDomain, Code, Truncated, DigestData, target_of, denied_by, IsLawfulSet, IsLawfulLink, IsLawfulSoa, IsLawfulEnd, IsLawful}
 use Rattle.fleet_observe.specs.DigestOf.{IsSoaOf, WalkEndsAs, IsEnd, EndsAs, IsDigest, IsAuthority, IsServed, AsksWalk}
 use Rattle.fleet_observe.proofs.Sets.{read_bound}
 use Rattle.fleet_observe.proofs.Soas.{first_member}
@@ -148,16 +148,16 @@ found_single s t n d h (inr bare) = absurd (bare.without d h)
 
 end_lawful : (r : MessageData) (n : List (List ℕ)) (e : EndData) → ArePlainRecords r.answer
     → ArePlainRecords r.authority → Ends r.answer r.question.rtype n → IsEnd r n e → IsLawfulEnd n e
-end_lawful r n (WithRecords x) plain plain' ends is =
+end_lawful r n (Records x) plain plain' ends is =
     let one = set_some r.answer n r.question.rtype x is in
     set_lawful r.answer n r.question.rtype x plain is (found_single r.answer r.question.rtype n
     one.0 one.1 ends).single
-end_lawful r n (WithoutData None) plain plain' ends is = tt
-end_lawful r n (WithoutData (Some x)) plain plain' ends is = soa_lawful r.authority n x plain' is.2
-end_lawful r n (WithoutName None) plain plain' ends is = tt
-end_lawful r n (WithoutName (Some x)) plain plain' ends is = soa_lawful r.authority n x plain' is.2
-end_lawful r n (WithCode c) plain plain' ends is = absurd is
-end_lawful r n CutOff plain plain' ends is = absurd is
+end_lawful r n (NoData None) plain plain' ends is = tt
+end_lawful r n (NoData (Some x)) plain plain' ends is = soa_lawful r.authority n x plain' is.2
+end_lawful r n (NxDomain None) plain plain' ends is = tt
+end_lawful r n (NxDomain (Some x)) plain plain' ends is = soa_lawful r.authority n x plain' is.2
+end_lawful r n (Code c) plain plain' ends is = absurd is
+end_lawful r n Truncated plain plain' ends is = absurd is
 
 -- chain and end
 record IsLawfulWalk (n : List (List ℕ)) (chain : List RrSetData) (e : EndData) : Type 0 where
@@ -183,15 +183,15 @@ none_in chain e x h = let nowhere = rw e at h in absurd nowhere
 
 ends_lawful : (r : MessageData) (chain : List RrSetData) (e : EndData) → IsRead r
     → EndsAs r chain e → IsLawfulWalk r.question.name chain e
-ends_lawful r chain (WithRecords x) read t = walk_lawful r chain (WithRecords x) read t
-ends_lawful r chain (WithoutData x) read t = walk_lawful r chain (WithoutData x) read t
-ends_lawful r chain (WithoutName x) read t = walk_lawful r chain (WithoutName x) read t
-ends_lawful r chain (WithCode c) read t = record {
+ends_lawful r chain (Records x) read t = walk_lawful r chain (Records x) read t
+ends_lawful r chain (NoData x) read t = walk_lawful r chain (NoData x) read t
+ends_lawful r chain (NxDomain x) read t = walk_lawful r chain (NxDomain x) read t
+ends_lawful r chain (Code c) read t = record {
   chain_is = none_in chain t.4;
   short = rw t.4 (omega arith);
   end_is = rw t.3 read.header.rcode;
 }
-ends_lawful r chain CutOff read t = record {
+ends_lawful r chain Truncated read t = record {
   chain_is = none_in chain t.1;
   short = rw t.1 (omega arith);
   end_is = tt;
@@ -208,11 +208,11 @@ ns_lawful r sets read (inr a) x h = let nowhere = rw a.1 at h in absurd nowhere
 
 pub ends_by_walk : (r : MessageData) (chain : List RrSetData) (e : EndData) → WalkEndsAs r chain e
     → EndsAs r chain e
-ends_by_walk r chain (WithRecords x) t = t
-ends_by_walk r chain (WithoutData x) t = t
-ends_by_walk r chain (WithoutName x) t = t
-ends_by_walk r chain (WithCode x) t = absurd t.end_is
-ends_by_walk r chain CutOff t = absurd t.end_is
+ends_by_walk r chain (Records x) t = t
+ends_by_walk r chain (NoData x) t = t
+ends_by_walk r chain (NxDomain x) t = t
+ends_by_walk r chain (Code x) t = absurd t.end_is
+ends_by_walk r chain Truncated t = absurd t.end_is
 
 -- what a reply means that asks for no walk
 pub meaning_without_walk : (r : MessageData) (name : List (List ℕ)) (rtype : ℕ) (aa : Bool)

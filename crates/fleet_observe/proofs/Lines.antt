@@ -1,11 +1,11 @@
 -- The lines of a relayed reply.
--- Serves `outline_of`, `add_rows`.
+-- Serves `outline_of`, `add_rrset`.
 use Rattle.std.proofs.Common.{◌≡◌, ◌<◌, arith, ℕ, Bool, List, [], ◌∷◌, ◌++◌, ap, sym, ◌∙◌, refl, append_assoc, append-nil, map, Option, Some}
 use Rattle.fleet_wire.specs.Question.{QuestionData}
 use Rattle.fleet_wire.specs.Record.{RecordData}
 use Rattle.fleet_wire.specs.Outline.{OutlineData, line}
 use Rattle.fleet_observe.specs.RrSet.{RrSetData}
-use Rattle.fleet_observe.specs.Digest.{EndData, WithRecords, WithoutData, WithoutName, WithCode, CutOff, IsLawfulEnd}
+use Rattle.fleet_observe.specs.Digest.{EndData, Records, NoData, NxDomain, Code, Truncated, IsLawfulEnd}
 use Rattle.fleet_observe.specs.Relay.{code_of, set_lines, chain_lines, with_answer_lines}
 
 pub no_answers : (o : OutlineData) → with_answer_lines o [] ≡ o
@@ -52,8 +52,8 @@ sketch_is o id opcode rcode rd tc q a b c d e f g h =
 
 -- a code has four bits
 pub code_short : (n : List (List ℕ)) (e : EndData) → IsLawfulEnd n e → code_of e < 16
-code_short n (WithRecords x) is = omega arith
-code_short n (WithoutData soa) is = omega arith
-code_short n (WithoutName soa) is = omega arith
-code_short n (WithCode c) is = is
-code_short n CutOff is = omega arith
+code_short n (Records x) is = omega arith
+code_short n (NoData soa) is = omega arith
+code_short n (NxDomain soa) is = omega arith
+code_short n (Code c) is = is
+code_short n Truncated is = omega arith

@@ -12,7 +12,7 @@ use Rattle.fleet_observe.specs.Members.{Has, IsAscending}
 use Rattle.fleet_observe.specs.RrSet.{RrSetData, IsRrSet}
 use Rattle.fleet_observe.specs.Walk.{AreLinks, last}
 use Rattle.fleet_observe.specs.Soa.{SoaData}
-use Rattle.fleet_observe.specs.Digest.{EndData, WithRecords, WithoutData, WithoutName, WithCode, CutOff, DigestData}
+use Rattle.fleet_observe.specs.Digest.{EndData, Records, NoData, NxDomain, Code, Truncated, DigestData}
 use Rattle.fleet_observe.specs.DigestOf.{IsSoa, IsSoaOf, IsEnd, WalkEndsAs, EndsAs, IsNs, IsRepeated, AreOwners, owners_of, IsAuthority, IsDigest}
 use Rattle.fleet_observe.proofs.Soas.{one_first}
 use Rattle.fleet_observe.proofs.Walks.{walk_is}
@@ -99,41 +99,41 @@ codes_apart : (c : ℕ) → c ≡ 0 → c ≡ 3 → ⊥
 codes_apart c a b = omega (arith, a, b)
 
 one_end : (r : MessageData) (n : List (List ℕ)) (x y : EndData) → IsEnd r n x → IsEnd r n y → x ≡ y
-one_end r n (WithCode c) y p q = absurd p
-one_end r n CutOff y p q = absurd p
-one_end r n x (WithCode c) p q = absurd q
-one_end r n x CutOff p q = absurd q
-one_end r n (WithRecords x) (WithRecords y) p q = ap (λ (z : RrSetData). WithRecords z)
+one_end r n (Code c) y p q = absurd p
+one_end r n Truncated y p q = absurd p
+one_end r n x (Code c) p q = absurd q
+one_end r n x Truncated p q = absurd q
+one_end r n (Records x) (Records y) p q = ap (λ (z : RrSetData). Records z)
     (one_set r.answer n r.question.rtype x y p q)
-one_end r n (WithRecords x) (WithoutData y) p q = let d = set_some r.answer n r.question.rtype x
+one_end r n (Records x) (NoData y) p q = let d = set_some r.answer n r.question.rtype x
     p in absurd (q.0.without d.0 d.1)
-one_end r n (WithRecords x) (WithoutName y) p q = let d = set_some r.answer n r.question.rtype x
+one_end r n (Records x) (NxDomain y) p q = let d = set_some r.answer n r.question.rtype x
     p in absurd (q.0.without d.0 d.1)
-one_end r n (WithoutData x) (WithRecords y) p q = let d = set_some r.answer n r.question.rtype y
+one_end r n (NoData x) (Records y) p q = let d = set_some r.answer n r.question.rtype y
     q in absurd (p.0.without d.0 d.1)
-one_end r n (WithoutName x) (WithRecords y) p q = let d = set_some r.answer n r.question.rtype y
+one_end r n (NxDomain x) (Records y) p q = let d = set_some r.answer n r.question.rtype y
     q in absurd (p.0.without d.0 d.1)
-one_end r n (WithoutData x) (WithoutData y) p q = ap (λ (z : Option SoaData). WithoutData z)
+one_end r n (NoData x) (NoData y) p q = ap (λ (z : Option SoaData). NoData z)
     (one_soa_if_any r.authority n x y p.2 q.2)
-one_end r n (WithoutName x) (WithoutName y) p q = ap (λ (z : Option SoaData). WithoutName z)
+one_end r n (NxDomain x) (NxDomain y) p q = ap (λ (z : Option SoaData). NxDomain z)
     (one_soa_if_any r.authority n x y p.2 q.2)
-one_end r n (WithoutData x) (WithoutName y) p q = absurd (codes_apart r.header.rcode p.1 q.1)
-one_end r n (WithoutName x) (WithoutData y) p q = absurd (codes_apart r.header.rcode q.1 p.1)
+one_end r n (NoData x) (NxDomain y) p q = absurd (codes_apart r.header.rcode p.1 q.1)
+one_end r n (NxDomain x) (NoData y) p q = absurd (codes_apart r.header.rcode q.1 p.1)
 
 -- the three ways in which a reply ends
 data Ending (r : MessageData) (chain : List RrSetData) (e : EndData) : Type 0 where
   walks : WalkEndsAs r chain e → Ending r chain e
   refuses : (r.header.tc ≡ false) → (¬ (r.header.rcode ≡ 0)) → (¬ (r.header.rcode ≡ 3))
-      → e ≡ WithCode r.header.rcode → chain ≡ [] → Ending r chain e
-  cuts : (r.header.tc ≡ true) → e ≡ CutOff → chain ≡ [] → Ending r chain e
+      → e ≡ Code r.header.rcode → chain ≡ [] → Ending r chain e
+  cuts : (r.header.tc ≡ true) → e ≡ Truncated → chain ≡ [] → Ending r chain e
 
 ending_of : (r : MessageData) (chain : List RrSetData) (e : EndData) → EndsAs r chain e
     → Ending r chain e
-ending_of r chain (WithRecords x) t = walks t
-ending_of r chain (WithoutData x) t = walks t
-ending_of r chain (WithoutName x) t = walks t
-ending_of r chain (WithCode c) t = refuses t.0 t.1 t.2 (ap (λ (z : ℕ). WithCode z) t.3) t.4
-ending_of r chain CutOff t = cuts t.0 refl t.1
+ending_of r chain (Records x) t = walks t
+ending_of r chain (NoData x) t = walks t
+ending_of r chain (NxDomain x) t = walks t
+ending_of r chain (Code c) t = refuses t.0 t.1 t.2 (ap (λ (z : ℕ). Code z) t.3) t.4
+ending_of r chain Truncated t = cuts t.0 refl t.1
 
 walks_refused : (r : MessageData) (chain : List RrSetData) (e : EndData) → WalkEndsAs r chain e
     → ¬ (r.header.rcode ≡ 0) → ¬ (r.header.rcode ≡ 3) → ⊥

@@ -5,11 +5,11 @@ use Rattle.std.proofs.Common.{◌≡◌, ℕ, suc, ◌+◌, ◌<◌, ◌≤◌, 
 use Rattle.std.proofs.lemmas.List.{length-append}
 use Rattle.fleet_name.specs.Name.{wire}
 use Rattle.fleet_wire.specs.Record.{RecordData}
-use Rattle.fleet_observe.specs.declared.reply.walk.Step.{Step}
-use Rattle.fleet_observe.specs.declared.reply.walk.Step.TheVariants.{Records, Alias, Bare, Fork}
+use Rattle.fleet_observe.specs.declared.reply.walk.Hop.{Hop}
+use Rattle.fleet_observe.specs.declared.reply.walk.Hop.TheVariants.{Records, Alias, Bare, Fork}
 use Rattle.fleet_observe.specs.RrSet.{RrSetData, IsRrSet, IsEmpty, IsOnly}
 use Rattle.fleet_observe.specs.Walk.{GoesOn, Ends, IsPath, last, IsWalk, HasWalk, AreLinks}
-use Rattle.fleet_observe.specs.steps.Following.{IsFork, IsWalkStep, IsOf, IsAlias, ArePlainRecords}
+use Rattle.fleet_observe.specs.steps.Following.{IsFork, IsHop, IsOf, IsAlias, ArePlainRecords}
 use Rattle.fleet_name.proofs.Lemmas.{wire_exact}
 use Rattle.fleet_observe.proofs.Spelling.{plain_alias}
 use Rattle.fleet_wire.specs.declared.rtype.TheConstants.{CNAME}
@@ -194,9 +194,9 @@ linked_whole s t n at chain h stops w =
     stopped x [] f p = refl
     stopped x (k ∷ rest) f p = absurd (f k p.0)
 
--- a step that is no alias does not go on
-pub stops_there : {A : Type 0} (s : List RecordData) (t : ℕ) (n : List (List ℕ)) (x : Step A)
-    → IsWalkStep s t n x → ((r : Bor RecordData) → ¬ (x ≡ Alias r)) → (m : List (List ℕ))
+-- a hop that is no alias does not go on
+pub stops_there : {A : Type 0} (s : List RecordData) (t : ℕ) (n : List (List ℕ)) (x : Hop A)
+    → IsHop s t n x → ((r : Bor RecordData) → ¬ (x ≡ Alias r)) → (m : List (List ℕ))
     → ¬ GoesOn s t n m
 stops_there s t n (Records r) h out m = ends_not_on s t n m (inl h.0)
 stops_there s t n Bare h out m = ends_not_on s t n m (inr h)

@@ -12,16 +12,16 @@ use Rattle.fleet_observe.specs.RrSet.{RrSetData}
 use Rattle.fleet_observe.specs.declared.bounds.TheConstants.{LONGEST_DENIAL, LONGEST_LIFE, MOST_LINKS}
 use Rattle.fleet_observe.specs.Soa.{SoaData}
 use Rattle.fleet_observe.specs.declared.reply.ending.End.{End}
-use Rattle.fleet_observe.specs.declared.reply.ending.End.TheVariants.{Records, NoData, NxDomain, Code, Truncated}
+use Rattle.fleet_observe.specs.declared.reply.ending.End.TheVariants.{Records as EndRecords, NoData as EndNoData, NxDomain as EndNxDomain, Code as EndCode, Truncated as EndTruncated}
 
 -- how a reply ends: with records, without data of the type, without such a name, with another code,
 -- or cut off
 pub data EndData : Type 0 where
-  WithRecords : RrSetData → EndData
-  WithoutData : Option SoaData → EndData
-  WithoutName : Option SoaData → EndData
-  WithCode : ℕ → EndData
-  CutOff : EndData
+  Records : RrSetData → EndData
+  NoData : Option SoaData → EndData
+  NxDomain : Option SoaData → EndData
+  Code : ℕ → EndData
+  Truncated : EndData
 
 -- what a reply means: the question's name and type, whether AA was set, the links of the walk, its
 -- end, and the NS RRsets that it is an authority for
@@ -35,11 +35,11 @@ pub record DigestData : Type 0 where
 
 -- an end, as plain data
 abbrev pub end_data : {A : Type 0} → End A → EndData
-end_data (Records x) = WithRecords x
-end_data (NoData soa) = WithoutData soa
-end_data (NxDomain soa) = WithoutName soa
-end_data (Code c) = WithCode c
-end_data Truncated = CutOff
+end_data (EndRecords x) = Records x
+end_data (EndNoData soa) = NoData soa
+end_data (EndNxDomain soa) = NxDomain soa
+end_data (EndCode c) = Code c
+end_data EndTruncated = Truncated
 
 -- the target of an alias at n: the name that its RDATA is, or n where there is none
 abbrev pub target_of : Labels → Labels → Labels
@@ -75,13 +75,13 @@ pub record IsLawfulSoa (n : Labels) (x : SoaData) : Type 0 where
 
 -- an end as programs have it, where the walk ended at the name n
 abbrev pub IsLawfulEnd : Labels → EndData → Type 0
-IsLawfulEnd n (WithRecords x) = IsLawfulSet x
-IsLawfulEnd n (WithoutData None) = Unit {0}
-IsLawfulEnd n (WithoutData (Some x)) = IsLawfulSoa n x
-IsLawfulEnd n (WithoutName None) = Unit {0}
-IsLawfulEnd n (WithoutName (Some x)) = IsLawfulSoa n x
-IsLawfulEnd n (WithCode c) = c < 16
-IsLawfulEnd n CutOff = Unit {0}
+IsLawfulEnd n (Records x) = IsLawfulSet x
+IsLawfulEnd n (NoData None) = Unit {0}
+IsLawfulEnd n (NoData (Some x)) = IsLawfulSoa n x
+IsLawfulEnd n (NxDomain None) = Unit {0}
+IsLawfulEnd n (NxDomain (Some x)) = IsLawfulSoa n x
+IsLawfulEnd n (Code c) = c < 16
+IsLawfulEnd n Truncated = Unit {0}
 
 -- what every digest of a program meets
 pub record IsLawful (d : DigestData) : Type 0 where

@@ -18,7 +18,7 @@ use Rattle.fleet_observe.specs.Observation.{IsDataType}
 use Rattle.fleet_observe.specs.RrSet.{RrSetData, IsRrSet, read_ttl}
 use Rattle.fleet_observe.specs.Walk.{EndsBare, IsWalk, HasWalk, last, AreLinks}
 use Rattle.fleet_observe.specs.Soa.{SoaData}
-use Rattle.fleet_observe.specs.Digest.{EndData, WithRecords, WithoutData, WithoutName, WithCode, CutOff, DigestData}
+use Rattle.fleet_observe.specs.Digest.{EndData, Records, NoData, NxDomain, Code, Truncated, DigestData}
 
 -- a reply (QR is set) with Opcode 0, to a question that is served: of class 1 and of a type that data
 -- can have
@@ -96,13 +96,13 @@ IsSoa s n (Some x) = IsSoaOf s n x
 
 -- how a walk ends at name n
 abbrev pub IsEnd : MessageData → Labels → EndData → Type 0
-IsEnd r n (WithRecords x) = IsRrSet r.answer n r.question.rtype x
-IsEnd r n (WithoutData soa) =
+IsEnd r n (Records x) = IsRrSet r.answer n r.question.rtype x
+IsEnd r n (NoData soa) =
     EndsBare r.answer r.question.rtype n × (r.header.rcode ≡ NO_ERROR) × IsSoa r.authority n soa
-IsEnd r n (WithoutName soa) =
+IsEnd r n (NxDomain soa) =
     EndsBare r.answer r.question.rtype n × (r.header.rcode ≡ NAME_ERROR) × IsSoa r.authority n soa
-IsEnd r n (WithCode c) = ⊥
-IsEnd r n CutOff = ⊥
+IsEnd r n (Code c) = ⊥
+IsEnd r n Truncated = ⊥
 
 -- the chain and the end of a reply with a walk
 pub record WalkEndsAs (r : MessageData) (chain : List RrSetData) (e : EndData) : Type 0 where
@@ -114,12 +114,12 @@ pub record WalkEndsAs (r : MessageData) (chain : List RrSetData) (e : EndData) :
 
 -- the chain and the end of a reply
 abbrev pub EndsAs : MessageData → List RrSetData → EndData → Type 0
-EndsAs r chain CutOff = (r.header.tc ≡ true) × (chain ≡ [])
-EndsAs r chain (WithCode c) = (r.header.tc ≡ false) × (¬ (r.header.rcode ≡ NO_ERROR))
+EndsAs r chain Truncated = (r.header.tc ≡ true) × (chain ≡ [])
+EndsAs r chain (Code c) = (r.header.tc ≡ false) × (¬ (r.header.rcode ≡ NO_ERROR))
     × (¬ (r.header.rcode ≡ NAME_ERROR)) × (c ≡ r.header.rcode) × (chain ≡ [])
-EndsAs r chain (WithRecords x) = WalkEndsAs r chain (WithRecords x)
-EndsAs r chain (WithoutData soa) = WalkEndsAs r chain (WithoutData soa)
-EndsAs r chain (WithoutName soa) = WalkEndsAs r chain (WithoutName soa)
+EndsAs r chain (Records x) = WalkEndsAs r chain (Records x)
+EndsAs r chain (NoData soa) = WalkEndsAs r chain (NoData soa)
+EndsAs r chain (NxDomain soa) = WalkEndsAs r chain (NxDomain soa)
 
 -- an authority NS record at the question's name or an ancestor of it
 pub record IsNs (q : Labels) (r : RecordData) : Type 0 where

@@ -11,12 +11,12 @@ use Rattle.fleet_observe.specs.Body.{positive_body, negative_body}
 use Rattle.fleet_observe.specs.Observation.{ObservationData, Observations}
 use Rattle.fleet_observe.specs.RrSet.{RrSetData}
 use Rattle.fleet_observe.specs.Soa.{SoaData}
-use Rattle.fleet_observe.specs.Digest.{EndData, WithRecords, WithoutData, WithoutName, WithCode, CutOff, DigestData, denied_by}
+use Rattle.fleet_observe.specs.Digest.{EndData, Records, NoData, NxDomain, Code, Truncated, DigestData, denied_by}
 use Rattle.fleet_observe.specs.DigestOf.{IsDigest}
 use Rattle.fleet_observe.specs.declared.bounds.TheConstants.{LONGEST_BODY}
 use Rattle.fleet_observe.specs.declared.observation.kind.Kind.{Kind}
 use Rattle.fleet_observe.specs.declared.rank.TheConstants.{OTHER, AUTHORITY, ANSWER}
-use Rattle.fleet_observe.specs.declared.observation.kind.Kind.TheVariants.{NameError, NoData, Positive}
+use Rattle.fleet_observe.specs.declared.observation.kind.Kind.TheVariants.{NameError, NoData as KindNoData, Positive}
 
 -- the observation as a list; none where it has no life
 abbrev pub living_observation : ObservationData → Observations
@@ -78,16 +78,16 @@ link_observations aa q stamp (x ∷ xs) =
 
 -- the observation of the end, if it is kept
 abbrev pub end_observations : DigestData → Seconds → EndData → Observations
-end_observations d stamp (WithRecords x) = positive_observations x (answer_rank d.aa d.name x.name)
+end_observations d stamp (Records x) = positive_observations x (answer_rank d.aa d.name x.name)
     stamp
-end_observations d stamp (WithoutData soa) =
-    denial_observations NoData (denied_by d.name d.chain) d.rtype (denial_rank d.aa d.chain)
+end_observations d stamp (NoData soa) =
+    denial_observations KindNoData (denied_by d.name d.chain) d.rtype (denial_rank d.aa d.chain)
     stamp soa
-end_observations d stamp (WithoutName soa) =
+end_observations d stamp (NxDomain soa) =
     denial_observations NameError (denied_by d.name d.chain) 0 (denial_rank d.aa d.chain) stamp
     soa
-end_observations d stamp (WithCode c) = []
-end_observations d stamp CutOff = []
+end_observations d stamp (Code c) = []
+end_observations d stamp Truncated = []
 
 -- the observations of the NS RRsets that the reply is an authority for
 abbrev pub ns_observations : Seconds → List RrSetData → Observations

@@ -1,5 +1,5 @@
 -- The reply to a waiting client, as an outline.
--- Serves `relay`, `add_rows`.
+-- Serves `relay`, `add_rrset`.
 use Rattle.std.specs.Prelude.{◌≡◌, ℕ, ◌<◌, length, take, Bool, true, false, List, [], ◌∷◌, ◌++◌, map, Option, Some, None}
 use Rattle.std.specs.List.{flat_map}
 use Rattle.fleet_wire.specs.Question.{QuestionData}
@@ -9,24 +9,24 @@ use Rattle.fleet_wire.specs.declared.rcode.TheConstants.{NAME_ERROR, NO_ERROR}
 use Rattle.fleet_wire.specs.declared.rtype.TheConstants.{SOA}
 use Rattle.fleet_observe.specs.RrSet.{RrSetData}
 use Rattle.fleet_observe.specs.Soa.{SoaData}
-use Rattle.fleet_observe.specs.Digest.{EndData, WithRecords, WithoutData, WithoutName, WithCode, CutOff, DigestData}
+use Rattle.fleet_observe.specs.Digest.{EndData, Records, NoData, NxDomain, Code, Truncated, DigestData}
 
 -- the code of a relay: NAME_ERROR for a name error, the reply's own code where it is another, else
 -- NO_ERROR
 abbrev pub code_of : EndData → ℕ
-code_of (WithRecords x) = NO_ERROR
-code_of (WithoutData soa) = NO_ERROR
-code_of (WithoutName soa) = NAME_ERROR
-code_of (WithCode c) = c
-code_of CutOff = NO_ERROR
+code_of (Records x) = NO_ERROR
+code_of (NoData soa) = NO_ERROR
+code_of (NxDomain soa) = NAME_ERROR
+code_of (Code c) = c
+code_of Truncated = NO_ERROR
 
 -- whether an end is that of a reply that was cut off
 abbrev pub is_cut : EndData → Bool
-is_cut (WithRecords x) = false
-is_cut (WithoutData soa) = false
-is_cut (WithoutName soa) = false
-is_cut (WithCode c) = false
-is_cut CutOff = true
+is_cut (Records x) = false
+is_cut (NoData soa) = false
+is_cut (NxDomain soa) = false
+is_cut (Code c) = false
+is_cut Truncated = true
 
 -- an RRset's records, their RDATA ascending
 abbrev pub set_lines : RrSetData → List RecordData
@@ -38,11 +38,11 @@ chain_lines chain = flat_map set_lines chain
 
 -- an end's records for the answer section
 abbrev pub answer_lines : EndData → List RecordData
-answer_lines (WithRecords x) = set_lines x
-answer_lines (WithoutData soa) = []
-answer_lines (WithoutName soa) = []
-answer_lines (WithCode c) = []
-answer_lines CutOff = []
+answer_lines (Records x) = set_lines x
+answer_lines (NoData soa) = []
+answer_lines (NxDomain soa) = []
+answer_lines (Code c) = []
+answer_lines Truncated = []
 
 -- the record of an SOA, if there is one
 abbrev pub soa_lines : Option SoaData → List RecordData
@@ -51,11 +51,11 @@ soa_lines (Some x) = line x.owner SOA x.ttl x.rdata ∷ []
 
 -- an end's records for the authority section
 abbrev pub authority_lines : EndData → List RecordData
-authority_lines (WithRecords x) = []
-authority_lines (WithoutData soa) = soa_lines soa
-authority_lines (WithoutName soa) = soa_lines soa
-authority_lines (WithCode c) = []
-authority_lines CutOff = []
+authority_lines (Records x) = []
+authority_lines (NoData soa) = soa_lines soa
+authority_lines (NxDomain soa) = soa_lines soa
+authority_lines (Code c) = []
+authority_lines Truncated = []
 
 -- the outline of the reply that a waiting client is sent: the links, and then the records, or the
 -- SOA in the authority section

@@ -1,5 +1,5 @@
 -- The RRset of a section at a name and a type, and a TTL as it is read (RFC 2181 5, 8).
--- Serves `digest`, `add_rows`, and every call of `RrSet`.
+-- Serves `digest`, `add_rrset`, and every call of `RrSet`.
 use Rattle.std.specs.Prelude.{◌≡◌, ℕ, ◌≤◌, List, [], ◌∷◌, if◌then◌else◌, nat_le, min, suc}
 use Rattle.std.specs.Ordering.{nat_cmp, is_lt}
 use Rattle.std.specs.Cmp.Lexicographic.{slice_cmp}
@@ -11,7 +11,7 @@ use Rattle.fleet_wire.specs.declared.class.TheConstants.{IN}
 use Rattle.fleet_observe.specs.Members.{Has, IsAscending}
 use Rattle.fleet_observe.specs.Observation.{IsDataType}
 use Rattle.fleet_observe.specs.declared.bounds.TheConstants.{LONGEST_LIFE}
-use Rattle.fleet_observe.specs.declared.reply.rows.Rows.{Rows}
+use Rattle.fleet_observe.specs.declared.reply.rows.LentRrSet.{LentRrSet}
 
 -- the record is of the RRset at name n and type t
 pub record IsOfRrSet (n : Labels) (t : RType) (r : RecordData) : Type 0 where
@@ -70,8 +70,8 @@ pub record IsRrSet (s : List RecordData) (n : Labels) (t : RType) (x : RrSetData
   pub whole : (d : OctetList) → InSet s n t d → Has x.rdatas d
 
 -- the RRset whose records are lent
-abbrev pub rrset_of_rows : {A : Type 0} → Rows A → RrSetData
-rrset_of_rows r = record { name = r.name.now; rtype = r.rtype; ttl = r.ttl; rdatas = r.rdatas.now }
+abbrev pub rrset_of_lent : {A : Type 0} → LentRrSet A → RrSetData
+rrset_of_lent r = record { name = r.name.now; rtype = r.rtype; ttl = r.ttl; rdatas = r.rdatas.now }
 
 -- What follows, private contracts alone cite.
 

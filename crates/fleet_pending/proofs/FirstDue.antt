@@ -11,15 +11,15 @@ use Rattle.fleet_pending.proofs.Placed.{NoneBefore}
 use Rattle.fleet_pending.proofs.Table.{table}
 
 -- the first due one of the first n entries
-pub record IsFirstDueTo (es : List EntryData) (moment n : ℕ) (e : EntryData) : Type 0 where
+pub record IsFirstDueTo (es : List EntryData) (now n : ℕ) (e : EntryData) : Type 0 where
   pub place : ℕ
   pub there : At es place e
-  pub due : e.deadline ≤ moment
-  pub first : (j : ℕ) (f : EntryData) → j < n → At es j f → f.deadline ≤ moment → NotAfter e f
+  pub due : e.deadline ≤ now
+  pub first : (j : ℕ) (f : EntryData) → j < n → At es j f → f.deadline ≤ now → NotAfter e f
 
 abbrev pub FirstTo : List EntryData → ℕ → ℕ → Option (Bor EntryData) → Type 0
-FirstTo es moment n None = NoneBefore (λ e. e.deadline ≤ moment) es n
-FirstTo es moment n (Some r) = IsFirstDueTo es moment n r.now
+FirstTo es now n None = NoneBefore (λ e. e.deadline ≤ now) es n
+FirstTo es now n (Some r) = IsFirstDueTo es now n r.now
 
 -- the first of two
 not_after : (a b : EntryData) → IsBefore a b → NotAfter a b
@@ -39,13 +39,13 @@ not_before a b n =
     earlier (inr l) (inr m) (inr i) = inr (omega (arith, l, m), i)
 
 -- an entry that does not replace the first one so far is due later, or not before it
-pub kept_first : (moment : ℕ) (r : Option (Bor EntryData)) (x : EntryData)
-    → ((x.deadline ≤ moment) × MatchOption r (Unit {0}) (λ o. IsBefore x o.now) → ⊥)
-    → (moment < x.deadline) ⊎ MatchOption r ⊥ (λ o. NotAfter o.now x)
-kept_first moment None x n =
-    elim (cases_lt moment x.deadline) [ inl l ↦ inl l | inr d ↦ absurd (n (d, tt)) ]
-kept_first moment (Some o) x n =
-    elim (cases_lt moment x.deadline) [
+pub kept_first : (now : ℕ) (r : Option (Bor EntryData)) (x : EntryData)
+    → ((x.deadline ≤ now) × MatchOption r (Unit {0}) (λ o. IsBefore x o.now) → ⊥)
+    → (now < x.deadline) ⊎ MatchOption r ⊥ (λ o. NotAfter o.now x)
+kept_first now None x n =
+    elim (cases_lt now x.deadline) [ inl l ↦ inl l | inr d ↦ absurd (n (d, tt)) ]
+kept_first now (Some o) x n =
+    elim (cases_lt now x.deadline) [
       | inl l ↦ inl l
       | inr d ↦ inr (not_before x o.now (λ b. n (d, b)))
     ]
@@ -57,11 +57,11 @@ not_after_trans a b d (inr x) (inl y) = inl (let p = x.0 in omega (arith, p))
 not_after_trans a b d (inr x) (inr y) =
     inr (x.0 ∙ y.0, let p = x.1 in let q = y.1 in omega (arith, p, q))
 
-pub first_all : (es : List EntryData) (moment n : ℕ) (r : Option (Bor EntryData)) → length es ≤ n
-    → FirstTo es moment n r → MatchOption r (NoneDue es moment) (λ e. IsFirstDue es moment e.now)
-first_all es moment n None l h =
+pub first_all : (es : List EntryData) (now n : ℕ) (r : Option (Bor EntryData)) → length es ≤ n
+    → FirstTo es now n r → MatchOption r (NoneDue es now) (λ e. IsFirstDue es now e.now)
+first_all es now n None l h =
     λ i x a p. h i x (let m : i < length es = slice_get_within es i x a in omega arith) a p
-first_all es moment n (Some e) l h = record {
+first_all es now n (Some e) l h = record {
   place = h.place;
   there = h.there;
   due = h.due;
@@ -69,27 +69,27 @@ first_all es moment n (Some e) l h = record {
       λ j f a p. h.first j f (let m : j < length es = slice_get_within es j f a in omega arith) a p;
 }
 
-pub first_kept : (es : List EntryData) (moment n : ℕ) (r : Option (Bor EntryData)) (x : EntryData)
-    → At es n x → FirstTo es moment n r
-    → (moment < x.deadline) ⊎ MatchOption r ⊥ (λ o. NotAfter o.now x) → FirstTo es moment (n + 1) r
-first_kept es moment n None x t h (inl m) = λ i y k a p. go i y k a p (cases_eq i n)
+pub first_kept : (es : List EntryData) (now n : ℕ) (r : Option (Bor EntryData)) (x : EntryData)
+    → At es n x → FirstTo es now n r
+    → (now < x.deadline) ⊎ MatchOption r ⊥ (λ o. NotAfter o.now x) → FirstTo es now (n + 1) r
+first_kept es now n None x t h (inl m) = λ i y k a p. go i y k a p (cases_eq i n)
   where
-    go : (i : ℕ) (y : EntryData) → i < n + 1 → At es i y → y.deadline ≤ moment → (i ≡ n) ⊎ (i ≢ n)
+    go : (i : ℕ) (y : EntryData) → i < n + 1 → At es i y → y.deadline ≤ now → (i ≡ n) ⊎ (i ≢ n)
         → ⊥
     go i y k a p (inl q) =
         let z : y ≡ x = at_same es n y x (subst (λ v. At es v y) q a) t in
         let d = ap (λ v. v.deadline) z in omega (arith, d)
     go i y k a p (inr q) = h i y (omega arith) a p
-first_kept es moment n None x t h (inr m) = absurd m
-first_kept es moment n (Some o) x t h m = record {
+first_kept es now n None x t h (inr m) = absurd m
+first_kept es now n (Some o) x t h m = record {
   place = h.place;
   there = h.there;
   due = h.due;
   first = λ j f k a p. go j f k a p m (cases_eq j n);
 }
   where
-    go : (j : ℕ) (f : EntryData) → j < n + 1 → At es j f → f.deadline ≤ moment
-        → (moment < x.deadline) ⊎ NotAfter o.now x → (j ≡ n) ⊎ (j ≢ n) → NotAfter o.now f
+    go : (j : ℕ) (f : EntryData) → j < n + 1 → At es j f → f.deadline ≤ now
+        → (now < x.deadline) ⊎ NotAfter o.now x → (j ≡ n) ⊎ (j ≢ n) → NotAfter o.now f
     go j f k a p m (inr q) = h.first j f (omega arith) a p
     go j f k a p (inl m) (inl q) =
         let z : f ≡ x = at_same es n f x (subst (λ v. At es v f) q a) t in
@@ -98,18 +98,18 @@ first_kept es moment n (Some o) x t h m = record {
         let z : f ≡ x = at_same es n f x (subst (λ v. At es v f) q a) t in
         subst (λ v. NotAfter o.now v) (sym z) m
 
-first_new : (es : List EntryData) (moment n : ℕ) (r : Option (Bor EntryData)) (x : EntryData)
-    → At es n x → FirstTo es moment n r → x.deadline ≤ moment
-    → MatchOption r (Unit {0}) (λ o. IsBefore x o.now) → IsFirstDueTo es moment (n + 1) x
-first_new es moment n r x t h d m = record {
+first_new : (es : List EntryData) (now n : ℕ) (r : Option (Bor EntryData)) (x : EntryData)
+    → At es n x → FirstTo es now n r → x.deadline ≤ now
+    → MatchOption r (Unit {0}) (λ o. IsBefore x o.now) → IsFirstDueTo es now (n + 1) x
+first_new es now n r x t h d m = record {
   place = n;
   there = t;
   due = d;
   first = λ j f k a p. go j f k a p r h m (cases_eq j n);
 }
   where
-    go : (j : ℕ) (f : EntryData) → j < n + 1 → At es j f → f.deadline ≤ moment
-        → (r : Option (Bor EntryData)) → FirstTo es moment n r
+    go : (j : ℕ) (f : EntryData) → j < n + 1 → At es j f → f.deadline ≤ now
+        → (r : Option (Bor EntryData)) → FirstTo es now n r
         → MatchOption r (Unit {0}) (λ o. IsBefore x o.now) → (j ≡ n) ⊎ (j ≢ n) → NotAfter x f
     go j f k a p r h m (inl q) =
         let z : x ≡ f = at_same es n x f t (subst (λ v. At es v f) q a) in
@@ -118,27 +118,27 @@ first_new es moment n r x t h d m = record {
     go j f k a p (Some o) h m (inr q) =
         not_after_trans x o.now f (not_after x o.now m) (h.first j f (omega arith) a p)
 
-pub first_new_is : (es : List EntryData) (moment n : ℕ) (r r' : Option (Bor EntryData))
-    (b : Bor EntryData) → r' ≡ Some b → At es n b.now → FirstTo es moment n r
-    → b.now.deadline ≤ moment → MatchOption r (Unit {0}) (λ o. IsBefore b.now o.now)
-    → FirstTo es moment (n + 1) r'
-first_new_is es moment n r r' b q t h d m =
-    subst (FirstTo es moment (n + 1)) (sym q) (first_new es moment n r b.now t h d m)
+pub first_new_is : (es : List EntryData) (now n : ℕ) (r r' : Option (Bor EntryData))
+    (b : Bor EntryData) → r' ≡ Some b → At es n b.now → FirstTo es now n r
+    → b.now.deadline ≤ now → MatchOption r (Unit {0}) (λ o. IsBefore b.now o.now)
+    → FirstTo es now (n + 1) r'
+first_new_is es now n r r' b q t h d m =
+    subst (FirstTo es now (n + 1)) (sym q) (first_new es now n r b.now t h d m)
 
 -- the first due one of a table
-pub due_first : (o : PendingData) (u t moment : ℕ) (es rs : List EntryData) (e : EntryData)
-    → table u es ≡ o → rs ≡ es → t ≡ moment → IsFirstDue rs t e → IsFirstDue o.entries moment e
-due_first o u t moment es rs e v q p d =
+pub due_first : (o : PendingData) (u t now : ℕ) (es rs : List EntryData) (e : EntryData)
+    → table u es ≡ o → rs ≡ es → t ≡ now → IsFirstDue rs t e → IsFirstDue o.entries now e
+due_first o u t now es rs e v q p d =
     let a : IsFirstDue es t e = subst (λ xs. IsFirstDue xs t e) q d in
-    let b : IsFirstDue es moment e = subst (λ k. IsFirstDue es k e) p a in
-    subst (λ x. IsFirstDue x.entries moment e) v b
+    let b : IsFirstDue es now e = subst (λ k. IsFirstDue es k e) p a in
+    subst (λ x. IsFirstDue x.entries now e) v b
 
-pub due_none : (o : PendingData) (u t moment : ℕ) (es rs : List EntryData) → table u es ≡ o
-    → rs ≡ es → t ≡ moment → NoneDue rs t → NoneDue o.entries moment
-due_none o u t moment es rs v q p d =
+pub due_none : (o : PendingData) (u t now : ℕ) (es rs : List EntryData) → table u es ≡ o
+    → rs ≡ es → t ≡ now → NoneDue rs t → NoneDue o.entries now
+due_none o u t now es rs v q p d =
     let a : NoneDue es t = subst (λ xs. NoneDue xs t) q d in
-    let b : NoneDue es moment = subst (λ k. NoneDue es k) p a in
-    subst (λ x. NoneDue x.entries moment) v b
+    let b : NoneDue es now = subst (λ k. NoneDue es k) p a in
+    subst (λ x. NoneDue x.entries now) v b
 
 pub first_open : (u t : ℕ) (es rs : List EntryData) (e : EntryData) → IsPendingData (table u es)
     → rs ≡ es → IsFirstDue rs t e → IsEntryData e

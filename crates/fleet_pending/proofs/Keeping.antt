@@ -34,17 +34,17 @@ join_is_open e w h a n l =
     new : (v : WaiterData) → v ≡ w → AsksFor v.question e
     new v p = subst (λ x. AsksFor x.question e) (sym p) a
 
-pub new_is_open : (w : WaiterData) (moment id : ℕ) → IsEntryData (new_entry w moment id)
-new_is_open w moment id = record {
+pub new_is_open : (w : WaiterData) (now id : ℕ) → IsEntryData (new_entry w now id)
+new_is_open w now id = record {
   some = omega arith;
   few = omega arith;
   waiting = all;
   once = one;
 }
   where
-    all : (i : ℕ) (v : WaiterData) → At (w ∷ []) i v → AsksFor v.question (new_entry w moment id)
+    all : (i : ℕ) (v : WaiterData) → At (w ∷ []) i v → AsksFor v.question (new_entry w now id)
     all zero v t =
-        subst (λ x. AsksFor x.question (new_entry w moment id)) (same_Some w v t) (refl, refl)
+        subst (λ x. AsksFor x.question (new_entry w now id)) (same_Some w v t) (refl, refl)
     all (suc i) v t = absurd (let q : None ≡ Some v = t in cc)
 
     one : NoTwo SameAsker (w ∷ [])
@@ -52,9 +52,9 @@ new_is_open w moment id = record {
     one zero (suc j) u v s t a = absurd (let q : None ≡ Some v = t in cc)
     one (suc i) j u v s t a = absurd (let q : None ≡ Some u = s in cc)
 
-pub next_is_open : (e : EntryData) (moment : ℕ) → IsEntryData e
-    → IsEntryData (with_next_upstream e moment)
-next_is_open e moment h = record { some = h.some; few = h.few; waiting = h.waiting; once = h.once }
+pub next_is_open : (e : EntryData) (now : ℕ) → IsEntryData e
+    → IsEntryData (with_next_upstream e now)
+next_is_open e now h = record { some = h.some; few = h.few; waiting = h.waiting; once = h.once }
 
 -- a write of an entry for the same question, under the same id
 pub set_keeps : (o : PendingData) (i : ℕ) (e f : EntryData) → IsPendingData o → At o.entries i e
@@ -132,14 +132,14 @@ joins_keeps o i e f w r h t a (no_place new many result_is same) = same_keeps o 
 joins_keeps o i e f w r h t a (no_memory_for_place new few result_is same) =
     same_keeps o i e f h t same
 
-pub opens_keeps : (o : PendingData) (w : WaiterData) (moment word : ℕ)
+pub opens_keeps : (o : PendingData) (w : WaiterData) (now word : ℕ)
     (r : Result Asked PendingFault) (fs : List EntryData) → IsPendingData o
-    → NoneIs (AsksFor w.question) o.entries → Opens o.entries w moment word r fs
+    → NoneIs (AsksFor w.question) o.entries → Opens o.entries w now word r fs
     → IsPendingData (record o { entries = fs })
-opens_keeps o w moment word r fs h n (is_sent id few free result_is more) =
+opens_keeps o w now word r fs h n (is_sent id few free result_is more) =
     subst (λ xs. IsPendingData (record o { entries = xs })) (sym more)
-    (push_keeps o (new_entry w moment id) h free.free n few (new_is_open w moment id) h.some)
-opens_keeps o w moment word r fs h n (no_room many result_is same) =
+    (push_keeps o (new_entry w now id) h free.free n few (new_is_open w now id) h.some)
+opens_keeps o w now word r fs h n (no_room many result_is same) =
     subst (λ xs. IsPendingData (record o { entries = xs })) (sym same) h
-opens_keeps o w moment word r fs h n (no_memory_for_room few result_is same) =
+opens_keeps o w now word r fs h n (no_memory_for_room few result_is same) =
     subst (λ xs. IsPendingData (record o { entries = xs })) (sym same) h

@@ -66,9 +66,9 @@ least_all none es n s l h = record {
 }
 
 -- before it none is due
-pub none_due : (es : List EntryData) (s moment : ℕ) → NoneSooner s es → moment < s
-    → NoneDue es moment
-none_due es s moment h l i e a d = let p = h i e a in omega (arith, p, l, d)
+pub none_due : (es : List EntryData) (s now : ℕ) → NoneSooner s es → now < s
+    → NoneDue es now
+none_due es s now h l i e a d = let p = h i e a in omega (arith, p, l, d)
 
 same_deadline : (e f : EntryData) (w : WaiterData) (r : Result Asked PendingFault) → Joins e w r f
     → f.deadline ≡ e.deadline
@@ -91,18 +91,18 @@ soonest_joined s i es e f w r h t j k x a = go (at_set es i k f x a)
     go (inr p) = h k x p.1
 
 -- a new entry has its time
-pub soonest_opened : (s t moment word : ℕ) (es fs : List EntryData) (w : WaiterData)
-    (r : Result Asked PendingFault) → NoneSooner s es → t ≤ s → t ≤ moment + TRY_SECONDS
-    → Opens es w moment word r fs → NoneSooner t fs
-soonest_opened s t moment word es fs w r h l m (is_sent id few free result_is more) k x a =
-    go (at_push es k (new_entry w moment id) x (subst (λ v. At v k x) more a))
+pub soonest_opened : (s t now word : ℕ) (es fs : List EntryData) (w : WaiterData)
+    (r : Result Asked PendingFault) → NoneSooner s es → t ≤ s → t ≤ now + TRY_SECONDS
+    → Opens es w now word r fs → NoneSooner t fs
+soonest_opened s t now word es fs w r h l m (is_sent id few free result_is more) k x a =
+    go (at_push es k (new_entry w now id) x (subst (λ v. At v k x) more a))
   where
-    go : At es k x ⊎ ((k ≡ length es) × (x ≡ new_entry w moment id)) → t ≤ x.deadline
+    go : At es k x ⊎ ((k ≡ length es) × (x ≡ new_entry w now id)) → t ≤ x.deadline
     go (inl p) = let b = h k x p in omega (arith, b, l)
     go (inr p) = let d = ap (λ v. v.deadline) p.1 in omega (arith, d, m)
-soonest_opened s t moment word es fs w r h l m (no_room many result_is same) k x a =
+soonest_opened s t now word es fs w r h l m (no_room many result_is same) k x a =
     let b = h k x (subst (λ v. At v k x) same a) in omega (arith, b, l)
-soonest_opened s t moment word es fs w r h l m (no_memory_for_room few result_is same) k x a =
+soonest_opened s t now word es fs w r h l m (no_memory_for_room few result_is same) k x a =
     let b = h k x (subst (λ v. At v k x) same a) in omega (arith, b, l)
 
 -- what is left ends no sooner
@@ -112,10 +112,10 @@ soonest_removed s i es ns h n j x a =
     let r = at_remove es i j x (subst (λ v. At v j x) n a) in h r.0 x r.1
 
 -- who moves on has its time
-pub soonest_moved : (s t i moment : ℕ) (es : List EntryData) (f : EntryData) → NoneSooner s es
-    → t ≤ s → t ≤ moment + TRY_SECONDS → f.deadline ≡ moment + TRY_SECONDS
+pub soonest_moved : (s t i now : ℕ) (es : List EntryData) (f : EntryData) → NoneSooner s es
+    → t ≤ s → t ≤ now + TRY_SECONDS → f.deadline ≡ now + TRY_SECONDS
     → NoneSooner t (slice_set es i f)
-soonest_moved s t i moment es f h l m is k x a = go (at_set es i k f x a)
+soonest_moved s t i now es f h l m is k x a = go (at_set es i k f x a)
   where
     go : ((k ≡ i) × (x ≡ f)) ⊎ ((k ≢ i) × At es k x) → t ≤ x.deadline
     go (inl p) = let d = ap (λ v. v.deadline) p.1 in omega (arith, d, m, is)

@@ -54,38 +54,38 @@ removal_keeps u id i es ns r h k n =
     subst (λ xs. IsPendingData (table u xs)) (sym n) (remove_keeps (table u es) i r h k.there)
 
 -- an entry has the question, and the waiter meets it
-pub asks_there : (u i moment word : ℕ) (o : PendingData) (es : List EntryData) (e f : EntryData)
+pub asks_there : (u i now word : ℕ) (o : PendingData) (es : List EntryData) (e f : EntryData)
     (v w : WaiterData) (r : Result Asked PendingFault)
     → table u es ≡ o → v ≡ w → IsAt (AsksFor v.question) es i e → Joins e w r f
-    → Asks o w moment word r (table u (slice_set es i f))
-asks_there u i moment word o es e f v w r q s k j =
-    subst (λ x. Asks x w moment word r (table u (slice_set es i f))) q
+    → Asks o w now word r (table u (slice_set es i f))
+asks_there u i now word o es e f v w r q s k j =
+    subst (λ x. Asks x w now word r (table u (slice_set es i f))) q
     (joins i e f k.there (subst (λ x. AsksFor x.question e) s k.is) j refl)
 
 -- no entry has the question
-pub asks_anew : (u moment word : ℕ) (o : PendingData) (es rs fs : List EntryData)
+pub asks_anew : (u now word : ℕ) (o : PendingData) (es rs fs : List EntryData)
     (v w : WaiterData) (r : Result Asked PendingFault)
     → table u es ≡ o → v ≡ w → rs ≡ es → IsPlace (AsksFor v.question) rs None
-    → Opens es w moment word r fs → Asks o w moment word r (table u fs)
-asks_anew u moment word o es rs fs v w r q s p n j =
-    subst (λ x. Asks x w moment word r (table u fs)) q
+    → Opens es w now word r fs → Asks o w now word r (table u fs)
+asks_anew u now word o es rs fs v w r q s p n j =
+    subst (λ x. Asks x w now word r (table u fs)) q
     (opens fs (subst (λ x. NoneIs (AsksFor x.question) es) s
     (subst (λ xs. NoneIs (AsksFor v.question) xs) p n)) j refl)
 
 -- no entry has the question, as was seen before
-pub opens_new : (u moment word : ℕ) (o : PendingData) (es fs : List EntryData) (w : WaiterData)
+pub opens_new : (u now word : ℕ) (o : PendingData) (es fs : List EntryData) (w : WaiterData)
     (r : Result Asked PendingFault) → table u es ≡ o → NoneIs (AsksFor w.question) o.entries
-    → Opens es w moment word r fs → Asks o w moment word r (table u fs)
-opens_new u moment word o es fs w r q n j =
-    subst (λ x. Asks x w moment word r (table u fs)) q
+    → Opens es w now word r fs → Asks o w now word r (table u fs)
+opens_new u now word o es fs w r q n j =
+    subst (λ x. Asks x w now word r (table u fs)) q
     (opens fs (subst (λ x. NoneIs (AsksFor w.question) x.entries) (sym q) n) j refl)
 
-pub asks_keeps : (o n : PendingData) (w : WaiterData) (moment word : ℕ)
-    (r : Result Asked PendingFault) → IsPendingData o → Asks o w moment word r n → IsPendingData n
-asks_keeps o n w moment word r h (joins i e f t a j q) =
+pub asks_keeps : (o n : PendingData) (w : WaiterData) (now word : ℕ)
+    (r : Result Asked PendingFault) → IsPendingData o → Asks o w now word r n → IsPendingData n
+asks_keeps o n w now word r h (joins i e f t a j q) =
     subst IsPendingData (sym q) (joins_keeps o i e f w r h t a j)
-asks_keeps o n w moment word r h (opens fs a j q) =
-    subst IsPendingData (sym q) (opens_keeps o w moment word r fs h a j)
+asks_keeps o n w now word r h (opens fs a j q) =
+    subst IsPendingData (sym q) (opens_keeps o w now word r fs h a j)
 
 -- the entry with the id is not the reply's: none is
 none_matches : (o : PendingData) (u id i : ℕ) (q : Question) (e : EntryData)
@@ -122,22 +122,22 @@ next_below u id i es v e d s k m l =
     omega (arith, n)
 
 -- e was looked at, as v, and d changed to f
-pub advances : (u id i moment : ℕ) (o : PendingData) (es : List EntryData) (v e d f : EntryData)
+pub advances : (u id i now : ℕ) (o : PendingData) (es : List EntryData) (v e d f : EntryData)
     → table u es ≡ o → v ≡ e → IsAt (UsesId id) es i e → IsAt (UsesId id) es i d
-    → v.upstream + 1 < u → f ≡ with_next_upstream d moment
-    → Advances o id moment true (table u (slice_set es i f))
-advances u id i moment o es v e d f q s k m l n =
+    → v.upstream + 1 < u → f ≡ with_next_upstream d now
+    → Advances o id now true (table u (slice_set es i f))
+advances u id i now o es v e d f q s k m l n =
     let b = next_below u id i es v e d s k m l in
-    let a : Advances (table u es) id moment true (table u (slice_set es i f)) =
+    let a : Advances (table u es) id now true (table u (slice_set es i f)) =
     (i, (d, m.there, m.is, b, ap (λ x. table u (slice_set es i x)) n)) in
-    subst (λ x. Advances x id moment true (table u (slice_set es i f))) q a
+    subst (λ x. Advances x id now true (table u (slice_set es i f))) q a
 
-pub advance_keeps : (o n : PendingData) (id moment : ℕ) → IsPendingData o
-    → Advances o id moment true n → IsPendingData n
-advance_keeps o n id moment h (i, (e, t, p, b, q)) =
-    let w = next_is_open e moment (h.open_ones i e t) in
+pub advance_keeps : (o n : PendingData) (id now : ℕ) → IsPendingData o
+    → Advances o id now true n → IsPendingData n
+advance_keeps o n id now h (i, (e, t, p, b, q)) =
+    let w = next_is_open e now (h.open_ones i e t) in
     subst IsPendingData (sym q)
-    (set_keeps o i e (with_next_upstream e moment) h t refl refl refl w b)
+    (set_keeps o i e (with_next_upstream e now) h t refl refl refl w b)
 
 -- the entry with the id has no further upstream
 pub stays : (u id i : ℕ) (o : PendingData) (es : List EntryData) (v e : EntryData)

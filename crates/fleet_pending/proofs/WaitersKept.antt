@@ -66,31 +66,31 @@ count_push test es f =
 
 -- how many of those that a call accepted pass a test, where this was answered
 abbrev accepted : (WaiterData → Bool) → WaiterData → ℕ → ℕ → Result Asked PendingFault → ℕ
-accepted test w moment word r = count_by test (waiters_accepted (ask w moment word r))
+accepted test w now word r = count_by test (waiters_accepted (ask w now word r))
 
-join_step : (test : WaiterData → Bool) (es : List EntryData) (i moment word : ℕ) (e f : EntryData)
+join_step : (test : WaiterData → Bool) (es : List EntryData) (i now word : ℕ) (e f : EntryData)
     (w : WaiterData) (r : Result Asked PendingFault) → At es i e → Joins e w r f
-    → in_all test es + count_by test (waiters_accepted (ask w moment word r)) ≡ in_all test
+    → in_all test es + count_by test (waiters_accepted (ask w now word r)) ≡ in_all test
     (slice_set es i f)
-join_step test es i moment word e f w r t j = go j
+join_step test es i now word e f w r t j = go j
   where
     s : in_all test (slice_set es i f) + count_by test e.waiters ≡ in_all test es + count_by test
         f.waiters
     s = count_set test es i e f t
 
-    kept : (x : Result Asked PendingFault) → accepted test w moment word x ≡ 0 → r ≡ x → f ≡ e
-        → in_all test es + accepted test w moment word r ≡ in_all test (slice_set es i f)
+    kept : (x : Result Asked PendingFault) → accepted test w now word x ≡ 0 → r ≡ x → f ≡ e
+        → in_all test es + accepted test w now word r ≡ in_all test (slice_set es i f)
     kept x none result_is same =
-        let a = ap (accepted test w moment word) result_is in
+        let a = ap (accepted test w now word) result_is in
         let d : count_by test f.waiters ≡ count_by test e.waiters =
         ap (λ v. count_by test v.waiters) same in
         omega (arith, s, a, d, none)
 
     go : Joins e w r f
-        → in_all test es + accepted test w moment word r ≡ in_all test (slice_set es i f)
+        → in_all test es + accepted test w now word r ≡ in_all test (slice_set es i f)
     go (waits_already waits result_is same) = kept (Ok Again) refl result_is same
     go (waits_too new few result_is more) =
-        let k = ap (accepted test w moment word) result_is in
+        let k = ap (accepted test w now word) result_is in
         let d : count_by test f.waiters ≡ count_by test (e.waiters ++ w ∷ []) =
         ap (λ v. count_by test v.waiters) more in
         let a = count-append test e.waiters (w ∷ []) in
@@ -98,24 +98,24 @@ join_step test es i moment word e f w r t j = go j
     go (no_place new many result_is same) = kept (Err WaitersFull) refl result_is same
     go (no_memory_for_place new few result_is same) = kept (Err OutOfMemory) refl result_is same
 
-open_step : (test : WaiterData → Bool) (es fs : List EntryData) (moment word : ℕ) (w : WaiterData)
-    (r : Result Asked PendingFault) → Opens es w moment word r fs
-    → in_all test es + count_by test (waiters_accepted (ask w moment word r)) ≡ in_all test fs
-open_step test es fs moment word w r j = go j
+open_step : (test : WaiterData → Bool) (es fs : List EntryData) (now word : ℕ) (w : WaiterData)
+    (r : Result Asked PendingFault) → Opens es w now word r fs
+    → in_all test es + count_by test (waiters_accepted (ask w now word r)) ≡ in_all test fs
+open_step test es fs now word w r j = go j
   where
-    kept : (x : Result Asked PendingFault) → accepted test w moment word x ≡ 0 → r ≡ x → fs ≡ es
-        → in_all test es + accepted test w moment word r ≡ in_all test fs
+    kept : (x : Result Asked PendingFault) → accepted test w now word x ≡ 0 → r ≡ x → fs ≡ es
+        → in_all test es + accepted test w now word r ≡ in_all test fs
     kept x none result_is same =
-        let a = ap (accepted test w moment word) result_is in
+        let a = ap (accepted test w now word) result_is in
         let d : in_all test fs ≡ in_all test es = ap (in_all test) same in
         omega (arith, a, d, none)
 
-    go : Opens es w moment word r fs
-        → in_all test es + accepted test w moment word r ≡ in_all test fs
+    go : Opens es w now word r fs
+        → in_all test es + accepted test w now word r ≡ in_all test fs
     go (is_sent id few free result_is more) =
-        let k = ap (accepted test w moment word) result_is in
-        let s = count_push test es (new_entry w moment id) in
-        let d : in_all test fs ≡ in_all test (es ++ new_entry w moment id ∷ []) =
+        let k = ap (accepted test w now word) result_is in
+        let s = count_push test es (new_entry w now id) in
+        let d : in_all test fs ≡ in_all test (es ++ new_entry w now id ∷ []) =
         ap (in_all test) more in
         omega (arith, k, s, d)
     go (no_room many result_is same) = kept (Err Full) refl result_is same
@@ -127,13 +127,13 @@ all_open test o = count_by test (open_waiters o)
 step : (test : WaiterData → Bool) (o n : PendingData) (c : Call) → Does o c n
     → all_open test o + count_by test (waiters_accepted c) ≡ count_by test
     (waiters_returned c) + (count_by test (waiters_cleared c) + all_open test n)
-step test o n (ask w moment word r) (joins i e f t a j q) =
-    let s = join_step test o.entries i moment word e f w r t j in
+step test o n (ask w now word r) (joins i e f t a j q) =
+    let s = join_step test o.entries i now word e f w r t j in
     let d : all_open test n ≡ in_all test (slice_set o.entries i f) = ap (all_open test) q in
     let z : count_by test [] ≡ 0 = refl in
     omega (arith, s, d, z)
-step test o n (ask w moment word r) (opens fs a j q) =
-    let s = open_step test o.entries fs moment word w r j in
+step test o n (ask w now word r) (opens fs a j q) =
+    let s = open_step test o.entries fs now word w r j in
     let d : all_open test n ≡ in_all test fs = ap (all_open test) q in
     let z : count_by test [] ≡ 0 = refl in
     omega (arith, s, d, z)
@@ -146,14 +146,14 @@ step test o n (settle id (Some e)) h =
     let d : all_open test n ≡ in_all test (remove o.entries h.0) = ap (all_open test) h.3 in
     let z : count_by test [] ≡ 0 = refl in
     omega (arith, s, d, z)
-step test o n (advance id moment false) h =
+step test o n (advance id now false) h =
     let d : all_open test n ≡ all_open test o = ap (all_open test) h.1 in
     let z : count_by test [] ≡ 0 = refl in
     omega (arith, d, z)
-step test o n (advance id moment true) h =
-    let s = count_set test o.entries h.0 h.1.0 (with_next_upstream h.1.0 moment) h.1.1 in
+step test o n (advance id now true) h =
+    let s = count_set test o.entries h.0 h.1.0 (with_next_upstream h.1.0 now) h.1.1 in
     let d : all_open test n ≡ in_all test
-    (slice_set o.entries h.0 (with_next_upstream h.1.0 moment)) = ap (all_open test) h.1.4 in
+    (slice_set o.entries h.0 (with_next_upstream h.1.0 now)) = ap (all_open test) h.1.4 in
     let z : count_by test [] ≡ 0 = refl in
     omega (arith, s, d, z)
 step test o n (clear ws) h =

@@ -47,38 +47,38 @@ set_waits o i e f w v t from h = go (at_set o.entries i h.place f h.entry h.ther
     go (inl p) = new (from h.turn v (subst (λ x. At x.waiters h.turn v) p.1 h.waits))
     go (inr p) = inl (waits_at o h.place h.entry v p.1 (h.turn, h.waits))
 
-push_waits : (o : PendingData) (w v : WaiterData) (moment id : ℕ)
-    → IsWaiting (record o { entries = o.entries ++ new_entry w moment id ∷ [] }) v
+push_waits : (o : PendingData) (w v : WaiterData) (now id : ℕ)
+    → IsWaiting (record o { entries = o.entries ++ new_entry w now id ∷ [] }) v
     → IsWaiting o v ⊎ (v ≡ w)
-push_waits o w v moment id h =
-    go (at_push o.entries h.place (new_entry w moment id) h.entry h.there)
+push_waits o w v now id h =
+    go (at_push o.entries h.place (new_entry w now id) h.entry h.there)
   where
     only : (i : ℕ) → At (w ∷ []) i v → v ≡ w
     only zero t = sym (same_Some w v t)
     only (suc i) t = absurd (let q : None ≡ Some v = t in cc)
 
     go : At o.entries h.place h.entry
-        ⊎ ((h.place ≡ length o.entries) × (h.entry ≡ new_entry w moment id))
+        ⊎ ((h.place ≡ length o.entries) × (h.entry ≡ new_entry w now id))
         → IsWaiting o v ⊎ (v ≡ w)
     go (inl t) = inl (waits_at o h.place h.entry v t (h.turn, h.waits))
     go (inr p) = inr (only h.turn (subst (λ x. At x.waiters h.turn v) p.1 h.waits))
 
-open_waits : (o : PendingData) (w v : WaiterData) (moment word : ℕ) (r : Result Asked PendingFault)
-    (fs : List EntryData) → Opens o.entries w moment word r fs
+open_waits : (o : PendingData) (w v : WaiterData) (now word : ℕ) (r : Result Asked PendingFault)
+    (fs : List EntryData) → Opens o.entries w now word r fs
     → IsWaiting (record o { entries = fs }) v → IsWaiting o v ⊎ (v ≡ w)
-open_waits o w v moment word r fs (is_sent id few free result_is more) h =
-    push_waits o w v moment id (subst (λ xs. IsWaiting (record o { entries = xs }) v) more h)
-open_waits o w v moment word r fs (no_room many result_is same) h =
+open_waits o w v now word r fs (is_sent id few free result_is more) h =
+    push_waits o w v now id (subst (λ xs. IsWaiting (record o { entries = xs }) v) more h)
+open_waits o w v now word r fs (no_room many result_is same) h =
     inl (subst (λ xs. IsWaiting (record o { entries = xs }) v) same h)
-open_waits o w v moment word r fs (no_memory_for_room few result_is same) h =
+open_waits o w v now word r fs (no_memory_for_room few result_is same) h =
     inl (subst (λ xs. IsWaiting (record o { entries = xs }) v) same h)
 
-ask_waits : (o n : PendingData) (w v : WaiterData) (moment word : ℕ) (r : Result Asked PendingFault)
-    → Asks o w moment word r n → IsWaiting n v → IsWaiting o v ⊎ (v ≡ w)
-ask_waits o n w v moment word r (joins i e f t a j q) h =
+ask_waits : (o n : PendingData) (w v : WaiterData) (now word : ℕ) (r : Result Asked PendingFault)
+    → Asks o w now word r n → IsWaiting n v → IsWaiting o v ⊎ (v ≡ w)
+ask_waits o n w v now word r (joins i e f t a j q) h =
     set_waits o i e f w v t (join_from e f w r j) (subst (λ x. IsWaiting x v) q h)
-ask_waits o n w v moment word r (opens fs a j q) h =
-    open_waits o w v moment word r fs j (subst (λ x. IsWaiting x v) q h)
+ask_waits o n w v now word r (opens fs a j q) h =
+    open_waits o w v now word r fs j (subst (λ x. IsWaiting x v) q h)
 
 settle_waits : (o n : PendingData) (v : WaiterData) (id : ℕ) (r : Option EntryData)
     → Settles o id r n → IsWaiting n v → IsWaiting o v
@@ -90,17 +90,17 @@ settle_waits o n v id (Some e) s h = left (subst (λ x. IsWaiting x v) s.3 h)
         let r = at_remove o.entries s.0 k.place k.entry k.there in
         waits_at o r.0 k.entry v r.1 (k.turn, k.waits)
 
-advance_waits : (o n : PendingData) (v : WaiterData) (id moment : ℕ) (r : Bool)
-    → Advances o id moment r n → IsWaiting n v → IsWaiting o v
-advance_waits o n v id moment false a h = subst (λ x. IsWaiting x v) a.1 h
-advance_waits o n v id moment true a h = moved (subst (λ x. IsWaiting x v) a.1.4 h)
+advance_waits : (o n : PendingData) (v : WaiterData) (id now : ℕ) (r : Bool)
+    → Advances o id now r n → IsWaiting n v → IsWaiting o v
+advance_waits o n v id now false a h = subst (λ x. IsWaiting x v) a.1 h
+advance_waits o n v id now true a h = moved (subst (λ x. IsWaiting x v) a.1.4 h)
   where
     moved : IsWaiting
-        (record o { entries = slice_set o.entries a.0 (with_next_upstream a.1.0 moment) }) v
+        (record o { entries = slice_set o.entries a.0 (with_next_upstream a.1.0 now) }) v
         → IsWaiting o v
-    moved k = go (at_set o.entries a.0 k.place (with_next_upstream a.1.0 moment) k.entry k.there)
+    moved k = go (at_set o.entries a.0 k.place (with_next_upstream a.1.0 now) k.entry k.there)
       where
-        go : ((k.place ≡ a.0) × (k.entry ≡ with_next_upstream a.1.0 moment))
+        go : ((k.place ≡ a.0) × (k.entry ≡ with_next_upstream a.1.0 now))
             ⊎ ((k.place ≢ a.0) × At o.entries k.place k.entry) → IsWaiting o v
         go (inl p) =
             waits_at o a.0 a.1.0 v a.1.1 (k.turn, subst (λ x. At x.waiters k.turn v) p.1 k.waits)

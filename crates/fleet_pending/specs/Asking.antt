@@ -27,19 +27,19 @@ with_waiter e w = record e { waiters = e.waiters ++ w ∷ [] }
 -- the entry that a waiter opens: its question, asked of the first upstream, for `TRY_SECONDS` from the
 -- moment
 abbrev pub new_entry : WaiterData → Seconds → ℕ → EntryData
-new_entry w moment id = record {
+new_entry w now id = record {
   name = w.question.name;
   rtype = w.question.rtype;
   id = id;
   upstream = 0;
-  deadline = moment + TRY_SECONDS;
+  deadline = now + TRY_SECONDS;
   waiters = w ∷ [];
 }
 
 -- the entry as it asks the next upstream, under the same id, for `TRY_SECONDS` from the moment
 abbrev pub with_next_upstream : EntryData → Seconds → EntryData
-with_next_upstream e moment =
-    record e { upstream = e.upstream + 1; deadline = moment + TRY_SECONDS }
+with_next_upstream e now =
+    record e { upstream = e.upstream + 1; deadline = now + TRY_SECONDS }
 
 -- the waiter meets an entry for its question: it waits there already, waits there too, or finds no
 -- place or no memory for one
@@ -54,22 +54,22 @@ pub data Joins (e : EntryData) (w : WaiterData) (r : Result Asked PendingFault) 
       → r ≡ Err OutOfMemory → f ≡ e → Joins e w r f
 
 -- the waiter's question is new: where there is room for it, it goes to the first upstream
-pub data Opens (es : List EntryData) (w : WaiterData) (moment : Seconds) (word : ℕ)
+pub data Opens (es : List EntryData) (w : WaiterData) (now : Seconds) (word : ℕ)
     (r : Result Asked PendingFault) (fs : List EntryData) : Type 0 where
   is_sent : (id : ℕ) → length es < MOST_ENTRIES → IsFirstFree word es id → r ≡ Ok (Send 0 id)
-      → fs ≡ es ++ new_entry w moment id ∷ [] → Opens es w moment word r fs
-  no_room : MOST_ENTRIES ≤ length es → r ≡ Err Full → fs ≡ es → Opens es w moment word r fs
+      → fs ≡ es ++ new_entry w now id ∷ [] → Opens es w now word r fs
+  no_room : MOST_ENTRIES ≤ length es → r ≡ Err Full → fs ≡ es → Opens es w now word r fs
   no_memory_for_room : length es < MOST_ENTRIES → r ≡ Err OutOfMemory → fs ≡ es
-      → Opens es w moment word r fs
+      → Opens es w now word r fs
 
 -- what asking answers and leaves: there is an entry for the question, or it is new
-pub data Asks (o : PendingData) (w : WaiterData) (moment : Seconds) (word : ℕ) (r : Result Asked PendingFault)
+pub data Asks (o : PendingData) (w : WaiterData) (now : Seconds) (word : ℕ) (r : Result Asked PendingFault)
     (n : PendingData) : Type 0 where
   joins : (i : ℕ) (e f : EntryData) → At o.entries i e → AsksFor w.question e → Joins e w r f
-      → n ≡ record o { entries = slice_set o.entries i f } → Asks o w moment word r n
+      → n ≡ record o { entries = slice_set o.entries i f } → Asks o w now word r n
   opens : (fs : List EntryData) → NoneIs (AsksFor w.question) o.entries
-      → Opens o.entries w moment word r fs → n ≡ record o { entries = fs }
-      → Asks o w moment word r n
+      → Opens o.entries w now word r fs → n ≡ record o { entries = fs }
+      → Asks o w now word r n
 
 -- what settling answers and leaves: the entry with this id is given back and taken out, or there is
 -- none and nothing changes
@@ -81,9 +81,9 @@ Settles o id (Some e) n =
 -- what advancing answers and leaves: the entry with this id goes on to the next upstream; or there is
 -- none that has a next one, and nothing changes
 abbrev pub Advances : PendingData → ℕ → Seconds → Bool → PendingData → Type 0
-Advances o id moment true n =
+Advances o id now true n =
     (i : ℕ)
     × ((e : EntryData) × At o.entries i e × UsesId id e × (e.upstream + 1 < o.upstreams)
-    × (n ≡ record o { entries = slice_set o.entries i (with_next_upstream e moment) }))
-Advances o id moment false n =
+    × (n ≡ record o { entries = slice_set o.entries i (with_next_upstream e now) }))
+Advances o id now false n =
     NoneIs (λ e. UsesId id e × (e.upstream + 1 < o.upstreams)) o.entries × (n ≡ o)

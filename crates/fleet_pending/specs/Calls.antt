@@ -12,9 +12,9 @@ use Rattle.fleet_pending.specs.declared.answer.PendingFault.{PendingFault}
 
 -- a call that may change the table, with its answer, or with those who waited when it was cleared
 pub data Call : Type 0 where
-  ask : (waiter : WaiterData) → (moment : Seconds) (word : ℕ) → (answer : Result Asked PendingFault) → Call
+  ask : (waiter : WaiterData) → (now : Seconds) (word : ℕ) → (answer : Result Asked PendingFault) → Call
   settle : (id : ℕ) → (answer : Option EntryData) → Call
-  advance : (id : ℕ) (moment : Seconds) → (answer : Bool) → Call
+  advance : (id : ℕ) (now : Seconds) → (answer : Bool) → Call
   clear : (waiters : List WaiterData) → Call
 
 -- all who wait, entry by entry
@@ -23,9 +23,9 @@ open_waiters o = flat_map (λ e. e.waiters) o.entries
 
 -- the call, with its answer, leads from the first table to the second
 abbrev pub Does : PendingData → Call → PendingData → Type 0
-Does o (ask w moment word r) n = Asks o w moment word r n
+Does o (ask w now word r) n = Asks o w now word r n
 Does o (settle id r) n = Settles o id r n
-Does o (advance id moment r) n = Advances o id moment r n
+Does o (advance id now r) n = Advances o id now r n
 Does o (clear ws) n = (ws ≡ open_waiters o) × (n ≡ record o { entries = [] })
 
 -- the calls lead from the first table to the second, one after another
@@ -35,27 +35,27 @@ Run o (c ∷ cs) n = (mid : PendingData) × Does o c mid × Run mid cs n
 
 -- the waiters that a call accepted
 abbrev pub waiters_accepted : Call → List WaiterData
-waiters_accepted (ask w moment word (Ok Again)) = []
-waiters_accepted (ask w moment word (Ok Joined)) = w ∷ []
-waiters_accepted (ask w moment word (Ok (Send upstream id))) = w ∷ []
-waiters_accepted (ask w moment word (Err f)) = []
+waiters_accepted (ask w now word (Ok Again)) = []
+waiters_accepted (ask w now word (Ok Joined)) = w ∷ []
+waiters_accepted (ask w now word (Ok (Send upstream id))) = w ∷ []
+waiters_accepted (ask w now word (Err f)) = []
 waiters_accepted (settle id r) = []
-waiters_accepted (advance id moment r) = []
+waiters_accepted (advance id now r) = []
 waiters_accepted (clear ws) = []
 
 -- the waiters that a call gave back with their entry
 abbrev pub waiters_returned : Call → List WaiterData
-waiters_returned (ask w moment word r) = []
+waiters_returned (ask w now word r) = []
 waiters_returned (settle id (Some e)) = e.waiters
 waiters_returned (settle id None) = []
-waiters_returned (advance id moment r) = []
+waiters_returned (advance id now r) = []
 waiters_returned (clear ws) = []
 
 -- the waiters that a call cleared away
 abbrev pub waiters_cleared : Call → List WaiterData
-waiters_cleared (ask w moment word r) = []
+waiters_cleared (ask w now word r) = []
 waiters_cleared (settle id r) = []
-waiters_cleared (advance id moment r) = []
+waiters_cleared (advance id now r) = []
 waiters_cleared (clear ws) = ws
 
 -- those who waited at first and those accepted are those given back, those cleared away and those

@@ -13,23 +13,23 @@ NotAfter a b = (a.deadline < b.deadline) ⊎ ((a.deadline ≡ b.deadline) × (a.
 
 -- e is the entry that is due first at this moment: the one with the least deadline, and of these with
 -- the least id
-pub record IsFirstDue (es : List EntryData) (moment : Seconds) (e : EntryData) : Type 0 where
+pub record IsFirstDue (es : List EntryData) (now : Seconds) (e : EntryData) : Type 0 where
   pub place : ℕ
   pub there : At es place e
-  pub due : e.deadline ≤ moment
-  pub first : (j : ℕ) (f : EntryData) → At es j f → f.deadline ≤ moment → NotAfter e f
+  pub due : e.deadline ≤ now
+  pub first : (j : ℕ) (f : EntryData) → At es j f → f.deadline ≤ now → NotAfter e f
 
 -- no entry is due at this moment
 abbrev pub NoneDue : List EntryData → Seconds → Type 0
-NoneDue es moment = NoneIs (λ e. e.deadline ≤ moment) es
+NoneDue es now = NoneIs (λ e. e.deadline ≤ now) es
 
 -- what is to be done first at a moment: nothing, the next upstream for the first due entry, or its
 -- failure after the last
 abbrev pub Dues : {A : Type 0} → PendingData → Seconds → Option (Due A) → Type 0
-Dues o moment None = NoneDue o.entries moment
-Dues o moment (Some (Retry upstream id e)) = IsFirstDue o.entries moment e.now
+Dues o now None = NoneDue o.entries now
+Dues o now (Some (Retry upstream id e)) = IsFirstDue o.entries now e.now
     × (id ≡ e.now.id) × (upstream ≡ e.now.upstream + 1) × (upstream < o.upstreams)
-Dues o moment (Some (Failed id e)) = IsFirstDue o.entries moment e.now × (id ≡ e.now.id)
+Dues o now (Some (Failed id e)) = IsFirstDue o.entries now e.now × (id ≡ e.now.id)
     × (o.upstreams ≤ e.now.upstream + 1)
 
 -- the entry that is due
@@ -39,7 +39,7 @@ due_entry (Failed id e) = e.now
 
 -- how many are due at this moment
 abbrev pub due_at : PendingData → Seconds → ℕ
-due_at o moment = count_by (λ e. nat_le e.deadline moment) o.entries
+due_at o now = count_by (λ e. nat_le e.deadline now) o.entries
 
 -- What follows, private contracts alone cite.
 

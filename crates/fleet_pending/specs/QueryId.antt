@@ -33,6 +33,6 @@ IsAskedUnder None r = (upstream id : ℕ) → r ≢ Ok (Send upstream id)
 -- asking agrees with the id that `query_id` returns
 abbrev pub AsksUnderQueryId : Type 0
 AsksUnderQueryId =
-    (o n : PendingData) (w : WaiterData) (moment : Seconds) (word : ℕ) (id : Option ℕ)
-    (r : Result Asked PendingFault) → IsQueryId o w.question word id → Asks o w moment word r n
+    (o n : PendingData) (w : WaiterData) (now : Seconds) (word : ℕ) (id : Option ℕ)
+    (r : Result Asked PendingFault) → IsQueryId o w.question word id → Asks o w now word r n
     → IsAskedUnder id r

@@ -30,5 +30,5 @@ pub record RefusesWhere (o : PendingData) (w : WaiterData) (r : Result Asked Pen
 -- `Full` and `WaitersFull` come exactly where they should
 abbrev pub RefusesExactly : Type 0
 RefusesExactly =
-    (o n : PendingData) (w : WaiterData) (moment : Seconds) (word : ℕ) (r : Result Asked PendingFault)
-    → IsPendingData o → Asks o w moment word r n → RefusesWhere o w r
+    (o n : PendingData) (w : WaiterData) (now : Seconds) (word : ℕ) (r : Result Asked PendingFault)
+    → IsPendingData o → Asks o w now word r n → RefusesWhere o w r

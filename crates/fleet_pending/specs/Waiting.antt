@@ -19,10 +19,10 @@ pub record IsWaiting (o : PendingData) (w : WaiterData) : Type 0 where
 
 -- who waits afterwards waited before, or is the one who asked
 pub record WaitersStay : Type 0 where
-  pub asking : (o n : PendingData) (w v : WaiterData) (moment : Seconds) (word : ℕ)
-      (r : Result Asked PendingFault) → Asks o w moment word r n
+  pub asking : (o n : PendingData) (w v : WaiterData) (now : Seconds) (word : ℕ)
+      (r : Result Asked PendingFault) → Asks o w now word r n
       → IsWaiting n v → IsWaiting o v ⊎ (v ≡ w)
   pub settling : (o n : PendingData) (v : WaiterData) (id : ℕ) (r : Option EntryData)
       → Settles o id r n → IsWaiting n v → IsWaiting o v
-  pub advancing : (o n : PendingData) (v : WaiterData) (id : ℕ) (moment : Seconds) (r : Bool)
-      → Advances o id moment r n → IsWaiting n v → IsWaiting o v
+  pub advancing : (o n : PendingData) (v : WaiterData) (id : ℕ) (now : Seconds) (r : Bool)
+      → Advances o id now r n → IsWaiting n v → IsWaiting o v

@@ -49,10 +49,10 @@ impl<A: Allocator> Model for Entry<A> {
 pub(crate) fn make_entry<A: Allocator + Copy>(
     alloc: A,
     waiter: Waiter<A>,
-    moment: Moment,
+    now: Moment,
     id: u16,
 ) -> Result<Entry<A>, Waiter<A>>
-    ensures { MatchResult result (λ e. e ≡ new_entry waiter moment id) (λ w. w ≡ waiter) }
+    ensures { MatchResult result (λ e. e ≡ new_entry waiter now id) (λ w. w ≡ waiter) }
 {
     let name = match waiter.question.name.try_clone() {
         Ok(name) => name,
@@ -65,7 +65,7 @@ pub(crate) fn make_entry<A: Allocator + Copy>(
             rtype,
             id,
             upstream: 0,
-            deadline: moment.value() + TRY_SECONDS,
+            deadline: now.value() + TRY_SECONDS,
             waiters,
         }),
         Err(failed) => Err(failed.value),

@@ -83,10 +83,10 @@ impl<A: Allocator> Pending<A> {
     ///
     /// `WaitersFull`, `Full`, and `OutOfMemory` where the allocation for a new entry or waiter
     /// fails. Each changes nothing, and hands the waiter back.
-    pub fn ask(&mut self, waiter: Waiter<A>, moment: Moment, word: u16) -> Result<Asked, Unasked<A>>
+    pub fn ask(&mut self, waiter: Waiter<A>, now: Moment, word: u16) -> Result<Asked, Unasked<A>>
     where
         A: Copy,
-        ensures asks { Asks self.old waiter moment word (ask_result result) self.new }
+        ensures asks { Asks self.old waiter now word (ask_result result) self.new }
         ensures back { IfErr result (λ u. u.waiter ≡ waiter) }
         ensures unchanged { OnErr result (self.new ≡ self.old) }
         ensures upstreams { self.new.upstreams ≡ self.old.upstreams }
@@ -95,8 +95,8 @@ impl<A: Allocator> Pending<A> {
         match place_of_question(self.entries.as_slice(), &waiter.question) {
             Some(i) => join(&mut self.entries[i], waiter),
             None => {
-                self.soonest = self.soonest.min(moment.value() + TRY_SECONDS);
-                add_entry(&mut self.entries, waiter, moment, word)
+                self.soonest = self.soonest.min(now.value() + TRY_SECONDS);
+                add_entry(&mut self.entries, waiter, now, word)
             }
         }
     }
@@ -112,21 +112,21 @@ impl<A: Allocator> Pending<A> {
     pub fn open(
         &mut self,
         waiter: Waiter<A>,
-        moment: Moment,
+        now: Moment,
         word: u16,
         id: u16,
     ) -> Result<Asked, Unasked<A>>
     where
         A: Copy,
         requires { IsQueryId self.old waiter.question word (Some id) }
-        ensures asks { Asks self.old waiter moment word (ask_result result) self.new }
+        ensures asks { Asks self.old waiter now word (ask_result result) self.new }
         ensures back { IfErr result (λ u. u.waiter ≡ waiter) }
         ensures unchanged { OnErr result (self.new ≡ self.old) }
         ensures upstreams { self.new.upstreams ≡ self.old.upstreams }
         ensures lawful { IsPendingData self.new }
     {
-        self.soonest = self.soonest.min(moment.value() + TRY_SECONDS);
-        enter(&mut self.entries, waiter, moment, id)
+        self.soonest = self.soonest.min(now.value() + TRY_SECONDS);
+        enter(&mut self.entries, waiter, now, id)
     }
 
     /// The id of the query that asking would send now, with the same word; `None` where an entry has
@@ -197,17 +197,17 @@ impl<A: Allocator> Pending<A> {
     /// deadline is not after the moment. The one with the least deadline comes first, and of these
     /// the one with the least id. It is to be asked of the next upstream, or has failed after the
     /// last.
-    pub fn due(&self, moment: Moment) -> Option<Due<'_, A>>
-        ensures dues { Dues self.now moment result }
+    pub fn due(&self, now: Moment) -> Option<Due<'_, A>>
+        ensures dues { Dues self.now now result }
         ensures is_open { IfSome result (λ d. IsEntryData (due_entry d)) }
-        ensures count { MatchOption result (due_at self.now moment ≡ 0)
-            (λ _. 0 < due_at self.now moment) }
+        ensures count { MatchOption result (due_at self.now now ≡ 0)
+            (λ _. 0 < due_at self.now now) }
         ensures lawful { IsPendingData self.now }
     {
-        if moment.value() < self.soonest {
+        if now.value() < self.soonest {
             return None;
         }
-        let entry = first_due_entry(self.entries.as_slice(), moment.value())?;
+        let entry = first_due_entry(self.entries.as_slice(), now.value())?;
         let id = entry.id;
         let upstream = entry.upstream + 1;
         if upstream < self.upstreams {
@@ -226,18 +226,18 @@ impl<A: Allocator> Pending<A> {
     /// Looks for the first deadline, where one may have passed by a moment. Who was told by `due` that
     /// no entry is due then calls this, so that `due` looks at none before the deadline that comes
     /// next. Nothing changes that is seen.
-    pub fn look_ahead(&mut self, moment: Moment)
+    pub fn look_ahead(&mut self, now: Moment)
         ensures { self.new ≡ self.old }
     {
-        if self.soonest <= moment.value() {
+        if self.soonest <= now.value() {
             self.soonest = soonest_of(self.entries.as_slice());
         }
     }
 
     /// Moves the entry with an id to the next upstream; its time is over 2 seconds after the
     /// moment. `false` where there is no such entry or no further upstream: then nothing changes.
-    pub fn advance(&mut self, id: u16, moment: Moment) -> bool
-        ensures advances { Advances self.old id moment result self.new }
+    pub fn advance(&mut self, id: u16, now: Moment) -> bool
+        ensures advances { Advances self.old id now result self.new }
         ensures upstreams { self.new.upstreams ≡ self.old.upstreams }
         ensures lawful { IsPendingData self.new }
     {
@@ -245,8 +245,8 @@ impl<A: Allocator> Pending<A> {
             Some(i) => {
                 let next = self.entries[i].upstream + 1;
                 if next < self.upstreams {
-                    self.soonest = self.soonest.min(moment.value() + TRY_SECONDS);
-                    move_on(&mut self.entries[i], moment);
+                    self.soonest = self.soonest.min(now.value() + TRY_SECONDS);
+                    move_on(&mut self.entries[i], now);
                     true
                 } else {
                     false
@@ -258,12 +258,12 @@ impl<A: Allocator> Pending<A> {
 }
 
 /// The entry goes on to the next upstream.
-fn move_on<A: Allocator>(entry: &mut Entry<A>, moment: Moment)
+fn move_on<A: Allocator>(entry: &mut Entry<A>, now: Moment)
     requires { entry.old.upstream < MOST_UPSTREAMS }
-    ensures { entry.new ≡ with_next_upstream entry.old moment }
+    ensures { entry.new ≡ with_next_upstream entry.old now }
 {
     entry.upstream += 1;
-    entry.deadline = moment.value() + TRY_SECONDS;
+    entry.deadline = now.value() + TRY_SECONDS;
 }
 
 /// Whether a reply from an upstream with this question is for the entry.
@@ -280,10 +280,10 @@ fn matches<A: Allocator>(entry: &Entry<A>, upstream: u8, question: &Question<A>)
 fn add_entry<A: Allocator + Copy>(
     entries: &mut Vec<Entry<A>, A>,
     waiter: Waiter<A>,
-    moment: Moment,
+    now: Moment,
     word: u16,
 ) -> Result<Asked, Unasked<A>>
-    ensures opens { Opens entries.old.items waiter moment word (ask_result result)
+    ensures opens { Opens entries.old.items waiter now word (ask_result result)
         entries.new.items }
     ensures back { IfErr result (λ u. u.waiter ≡ waiter) }
 {
@@ -292,7 +292,7 @@ fn add_entry<A: Allocator + Copy>(
         return Err(Unasked { fault, waiter });
     }
     let id = first_free_id(entries.as_slice(), word);
-    enter(entries, waiter, moment, id)
+    enter(entries, waiter, now, id)
 }
 
 /// Opens an entry under an id for a waiter whose question is new. All memory is taken before anything
@@ -300,19 +300,19 @@ fn add_entry<A: Allocator + Copy>(
 fn enter<A: Allocator + Copy>(
     entries: &mut Vec<Entry<A>, A>,
     waiter: Waiter<A>,
-    moment: Moment,
+    now: Moment,
     id: u16,
 ) -> Result<Asked, Unasked<A>>
     requires few { length entries.old.items < MOST_ENTRIES }
     ensures opens { (word : ℕ) → IsFirstFree word entries.old.items id
-        → Opens entries.old.items waiter moment word (ask_result result) entries.new.items }
+        → Opens entries.old.items waiter now word (ask_result result) entries.new.items }
     ensures back { IfErr result (λ u. u.waiter ≡ waiter) }
 {
     let fault = PendingFault::OutOfMemory;
     if let Err(_) = entries.reserve(1) {
         return Err(Unasked { fault, waiter });
     }
-    match make_entry(*entries.allocator(), waiter, moment, id) {
+    match make_entry(*entries.allocator(), waiter, now, id) {
         Ok(entry) => {
             entries.push_reserved(entry);
             Ok(Asked::Send { upstream: 0, id })

@@ -76,13 +76,13 @@ fn mark_taken<A: Allocator>(entries: &[Entry<A>], word: u16) -> [bool; MOST_ENTR
 
 /// The entry that is to be served first: of those that are due, the one with the least deadline,
 /// and of these the one with the least id.
-pub(crate) fn first_due_entry<A: Allocator>(entries: &[Entry<A>], moment: u64) -> Option<&Entry<A>>
-    ensures { MatchOption result (NoneDue entries.now moment)
-        (λ e. IsFirstDue entries.now moment e.now) }
+pub(crate) fn first_due_entry<A: Allocator>(entries: &[Entry<A>], now: u64) -> Option<&Entry<A>>
+    ensures { MatchOption result (NoneDue entries.now now)
+        (λ e. IsFirstDue entries.now now e.now) }
 {
     let mut first: Option<&Entry<A>> = None;
     for entry in entries {
-        if replaces(first, entry, moment) {
+        if replaces(first, entry, now) {
             first = Some(entry);
         }
     }
@@ -90,11 +90,11 @@ pub(crate) fn first_due_entry<A: Allocator>(entries: &[Entry<A>], moment: u64) -
 }
 
 /// Whether this entry is due, and before the first one so far.
-fn replaces<A: Allocator>(first: Option<&Entry<A>>, entry: &Entry<A>, moment: u64) -> bool
-    ensures { IsTrue result ↔ ((entry.now.deadline ≤ moment)
+fn replaces<A: Allocator>(first: Option<&Entry<A>>, entry: &Entry<A>, now: u64) -> bool
+    ensures { IsTrue result ↔ ((entry.now.deadline ≤ now)
         × MatchOption first.entry (Unit {0}) (λ o. IsBefore entry.now o.now)) }
 {
-    if entry.deadline > moment {
+    if entry.deadline > now {
         return false;
     }
     match first {

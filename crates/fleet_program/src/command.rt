@@ -36,12 +36,12 @@ pub enum Command<'a> {
         other: usize,
     },
     /// Something happens in the world.
-    Step(Step<'a>),
+    Event(EventLine<'a>),
 }
 
 /// An event of the world, its octets still as the line spells them.
 #[derive(Drop)]
-pub enum Step<'a> {
+pub enum EventLine<'a> {
     /// A site is handed a reply.
     Learn {
         site: usize,
@@ -94,27 +94,27 @@ pub enum Step<'a> {
     },
 }
 
-impl Step<'_> {
+impl EventLine<'_> {
     /// The site at which an event happens; of a merge, the greater number of the two, so that both are
     /// there where it is.
     pub fn site(&self) -> usize {
         match self {
-            Step::Learn { site, .. } => *site,
-            Step::Flush { site, .. } => *site,
-            Step::Datagram { site, .. } => *site,
-            Step::Frame { site, .. } => *site,
-            Step::Deliver { site, .. } => *site,
-            Step::Tick { site, .. } => *site,
-            Step::Sweep { site } => *site,
-            Step::Merge { into, from } => usize::max(*into, *from),
-            Step::Restart { site } => *site,
+            EventLine::Learn { site, .. } => *site,
+            EventLine::Flush { site, .. } => *site,
+            EventLine::Datagram { site, .. } => *site,
+            EventLine::Frame { site, .. } => *site,
+            EventLine::Deliver { site, .. } => *site,
+            EventLine::Tick { site, .. } => *site,
+            EventLine::Sweep { site } => *site,
+            EventLine::Merge { into, from } => usize::max(*into, *from),
+            EventLine::Restart { site } => *site,
         }
     }
 
     /// The number of the frame that comes in, if it was sent before.
     pub fn frame(&self) -> Option<usize> {
         match self {
-            Step::Deliver { frame, .. } => Some(*frame),
+            EventLine::Deliver { frame, .. } => Some(*frame),
             _ => None,
         }
     }
@@ -122,17 +122,17 @@ impl Step<'_> {
     /// Makes the event itself, with its octets.
     pub fn event<A: Allocator + Copy>(self, alloc: A) -> Result<Event<A>, AllocError> {
         Ok(match self {
-            Step::Learn { site, now, reply } => Event::Learn {
+            EventLine::Learn { site, now, reply } => Event::Learn {
                 site,
                 now,
                 bytes: reply.octets(alloc)?,
             },
-            Step::Flush { site, now, name } => Event::Flush {
+            EventLine::Flush { site, now, name } => Event::Flush {
                 site,
                 now,
                 name: name.name(alloc)?,
             },
-            Step::Datagram {
+            EventLine::Datagram {
                 site,
                 now,
                 from,
@@ -145,16 +145,16 @@ impl Step<'_> {
                 word,
                 bytes: octets.octets(alloc)?,
             },
-            Step::Frame { site, now, octets } => Event::Frame {
+            EventLine::Frame { site, now, octets } => Event::Frame {
                 site,
                 now,
                 bytes: octets.octets(alloc)?,
             },
-            Step::Deliver { site, now, frame } => Event::Deliver { site, now, frame },
-            Step::Tick { site, now } => Event::Tick { site, now },
-            Step::Sweep { site } => Event::Sweep { site },
-            Step::Merge { into, from } => Event::Merge { into, from },
-            Step::Restart { site } => Event::Restart { site },
+            EventLine::Deliver { site, now, frame } => Event::Deliver { site, now, frame },
+            EventLine::Tick { site, now } => Event::Tick { site, now },
+            EventLine::Sweep { site } => Event::Sweep { site },
+            EventLine::Merge { into, from } => Event::Merge { into, from },
+            EventLine::Restart { site } => Event::Restart { site },
         })
     }
 }
@@ -171,7 +171,7 @@ fn first_words(line: &str) -> ArrayVec<&str, 7>
 }
 
 // Lets through: another command than the line's words ask for, since it has no clause; so have
-// `read_step`, `read_arrival` and `word_fault`. The worked examples and each fault of a line
+// `read_event`, `read_arrival` and `word_fault`. The worked examples and each fault of a line
 // (`tests/run`) see it.
 /// Reads a line: what it asks for, or its first fault, word by word from the left.
 pub fn read_command(line: &str) -> Result<Command<'_>, LineFault> {
@@ -192,25 +192,25 @@ pub fn read_command(line: &str) -> Result<Command<'_>, LineFault> {
             one: number_word(one)?,
             other: number_word(other)?,
         }),
-        words => Ok(Command::Step(read_step(words)?)),
+        words => Ok(Command::Event(read_event(words)?)),
     }
 }
 
 /// Reads the words of a line as an event.
-fn read_step<'a>(words: &[&'a str]) -> Result<Step<'a>, LineFault> {
+fn read_event<'a>(words: &[&'a str]) -> Result<EventLine<'a>, LineFault> {
     match words {
-        ["tick", site, now] => Ok(Step::Tick {
+        ["tick", site, now] => Ok(EventLine::Tick {
             site: number_word(site)?,
             now: moment_word(now)?,
         }),
-        ["sweep", site] => Ok(Step::Sweep {
+        ["sweep", site] => Ok(EventLine::Sweep {
             site: number_word(site)?,
         }),
-        ["merge", into, from] => Ok(Step::Merge {
+        ["merge", into, from] => Ok(EventLine::Merge {
             into: number_word(into)?,
             from: number_word(from)?,
         }),
-        ["restart", site] => Ok(Step::Restart {
+        ["restart", site] => Ok(EventLine::Restart {
             site: number_word(site)?,
         }),
         words => read_arrival(words),
@@ -218,31 +218,31 @@ fn read_step<'a>(words: &[&'a str]) -> Result<Step<'a>, LineFault> {
 }
 
 /// Reads the words of a line as something that comes to a site.
-fn read_arrival<'a>(words: &[&'a str]) -> Result<Step<'a>, LineFault> {
+fn read_arrival<'a>(words: &[&'a str]) -> Result<EventLine<'a>, LineFault> {
     match words {
-        ["learn", site, now, reply] => Ok(Step::Learn {
+        ["learn", site, now, reply] => Ok(EventLine::Learn {
             site: number_word(site)?,
             now: moment_word(now)?,
             reply: hex_word(reply)?,
         }),
-        ["flush", site, now, name] => Ok(Step::Flush {
+        ["flush", site, now, name] => Ok(EventLine::Flush {
             site: number_word(site)?,
             now: moment_word(now)?,
             name: name_word(name)?,
         }),
-        ["datagram", site, now, from, word, octets] => Ok(Step::Datagram {
+        ["datagram", site, now, from, word, octets] => Ok(EventLine::Datagram {
             site: number_word(site)?,
             now: moment_word(now)?,
             from: address(from).ok_or(LineFault::BadAddress)?,
             word: word_of_16_bits(word).ok_or(LineFault::BadNumber)?,
             octets: hex_word(octets)?,
         }),
-        ["frame", site, now, octets] => Ok(Step::Frame {
+        ["frame", site, now, octets] => Ok(EventLine::Frame {
             site: number_word(site)?,
             now: moment_word(now)?,
             octets: hex_word(octets)?,
         }),
-        ["deliver", site, now, frame] => Ok(Step::Deliver {
+        ["deliver", site, now, frame] => Ok(EventLine::Deliver {
             site: number_word(site)?,
             now: moment_word(now)?,
             frame: number_word(frame)?,

@@ -2,7 +2,7 @@
 
 ghost use Rattle.std.specs.Prelude.{◌<◌, IfErr};
 
-use crate::command::{Command, Step, read_command};
+use crate::command::{Command, EventLine, read_command};
 use crate::fault::{LineFault, ScriptFault};
 use crate::fleet::Fleet;
 use crate::lines::Lines;
@@ -53,7 +53,7 @@ impl<A: Allocator + Copy> Script<A> {
             } => self.ask(site, now, &question),
             Command::Show { site } => self.show(site),
             Command::Same { one, other } => self.compare(one, other),
-            Command::Step(step) => self.step(step),
+            Command::Event(line) => self.run_event(line),
         }
     }
 
@@ -90,13 +90,13 @@ impl<A: Allocator + Copy> Script<A> {
     }
 
     /// Lets something happen in the world.
-    fn step(&mut self, step: Step<'_>) -> Result<(), LineFault> {
-        self.fleet.check_site(step.site())?;
-        if let Some(frame) = step.frame() {
+    fn run_event(&mut self, line: EventLine<'_>) -> Result<(), LineFault> {
+        self.fleet.check_site(line.site())?;
+        if let Some(frame) = line.frame() {
             self.fleet.check_frame(frame)?;
         }
         let world = self.fleet.world()?;
-        let event = step.event(self.alloc)?;
+        let event = line.event(self.alloc)?;
         let stepped = world.step(&event)?;
         print_stepped(&mut self.out, world, &event, &stepped)?;
         Ok(())

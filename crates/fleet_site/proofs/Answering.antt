@@ -23,7 +23,7 @@ use Rattle.fleet_pending.specs.declared.addr.Addr.{Addr}
 use Rattle.fleet_site.specs.OutcomeData.{OutcomeData, packet_to}
 use Rattle.fleet_site.specs.SiteModel.{SiteModel, Effect}
 use Rattle.fleet_site.specs.Step.{tick, Step}
-use Rattle.fleet_site.specs.question.Verdict.{Verdict, Silence, Answer, Unreadable, Unknown, IsAsking}
+use Rattle.fleet_site.specs.question.Decision.{DecisionData, Dropped, Reply, Unread, Miss, IsAsking}
 use Rattle.fleet_site.specs.question.Question.{waiter, Forwarded, is_asked, is_quiet, is_turned_away, Forwards, Reacts}
 use Rattle.fleet_site.specs.server.Turn.{TurnStep, TurnStepSays, Action, ActionsLead, Ticks, no_tick, next_tick}
 use Rattle.fleet_site.specs.server.Sending.{goes_on}
@@ -185,17 +185,17 @@ forwarded m n t word from octets h q e d says asking missed wants f = go f.says
         ∙ ap (λ (o : OutcomeData). o.packets) is)
         (bare_replies octets h q _ missed)
 
-reacted : (m n : SiteModel) (t word : ℕ) (from : Addr) (octets : List ℕ) (v : Verdict)
+reacted : (m n : SiteModel) (t word : ℕ) (from : Addr) (octets : List ℕ) (v : DecisionData)
     (e : OutcomeData) (d : Effect) → e ≡ d.says → n.pending ≡ d.asking → IsAsking octets
     → Suits octets v → Reacts m.upstreams m.pending t from word v d → RepliesOrWaits m from octets e n
-reacted m n t word from octets Silence e d says asking asks suits h = absurd (suits asks)
-reacted m n t word from octets (Answer reply) e d says asking asks suits h =
+reacted m n t word from octets Dropped e d says asking asks suits h = absurd (suits asks)
+reacted m n t word from octets (Reply reply) e d says asking asks suits h =
     now_replied m from octets reply e n d _ says h refl suits
-reacted m n t word from octets (Unreadable reply f) e d says asking asks suits h =
+reacted m n t word from octets (Unread reply f) e d says asking asks suits h =
     now_replied m from octets reply e n d _ says h refl suits
-reacted m n t word from octets (Unknown h q) e d says asking asks suits (inl k) =
+reacted m n t word from octets (Miss h q) e d says asking asks suits (inl k) =
     now_replied m from octets _ e n d _ says k.1 refl (bare_replies octets h q _ suits)
-reacted m n t word from octets (Unknown h q) e d says asking asks suits (inr k) =
+reacted m n t word from octets (Miss h q) e d says asking asks suits (inr k) =
     forwarded m n t word from octets h q e d says asking suits k.0 k.1
 
 pub all_reply_or_wait : AllReplyOrWait

@@ -51,7 +51,7 @@ given_later : (first b last : ServerState) (k : ℕ) (from : Addr) (octets : Lis
 given_later first b last k from octets t word every turn g = record {
   a = g.a;
   b = g.b;
-  moment = g.moment;
+  now = g.now;
   word = g.word;
   every = g.every;
   before = g.before;
@@ -65,10 +65,10 @@ given_later first b last k from octets t word every turn g = record {
 pub arrivals_are_given : ArrivalsAreGiven
 arrivals_are_given first last k from octets no_turn later h =
     absurd (omega (arith, later, before_end last.calls k (Received h.0 from octets) h.1))
-arrivals_are_given first last k from octets (one_turn {b = b} moment word every before turn) later h =
+arrivals_are_given first last k from octets (one_turn {b = b} now word every before turn) later h =
     elim (at_parts b.calls (turn.arrival ∷ calls_of (turn.given ++ (turn.ticks ++ turn.sweep))) k
     (Received h.0 from octets) there) [
-      | inl l ↦ given_later first b last k from octets moment word every turn
+      | inl l ↦ given_later first b last k from octets now word every turn
           (arrivals_are_given first b k from octets before later (h.0, l))
       | inr r ↦ behind r.0 r.1 r.2
     ]
@@ -83,7 +83,7 @@ arrivals_are_given first last k from octets (one_turn {b = b} moment word every 
     behind zero e t = record {
       a = b;
       b = last;
-      moment = moment;
+      now = now;
       word = word;
       every = every;
       before = before;

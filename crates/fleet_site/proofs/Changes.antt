@@ -16,7 +16,7 @@ use Rattle.fleet_site.specs.PacketData.{PacketData}
 use Rattle.fleet_site.specs.OutcomeData.{OutcomeData}
 use Rattle.fleet_site.specs.SiteModel.{SiteModel, Effect}
 use Rattle.fleet_site.specs.Step.{Call, datagram, tick, frame, learn, flush, Dispatches, with_call_begun, Does, Stops}
-use Rattle.fleet_site.specs.question.Verdict.{Verdict, Silence, Answer, Unreadable, Unknown}
+use Rattle.fleet_site.specs.question.Decision.{DecisionData, Dropped, Reply, Unread, Miss}
 use Rattle.fleet_site.specs.question.Question.{waiter, Reacts}
 use Rattle.fleet_site.specs.reply.Reply.{relay_to, Replied}
 use Rattle.fleet_site.specs.reply.Learn.{Learnt}
@@ -59,13 +59,13 @@ stays : (m : SiteModel) (t : ℕ) (x : TurnStep) (d y : Effect) → d ≡ y → 
 stays m t x d y e same = unchanged (ap (λ (z : Effect). z.asking) e ∙ same)
 
 reacts : (m : SiteModel) (x : TurnStep) (t word : ℕ) (from : Addr) (octets : List ℕ)
-    (v : Verdict) (d : Effect) → Suits octets v
+    (v : DecisionData) (d : Effect) → Suits octets v
     → Reacts m.upstreams m.pending t from word v d → ChangeOf m t x d
-reacts m x t word from octets Silence d suits e = stays m t x d _ e refl
-reacts m x t word from octets (Answer reply) d suits e = stays m t x d _ e refl
-reacts m x t word from octets (Unreadable reply f) d suits e = stays m t x d _ e refl
-reacts m x t word from octets (Unknown h q) d suits (inl e) = stays m t x d _ e.1 refl
-reacts m x t word from octets (Unknown h q) d suits (inr e) =
+reacts m x t word from octets Dropped d suits e = stays m t x d _ e refl
+reacts m x t word from octets (Reply reply) d suits e = stays m t x d _ e refl
+reacts m x t word from octets (Unread reply f) d suits e = stays m t x d _ e refl
+reacts m x t word from octets (Miss h q) d suits (inl e) = stays m t x d _ e.1 refl
+reacts m x t word from octets (Miss h q) d suits (inr e) =
     is_asked (waiter from h q) word e.1.answer
     (question_read octets 12 q suits.past suits.query.question, suits.class) e.1.asks
 

@@ -19,7 +19,7 @@ use Rattle.fleet_pending.specs.declared.answer.PendingFault.{PendingFault}
 use Rattle.fleet_pending.specs.declared.addr.Addr.{Addr}
 use Rattle.fleet_site.specs.ConfigData.{ConfigData}
 use Rattle.fleet_site.specs.PacketData.{PacketData}
-use Rattle.fleet_site.specs.question.Verdict.{IsAsking}
+use Rattle.fleet_site.specs.question.Decision.{IsAsking}
 use Rattle.fleet_site.specs.server.Replies.{IsClient, RepliesTo}
 use Rattle.fleet_site.specs.reply.Reply.{relay_to}
 use Rattle.fleet_site.specs.Tick.{failure_to}
@@ -128,11 +128,11 @@ set_waiters o i e f t same =
     let s = split_at o.entries i e t in
     s.written f ∙ ap (λ ws. s.before ++ (ws ++ s.behind)) same ∙ sym s.whole
 
-pub advanced : (o n : PendingData) (id moment : ℕ) → Advances o id moment true n
+pub advanced : (o n : PendingData) (id now : ℕ) → Advances o id now true n
     → open_waiters n ≡ open_waiters o
-advanced o n id moment a =
+advanced o n id now a =
     ap open_waiters a.1.4
-    ∙ set_waiters o a.0 a.1.0 (with_next_upstream a.1.0 moment) a.1.1 refl
+    ∙ set_waiters o a.0 a.1.0 (with_next_upstream a.1.0 now) a.1.1 refl
 
 -- an entry that is settled, with a reply for each of its waiters
 pub settled : (c : ConfigData) (arrived : Option (Addr × List ℕ)) (o n : PendingData) (id : ℕ)
@@ -184,24 +184,24 @@ joining_joined o i e f w r t (no_place new many is same) =
 joining_joined o i e f w r t (no_memory_for_place new few is same) =
     nobody (set_waiters o i e f t (ap (λ x. x.waiters) same))
 
-joining_opened : (o : PendingData) (fs : List EntryData) (w : WaiterData) (moment word : ℕ)
-    (r : Result Opened PendingFault) → Opens o.entries w moment word r fs
+joining_opened : (o : PendingData) (fs : List EntryData) (w : WaiterData) (now word : ℕ)
+    (r : Result Opened PendingFault) → Opens o.entries w now word r fs
     → Joining (open_waiters o) (open_waiters (record o { entries = fs })) w r
-joining_opened o fs w moment word r (is_sent id few free is more) =
+joining_opened o fs w now word r (is_sent id few free is more) =
     one_more (open_waiters o) [] (sym (append-nil (open_waiters o)))
     (ap (λ es. flat_map (λ x. x.waiters) es) more
-    ∙ flat_map-append (λ x. x.waiters) o.entries (new_entry w moment id ∷ []))
+    ∙ flat_map-append (λ x. x.waiters) o.entries (new_entry w now id ∷ []))
     (λ x no. let q : Ok (Send 0 id) ≡ Err x = sym is ∙ no in cc)
-joining_opened o fs w moment word r (no_room many is same) =
+joining_opened o fs w now word r (no_room many is same) =
     nobody (ap (λ es. flat_map (λ x. x.waiters) es) same)
-joining_opened o fs w moment word r (no_memory_for_room few is same) =
+joining_opened o fs w now word r (no_memory_for_room few is same) =
     nobody (ap (λ es. flat_map (λ x. x.waiters) es) same)
 
-pub joining : (o n : PendingData) (w : WaiterData) (moment word : ℕ) (r : Result Opened PendingFault)
-    → Asks o w moment word r n → Joining (open_waiters o) (open_waiters n) w r
-joining o n w moment word r (joins i e f t a j q) =
+pub joining : (o n : PendingData) (w : WaiterData) (now word : ℕ) (r : Result Opened PendingFault)
+    → Asks o w now word r n → Joining (open_waiters o) (open_waiters n) w r
+joining o n w now word r (joins i e f t a j q) =
     subst (λ (x : PendingData). Joining (open_waiters o) (open_waiters x) w r) (sym q)
     (joining_joined o i e f w r t j)
-joining o n w moment word r (opens fs a j q) =
+joining o n w now word r (opens fs a j q) =
     subst (λ (x : PendingData). Joining (open_waiters o) (open_waiters x) w r) (sym q)
-    (joining_opened o fs w moment word r j)
+    (joining_opened o fs w now word r j)

@@ -18,7 +18,7 @@ use Rattle.fleet_wire.specs.declared.header.Header.{Header}
 use Rattle.fleet_cache.specs.Answer.{AnswerData, Missed, Found, NoData, NxDomain}
 use Rattle.fleet_observe.specs.Observation.{ObservationData}
 use Rattle.fleet_site.specs.question.AnswerRecords.{bare_outline, bare_octets}
-use Rattle.fleet_site.specs.question.Verdict.{Verdict, Silence, Answer, Unreadable, Unknown, IsAsking, IsServedQuestion, DecidesAnswer, Decides}
+use Rattle.fleet_site.specs.question.Decision.{DecisionData, Dropped, Reply, Unread, Miss, IsAsking, IsServedQuestion, DecidesAnswer, Decides}
 use Rattle.fleet_site.specs.server.Replies.{Echoes, RepliesTo}
 
 pub spelled_short : (m : List ℕ) (p : ℕ) (q : QuestionData) (e : ℕ) → IsQuestion m p q e
@@ -107,11 +107,11 @@ pub record IsMissed (asked : List ℕ) (h : Header) (q : QuestionData) : Type 0 
   pub asks : IsAsking asked
 
 -- what is made of octets that are asked suits them
-abbrev pub Suits : List ℕ → Verdict → Type 0
-Suits asked Silence = ¬ IsAsking asked
-Suits asked (Answer octets) = RepliesTo asked octets
-Suits asked (Unreadable octets f) = RepliesTo asked octets
-Suits asked (Unknown h q) = IsMissed asked h q
+abbrev pub Suits : List ℕ → DecisionData → Type 0
+Suits asked Dropped = ¬ IsAsking asked
+Suits asked (Reply octets) = RepliesTo asked octets
+Suits asked (Unread octets f) = RepliesTo asked octets
+Suits asked (Miss h q) = IsMissed asked h q
 
 -- a reply without records to one that is missed
 pub bare_replies : (asked : List ℕ) (h : Header) (q : QuestionData) (rcode : ℕ) → IsMissed asked h q
@@ -128,7 +128,7 @@ served_class q h = elim (cases_eq q.class IN) [
   | inr n ↦ absurd (h (λ (s : IsServedQuestion q). n s.class))
 ]
 
-suits_answer : (asked : List ℕ) (q : QuestionData) (a : AnswerData) (v : Verdict)
+suits_answer : (asked : List ℕ) (q : QuestionData) (a : AnswerData) (v : DecisionData)
     → IsMissed asked (header_of asked) q → DecidesAnswer (header_of asked) q a v → Suits asked v
 suits_answer asked q Missed v m e = subst (Suits asked) (sym e) m
 suits_answer asked q (Found chain set) v m h =
@@ -165,7 +165,7 @@ standard asked n =
     elim (cases_eq (header_of asked).opcode 0) [ inl e ↦ e | inr o ↦ absurd (n o) ]
 
 -- so it is with all that is decided
-pub decides_suits : (s : List ObservationData) (t : ℕ) (asked : List ℕ) (v : Verdict)
+pub decides_suits : (s : List ObservationData) (t : ℕ) (asked : List ℕ) (v : DecisionData)
     → Decides s t asked v → Suits asked v
 decides_suits s t asked v (inl h) =
     subst (Suits asked) (sym h.1) (λ (a : IsAsking asked). omega (arith, a.long, h.0))

@@ -24,7 +24,7 @@ tries_lead : (u : ℕ) (a b : ServerState) → ServerTries u a b → TurnsLead a
 tries_lead zero a b h = subst (λ (x : ServerState). TurnsLead a x) (sym h) no_turn
 tries_lead (suc u) a b h =
     let r = h.1 in
-    leads_both b (one_turn r.moment r.word r.every r.turns r.turn) (tries_lead u h.0 b h.2)
+    leads_both b (one_turn r.now r.word r.every r.turns r.turn) (tries_lead u h.0 b h.2)
 
 pub replies_once_over_sockets : RepliesOnceOverSockets
 replies_once_over_sockets calls p site i h run =

@@ -16,7 +16,7 @@ use Rattle.fleet_site.specs.OutcomeData.{OutcomeData, packet_to, sends}
 use Rattle.fleet_site.specs.SiteModel.{SiteModel, Effect}
 use Rattle.fleet_site.specs.Step.{Call, datagram, tick, frame, learn, flush, Dispatches, with_call_begun, Does, Stops}
 use Rattle.fleet_site.specs.question.AnswerRecords.{bare_octets}
-use Rattle.fleet_site.specs.question.Verdict.{Verdict, Silence, Answer, Unreadable, Unknown}
+use Rattle.fleet_site.specs.question.Decision.{DecisionData, Dropped, Reply, Unread, Miss}
 use Rattle.fleet_site.specs.question.Question.{waiter, Forwarded, is_asked, is_quiet, is_turned_away, Forwards, Reacts}
 use Rattle.fleet_site.specs.reply.Reply.{relay_to, Relays, Replied}
 use Rattle.fleet_site.specs.reply.Learn.{Learnt}
@@ -101,17 +101,17 @@ forwarded c ups o t word from octets h q d same missed wants f =
         absurd (taken fault e)
 
 reacts : (c : ConfigData) (ups : List Addr) (o : PendingData) (t word : ℕ) (from : Addr)
-    (octets : List ℕ) (v : Verdict) (d : Effect) → ups ≡ c.upstreams → Suits octets v
+    (octets : List ℕ) (v : DecisionData) (d : Effect) → ups ≡ c.upstreams → Suits octets v
     → Reacts ups o t from word v d → DeedOf c (Some (from, octets)) o d
-reacts c ups o t word from octets Silence d same suits e = quiet c _ o d _ e refl refl
-reacts c ups o t word from octets (Answer reply) d same suits e =
+reacts c ups o t word from octets Dropped d same suits e = quiet c _ o d _ e refl refl
+reacts c ups o t word from octets (Reply reply) d same suits e =
     at_once c from octets reply o d _ e refl refl suits
-reacts c ups o t word from octets (Unreadable reply f) d same suits e =
+reacts c ups o t word from octets (Unread reply f) d same suits e =
     at_once c from octets reply o d _ e refl refl suits
-reacts c ups o t word from octets (Unknown h q) d same suits (inl e) =
+reacts c ups o t word from octets (Miss h q) d same suits (inl e) =
     at_once c from octets (bare_octets h REFUSED (Some q)) o d _ e.1 refl refl
     (bare_replies octets h q REFUSED suits)
-reacts c ups o t word from octets (Unknown h q) d same suits (inr e) =
+reacts c ups o t word from octets (Miss h q) d same suits (inr e) =
     forwarded c ups o t word from octets h q d same suits e.0 e.1
 
 relayed : (c : ConfigData) (arrived : Option (Addr × List ℕ)) (o : PendingData) (t : ℕ)

@@ -1,5 +1,5 @@
 pub mod AnswerRecords
-pub mod Verdict
+pub mod Decision
 pub mod Question
 pub mod Looking
 pub mod Handling

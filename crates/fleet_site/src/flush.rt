@@ -18,19 +18,19 @@ use std::alloc::Allocator;
 pub(crate) fn flush_name<A: Allocator + Copy>(
     alloc: A,
     cache: &mut Cache<A>,
-    clock: Moment,
+    now: Moment,
     name: &Name<A>,
 ) -> Result<Outcome<A>, SiteFault>
     ensures flushed { (o : PendingData) (s : Observations)
         → IsCached s cache.old.floor cache.old.items
-        → DoesOrStops (Flushed o name.now clock) (Unit {0})
+        → DoesOrStops (Flushed o name.now now) (Unit {0})
         (record { taken = s; asking = o }) result
         (record { cache = cache.new; asking = o }) }
     ensures floor { cache.new.floor ≡ cache.old.floor }
 {
     let name = name.try_clone()?;
     let mut observed = Vec::with_capacity(alloc, 1)?;
-    observed.push_reserved(Observation::flush(name, clock));
+    observed.push_reserved(Observation::flush(name, now));
     let frames = Frames::new(pack(alloc, &observed)?);
     match cache.take_list(observed) {
         Ok(()) => Ok(Outcome {

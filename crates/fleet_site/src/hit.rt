@@ -3,7 +3,7 @@
 ghost use Rattle.std.specs.Prelude.{◌≡◌, ◌≤◌, ◌↔◌, IsTrue, IfOk, OnErr};
 ghost use Rattle.fleet_observe.specs.Observation.{Observations};
 ghost use Rattle.fleet_cache.specs.Cached.{IsCached};
-ghost use Rattle.fleet_site.specs.question.Verdict.{IsAsking, IsStandardQuery};
+ghost use Rattle.fleet_site.specs.question.Decision.{IsAsking, IsStandardQuery};
 ghost use Rattle.fleet_site.specs.steps.Plain.{DecidesPlain, IsPlainMiss};
 
 use crate::verdict::is_served;
@@ -38,13 +38,13 @@ fn is_standard_query(header: Header) -> bool
 pub(crate) fn decide_plain<A: Allocator + Copy>(
     alloc: A,
     cache: &Cache<A>,
-    clock: Moment,
+    now: Moment,
     octets: &[u8],
     out: &mut Vec<u8, A>,
 ) -> Result<Plain<A>, AllocError>
-    requires { cache.now.floor ≤ clock }
+    requires { cache.now.floor ≤ now }
     ensures decides { (s : Observations) → IsCached s cache.now.floor cache.now.items
-        → IfOk result (λ p. DecidesPlain s clock octets.now out.new.items p) }
+        → IfOk result (λ p. DecidesPlain s now octets.now out.new.items p) }
     ensures miss { IfOk result (λ p. IsPlainMiss octets.now p) }
     ensures memory { OnErr result (IsAsking octets.now) }
 {
@@ -55,7 +55,7 @@ pub(crate) fn decide_plain<A: Allocator + Copy>(
         one_query();
         return Ok(Plain::Other);
     }
-    let answer = cache.answer_lent(&question, clock);
+    let answer = cache.answer_lent(&question, now);
     if is_miss(&answer) {
         let copy = question.try_copy(alloc)?;
         return Ok(Plain::Miss(header, copy));

@@ -14,7 +14,7 @@ ghost use Rattle.fleet_site.specs.OutcomeData.{sends};
 ghost use Rattle.fleet_site.specs.question.Handling.{handled_result, IsInPlace};
 ghost use Rattle.fleet_site.specs.question.Question.{Reacts, Forwards, Questioned, turns_away};
 ghost use Rattle.fleet_site.specs.Table.{IsTableOf, KeepsTable};
-ghost use Rattle.fleet_site.specs.question.Verdict.{IsAsking, IsPlainHit, verdict};
+ghost use Rattle.fleet_site.specs.question.Decision.{IsAsking, IsPlainHit, decision_data};
 
 use crate::config::addr_of;
 use crate::handled::Handled;
@@ -125,7 +125,7 @@ fn respond<A: Allocator + Copy>(
     requires askable { IsAskable decision }
     requires table { IsTableOf upstreams.now pending.old }
     ensures reacts { SaysOrStops (Reacts upstreams.now pending.old arrival.clock arrival.from arrival.word
-        (verdict decision)) (IsAnswered decision) pending.old result pending.new }
+        (decision_data decision)) (IsAnswered decision) pending.old result pending.new }
     ensures table { KeepsTable pending.old pending.new }
 {
     match decision {

@@ -74,13 +74,13 @@ fn relay_packets<A: Allocator + Copy>(
 fn make_relay<A: Allocator + Copy>(
     alloc: A,
     digest: &Digest<A>,
-    clock: Moment,
+    now: Moment,
     entry: &Entry<A>,
 ) -> Result<Relay<A>, AllocError>
-    ensures { IfOk result (λ r. IsMade digest.now clock entry.now r) }
+    ensures { IfOk result (λ r. IsMade digest.now now entry.now r) }
 {
     let packets = relay_packets(alloc, digest, entry.waiters.as_slice())?;
-    let observed = observe(alloc, digest, clock)?;
+    let observed = observe(alloc, digest, now)?;
     let frames = Frames::new(pack(alloc, &observed)?);
     Ok(Relay {
         id: entry.id,
@@ -95,11 +95,11 @@ fn relay_of<A: Allocator + Copy>(
     alloc: A,
     pending: &Pending<A>,
     upstream: u8,
-    clock: Moment,
+    now: Moment,
     octets: &[u8],
 ) -> Result<Relay<A>, ReplyFault>
-    ensures relayed { IfOk result (λ r. IsRelayOf pending.now clock upstream octets.now r) }
-    ensures refused { IfErr result (λ e. Unlearns (Replied pending.now clock upstream octets.now)
+    ensures relayed { IfOk result (λ r. IsRelayOf pending.now now upstream octets.now r) }
+    ensures refused { IfErr result (λ e. Unlearns (Replied pending.now now upstream octets.now)
         (IsReplying octets.now) pending.now e) }
 {
     let header = match read_header(octets) {
@@ -107,7 +107,7 @@ fn relay_of<A: Allocator + Copy>(
         None => return Err(ReplyFault::Refused(Refusal::Dropped)),
     };
     if header.response {
-        relay_of_reply(alloc, pending, upstream, clock, octets)
+        relay_of_reply(alloc, pending, upstream, now, octets)
     } else {
         Err(ReplyFault::Refused(Refusal::Dropped))
     }
@@ -118,16 +118,16 @@ fn relay_of_reply<A: Allocator + Copy>(
     alloc: A,
     pending: &Pending<A>,
     upstream: u8,
-    clock: Moment,
+    now: Moment,
     octets: &[u8],
 ) -> Result<Relay<A>, ReplyFault>
     requires { IsAnswering octets.now }
-    ensures relayed { IfOk result (λ r. IsRelayOf pending.now clock upstream octets.now r) }
-    ensures refused { IfErr result (λ e. Unlearns (Replied pending.now clock upstream octets.now)
+    ensures relayed { IfOk result (λ r. IsRelayOf pending.now now upstream octets.now r) }
+    ensures refused { IfErr result (λ e. Unlearns (Replied pending.now now upstream octets.now)
         (IsReplying octets.now) pending.now e) }
 {
     match message_in(alloc, octets) {
-        Ok(message) => relay_of_message(alloc, pending, upstream, clock, &message),
+        Ok(message) => relay_of_message(alloc, pending, upstream, now, &message),
         Err(fault) => Err(fault),
     }
 }
@@ -137,13 +137,13 @@ fn relay_of_message<A: Allocator + Copy>(
     alloc: A,
     pending: &Pending<A>,
     upstream: u8,
-    clock: Moment,
+    now: Moment,
     message: &Message<A>,
 ) -> Result<Relay<A>, ReplyFault>
     ensures relayed { (octets : OctetList) → IsAnswering octets → IsReply octets message.now
-        → IfOk result (λ r. IsRelayOf pending.now clock upstream octets r) }
+        → IfOk result (λ r. IsRelayOf pending.now now upstream octets r) }
     ensures refused { (octets : OctetList) → IsAnswering octets → IsReply octets message.now
-        → IfErr result (λ e. Unlearns (Replied pending.now clock upstream octets)
+        → IfErr result (λ e. Unlearns (Replied pending.now now upstream octets)
         (IsReplying octets) pending.now e) }
 {
     let id = message.header().id;
@@ -157,7 +157,7 @@ fn relay_of_message<A: Allocator + Copy>(
         Err(undigested) => return Err(undigested),
     };
     settling_gives_its_entry();
-    match make_relay(alloc, &digest, clock, entry) {
+    match make_relay(alloc, &digest, now, entry) {
         Ok(relay) => Ok(relay),
         Err(_) => Err(ReplyFault::NoMemory),
     }
@@ -170,17 +170,17 @@ pub(crate) fn take_reply<A: Allocator + Copy>(
     cache: &mut Cache<A>,
     pending: &mut Pending<A>,
     upstream: u8,
-    clock: Moment,
+    now: Moment,
     octets: &[u8],
 ) -> Result<Outcome<A>, SiteFault>
     ensures replied { (s : Observations) → IsCached s cache.old.floor cache.old.items
-        → DoesOrStops (Replied pending.old clock upstream octets.now) (IsReplying octets.now)
+        → DoesOrStops (Replied pending.old now upstream octets.now) (IsReplying octets.now)
         (record { taken = s; asking = pending.old }) result
         (record { cache = cache.new; asking = pending.new }) }
     ensures floor { cache.new.floor ≡ cache.old.floor }
     ensures table { KeepsTable pending.old pending.new }
 {
-    match relay_of(alloc, pending, upstream, clock, octets) {
+    match relay_of(alloc, pending, upstream, now, octets) {
         Ok(relay) => carry_out(cache, pending, relay),
         Err(fault) => refuse(alloc, fault),
     }
@@ -225,13 +225,13 @@ fn carry_out<A: Allocator + Copy>(
 /// The observations that a reply holds.
 fn read_observations<A: Allocator + Copy>(
     alloc: A,
-    clock: Moment,
+    now: Moment,
     octets: &[u8],
 ) -> Result<Vec<Observation<A>, A>, ReplyFault>
     ensures learnt { IfOk result (λ v.
-        (o : PendingData) → Learnt o clock octets.now (takes v.items o)) }
+        (o : PendingData) → Learnt o now octets.now (takes v.items o)) }
     ensures refused { IfErr result (λ e.
-        (o : PendingData) → Unlearns (Learnt o clock octets.now) (HasReply octets.now) o e) }
+        (o : PendingData) → Unlearns (Learnt o now octets.now) (HasReply octets.now) o e) }
 {
     let message = match message_in(alloc, octets) {
         Ok(message) => message,
@@ -241,7 +241,7 @@ fn read_observations<A: Allocator + Copy>(
         Ok(digest) => digest,
         Err(undigested) => return Err(undigested),
     };
-    match observe(alloc, &digest, clock) {
+    match observe(alloc, &digest, now) {
         Ok(observed) => Ok(observed),
         Err(_) => Err(ReplyFault::NoMemory),
     }
@@ -251,28 +251,28 @@ fn read_observations<A: Allocator + Copy>(
 fn observe<A: Allocator + Copy>(
     alloc: A,
     digest: &Digest<A>,
-    clock: Moment,
+    now: Moment,
 ) -> Result<Vec<Observation<A>, A>, AllocError>
-    ensures { IfOk result (λ v. v.items ≡ reply_observations digest.now clock) }
+    ensures { IfOk result (λ v. v.items ≡ reply_observations digest.now now) }
 {
-    observations(alloc, digest, clock)
+    observations(alloc, digest, now)
 }
 
 /// Takes the observations of a reply that is handed in.
 pub(crate) fn learn_reply<A: Allocator + Copy>(
     alloc: A,
     cache: &mut Cache<A>,
-    clock: Moment,
+    now: Moment,
     octets: &[u8],
 ) -> Result<Outcome<A>, SiteFault>
     ensures learnt { (o : PendingData) (s : Observations)
         → IsCached s cache.old.floor cache.old.items
-        → DoesOrStops (Learnt o clock octets.now) (HasReply octets.now)
+        → DoesOrStops (Learnt o now octets.now) (HasReply octets.now)
         (record { taken = s; asking = o }) result
         (record { cache = cache.new; asking = o }) }
     ensures floor { cache.new.floor ≡ cache.old.floor }
 {
-    match read_observations(alloc, clock, octets) {
+    match read_observations(alloc, now, octets) {
         Ok(observed) => take_all(alloc, cache, observed),
         Err(fault) => refuse(alloc, fault),
     }

@@ -10,7 +10,7 @@ ghost use Rattle.fleet_site.specs.question.Handling.{handled_result, IsInPlace};
 ghost use Rattle.fleet_site.specs.Step.{datagram as a_datagram, tick as a_tick, frame as a_frame, learn as a_reply, flush as a_flush};
 ghost use Rattle.fleet_site.specs.gossip.Sweep.{IsSweep};
 ghost use Rattle.fleet_site.specs.Tick.{LeavesFewer};
-ghost use Rattle.fleet_site.specs.question.Verdict.{IsAsking, IsPlainHit};
+ghost use Rattle.fleet_site.specs.question.Decision.{IsAsking, IsPlainHit};
 ghost use Rattle.fleet_site.specs.declared.site.Sender.TheVariants.{Other};
 ghost use Rattle.fleet_site.specs.declared.outcome.SiteFault.TheVariants.{OutOfMemory};
 

@@ -73,13 +73,13 @@ fn make_plan<A: Allocator + Copy>(
     alloc: A,
     pending: &Pending<A>,
     upstreams: &[Addr],
-    clock: Moment,
+    now: Moment,
 ) -> Result<Plan<A>, AllocError>
     requires { IsTableOf upstreams.now pending.now }
-    ensures plan { IfOk result (λ p. IsPlan upstreams.now pending.now clock p) }
-    ensures memory { IfErr result (λ _. ¬ NoneDue pending.now.entries clock) }
+    ensures plan { IfOk result (λ p. IsPlan upstreams.now pending.now now p) }
+    ensures memory { IfErr result (λ _. ¬ NoneDue pending.now.entries now) }
 {
-    match pending.due(clock) {
+    match pending.due(now) {
         None => Ok(Plan::Idle(Outcome::without_packets(alloc, 0, None))),
         Some(due) => match due {
             Due::Retry {
@@ -108,42 +108,42 @@ pub(crate) fn serve_due<A: Allocator + Copy>(
     alloc: A,
     pending: &mut Pending<A>,
     upstreams: &[Addr],
-    clock: Moment,
+    now: Moment,
 ) -> Result<Outcome<A>, SiteFault>
     requires { IsTableOf upstreams.now pending.old }
-    ensures ticked { SaysOrStops (Ticked upstreams.now pending.old clock)
-        (¬ NoneDue pending.old.entries clock) pending.old result pending.new }
-    ensures fewer { IfOk result (λ o. IsTrue o.more → LeavesFewer pending.old pending.new clock) }
+    ensures ticked { SaysOrStops (Ticked upstreams.now pending.old now)
+        (¬ NoneDue pending.old.entries now) pending.old result pending.new }
+    ensures fewer { IfOk result (λ o. IsTrue o.more → LeavesFewer pending.old pending.new now) }
     ensures table { KeepsTable pending.old pending.new }
 {
     waiters_stay();
     settling_gives_its_entry();
     serving_leaves_fewer_due();
-    let plan = match make_plan(alloc, pending, upstreams, clock) {
+    let plan = match make_plan(alloc, pending, upstreams, now) {
         Ok(plan) => plan,
         Err(_) => return Err(SiteFault::OutOfMemory { taken: 0 }),
     };
     match plan {
         Plan::Idle(outcome) => {
-            pending.look_ahead(clock);
+            pending.look_ahead(now);
             Ok(outcome)
         }
         Plan::Retry(id, outcome) => {
-            let _ = pending.advance(id, clock);
-            Ok(and_more(pending, clock, outcome))
+            let _ = pending.advance(id, now);
+            Ok(and_more(pending, now, outcome))
         }
         Plan::Fail(id, outcome) => {
             let _ = pending.settle(id);
-            Ok(and_more(pending, clock, outcome))
+            Ok(and_more(pending, now, outcome))
         }
     }
 }
 
 /// The outcome, which says whether an entry is due.
-fn and_more<A: Allocator>(pending: &Pending<A>, clock: Moment, outcome: Outcome<A>) -> Outcome<A>
-    ensures { SaysMore pending.now clock outcome result }
+fn and_more<A: Allocator>(pending: &Pending<A>, now: Moment, outcome: Outcome<A>) -> Outcome<A>
+    ensures { SaysMore pending.now now outcome result }
 {
-    match pending.due(clock) {
+    match pending.due(now) {
         Some(_) => with_more(outcome, true),
         None => with_more(outcome, false),
     }

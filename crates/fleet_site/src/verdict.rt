@@ -7,7 +7,7 @@ ghost use Rattle.fleet_cache.specs.Cached.{IsCached};
 ghost use Rattle.fleet_cache.specs.Kinds.{HasKinds};
 ghost use Rattle.fleet_cache.specs.AnswerData.{answer_data};
 ghost use Rattle.fleet_site.specs.steps.Carried.{IsAskable, IsAnswered, SaysUnread};
-ghost use Rattle.fleet_site.specs.question.Verdict.{IsAsking, verdict, IsServedQuestion, DecidesAnswer, DecidesQuestion, Decides};
+ghost use Rattle.fleet_site.specs.question.Decision.{IsAsking, decision_data, IsServedQuestion, DecidesAnswer, DecidesQuestion, Decides};
 
 use crate::writing::{bare_reply, is_miss, reply_with_answer, reply_without};
 use fleet_cache::{Answer, Cache};
@@ -39,12 +39,12 @@ pub(crate) enum Decision<A: Allocator> {
 pub(crate) fn decide<A: Allocator + Copy>(
     alloc: A,
     cache: &Cache<A>,
-    clock: Moment,
+    now: Moment,
     octets: &[u8],
 ) -> Result<Decision<A>, AllocError>
-    requires { cache.now.floor ≤ clock }
+    requires { cache.now.floor ≤ now }
     ensures decides { (s : Observations) → IsCached s cache.now.floor cache.now.items
-        → IfOk result (λ d. Decides s clock octets.now (verdict d)) }
+        → IfOk result (λ d. Decides s now octets.now (decision_data d)) }
     ensures askable { IfOk result (λ d. IsAskable d) }
     ensures answered { IfOk result (λ d. IsAnswered d → IsAsking octets.now) }
     ensures memory { IfErr result (λ _. IsAsking octets.now) }
@@ -61,7 +61,7 @@ pub(crate) fn decide<A: Allocator + Copy>(
         return Ok(Decision::Reply(reply));
     }
     match read_query(alloc, octets) {
-        Ok((_, question)) => decide_question(alloc, cache, clock, header, question),
+        Ok((_, question)) => decide_question(alloc, cache, now, header, question),
         Err(fault) => decide_unread(alloc, header, fault),
     }
 }
@@ -73,7 +73,7 @@ fn decide_unread<A: Allocator + Copy>(
     fault: ReadFault,
 ) -> Result<Decision<A>, AllocError>
     requires { header.opcode < 16 }
-    ensures unread { IfOk result (λ d. SaysUnread header fault (verdict d)) }
+    ensures unread { IfOk result (λ d. SaysUnread header fault (decision_data d)) }
     ensures askable { IfOk result (λ d. IsAskable d) }
 {
     if fault == ReadFault::OutOfMemory {
@@ -87,21 +87,21 @@ fn decide_unread<A: Allocator + Copy>(
 fn decide_question<A: Allocator + Copy>(
     alloc: A,
     cache: &Cache<A>,
-    clock: Moment,
+    now: Moment,
     header: Header,
     question: Question<A>,
 ) -> Result<Decision<A>, AllocError>
     requires opcode { header.opcode < 16 }
-    requires reached { cache.now.floor ≤ clock }
+    requires reached { cache.now.floor ≤ now }
     ensures decides { (s : Observations) → IsCached s cache.now.floor cache.now.items
-        → IfOk result (λ d. DecidesQuestion s clock header question (verdict d)) }
+        → IfOk result (λ d. DecidesQuestion s now header question (decision_data d)) }
     ensures askable { IfOk result (λ d. IsAskable d) }
 {
     if !is_served(&question.lend()) {
         let reply = reply_without(alloc, header, NOT_IMPLEMENTED, &question)?;
         return Ok(Decision::Reply(reply));
     }
-    let answer = cache.answer(&question, clock);
+    let answer = cache.answer(&question, now);
     decide_answer(alloc, header, question, &answer)
 }
 
@@ -123,7 +123,7 @@ fn decide_answer<A: Allocator + Copy>(
     requires served { question.class ≡ IN }
     requires kinds { HasKinds (answer_data answer.now) }
     ensures decides { IfOk result (λ d.
-        DecidesAnswer header question (answer_data answer.now) (verdict d)) }
+        DecidesAnswer header question (answer_data answer.now) (decision_data d)) }
     ensures askable { IfOk result (λ d. IsAskable d) }
 {
     if is_miss(answer) {

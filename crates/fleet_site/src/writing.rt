@@ -11,7 +11,7 @@ ghost use Rattle.fleet_site.specs.steps.Writing.{answer_rcode, AddsRows, AddsCha
 
 use fleet_cache::{Answer, Shown};
 use fleet_name::Octets;
-use fleet_observe::{Rows, add_rows, add_soa};
+use fleet_observe::{LentRrSet, add_rrset, add_soa};
 use fleet_wire::rcode::{NAME_ERROR, NO_ERROR};
 use fleet_wire::{Header, LentQuestion, Outline, Question, write_reply, write_reply_into};
 use std::alloc::{AllocError, Allocator};
@@ -121,13 +121,13 @@ fn add_set<'a, A: Allocator + Copy>(
         → OnOk result (AddsRows part.now outline.old outline.new) }
 {
     let observation = part.observation;
-    let rows = Rows {
+    let lent = LentRrSet {
         name: observation.name(),
         rtype: observation.rtype(),
         ttl: part.ttl,
         rdatas: observation.rdatas(),
     };
-    add_rows(outline, rows)
+    add_rrset(outline, lent)
 }
 
 /// Adds the SOA record of a negative observation.

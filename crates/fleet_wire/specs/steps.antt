@@ -1,2 +1,2 @@
-pub mod Step
-pub mod Line
+pub mod NamePart
+pub mod LentRecord

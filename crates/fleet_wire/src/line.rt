@@ -6,7 +6,7 @@ ghost use Rattle.fleet_name.specs.Name.{wire, labels_of};
 /// A borrowed record of the class IN: its owner in full and in lower case, its type, its TTL in
 /// seconds and its RDATA.
 #[derive(Drop)]
-pub(crate) struct Line<'a> {
+pub(crate) struct LentRecord<'a> {
     pub(crate) owner: &'a [u8],
     pub(crate) rtype: u16,
     pub(crate) ttl: u32,
@@ -16,9 +16,9 @@ pub(crate) struct Line<'a> {
 }
 
 /// What fills a slot that has no line yet: a line of the root.
-impl Default for Line<'_> {
+impl Default for LentRecord<'_> {
     fn default() -> Self {
-        Line {
+        LentRecord {
             owner: &[0],
             rtype: 0,
             ttl: 0,

@@ -6,7 +6,7 @@ ghost use Rattle.fleet_name.specs.Name.{label_octets, lower_all, labels_of, IsSp
 ghost use Rattle.fleet_name.specs.declared.bounds.TheConstants.{LONGEST_LABEL, LONGEST_NAME};
 ghost use Rattle.fleet_wire.specs.NameAt.{NameAt, ReadsName};
 ghost use Rattle.fleet_wire.specs.Fault.{FaultAt, NameFails};
-ghost use Rattle.fleet_wire.specs.steps.Step.{IsStep};
+ghost use Rattle.fleet_wire.specs.steps.NamePart.{IsNamePart};
 
 use crate::fault::ReadFault;
 use arrayvec::ArrayVec;
@@ -15,7 +15,7 @@ use fleet_name::bounds::LONGEST_NAME;
 use std::alloc::{AllocError, Allocator};
 
 /// What is at a place of a message where a label may begin.
-pub(crate) enum Step<'a> {
+pub(crate) enum NamePart<'a> {
     /// The zero octet that ends a name.
     End,
     /// A label, its length octet left out.
@@ -35,16 +35,16 @@ pub(crate) struct Spelled {
     pub(crate) end: usize,
 }
 
-/// The step at `at`, in a run of labels begun at `start`, where the name so far has `used` octets
-/// in full.
-pub(crate) fn step_at(
+/// The part of a name at `at`, in a run of labels begun at `start`, where the name so far has `used`
+/// octets in full.
+pub(crate) fn name_part_at(
     message: &[u8],
     at: usize,
     start: usize,
     used: usize,
-) -> Result<Step<'_>, ReadFault>
+) -> Result<NamePart<'_>, ReadFault>
     requires { used ≤ LONGEST_NAME }
-    ensures { MatchResult result (IsStep message.now at start used)
+    ensures { MatchResult result (IsNamePart message.now at start used)
         (FaultAt message.now at start used) }
 {
     if at >= message.len() {
@@ -52,7 +52,7 @@ pub(crate) fn step_at(
     }
     let first = message[at];
     if first == 0 {
-        return Ok(Step::End);
+        return Ok(NamePart::End);
     }
     if first < 64 {
         return label_at(message, at, first as usize, used);
@@ -67,18 +67,18 @@ pub(crate) fn step_at(
     if target >= start {
         return Err(ReadFault::BadPointer);
     }
-    Ok(Step::Pointer(target))
+    Ok(NamePart::Pointer(target))
 }
 
 /// The label whose length octet, `count`, is at `at`. The name has `used` octets in full before it.
-fn label_at(message: &[u8], at: usize, count: usize, used: usize) -> Result<Step<'_>, ReadFault>
+fn label_at(message: &[u8], at: usize, count: usize, used: usize) -> Result<NamePart<'_>, ReadFault>
     requires begins { at < length message.now }
     requires counted { slice_index message.now at ≡ count }
     requires some { 0 < count }
     requires short { count ≤ LONGEST_LABEL }
     requires used { used ≤ LONGEST_NAME }
     ensures { (s : ℕ)
-        → MatchResult result (IsStep message.now at s used) (FaultAt message.now at s used) }
+        → MatchResult result (IsNamePart message.now at s used) (FaultAt message.now at s used) }
 {
     if used + count + 1 > LONGEST_NAME {
         return Err(ReadFault::LongName);
@@ -88,7 +88,7 @@ fn label_at(message: &[u8], at: usize, count: usize, used: usize) -> Result<Step
         return Err(ReadFault::Truncated);
     }
     let (octets, _) = rest.split_at(count);
-    Ok(Step::Label(octets))
+    Ok(NamePart::Label(octets))
 }
 
 /// Adds a label with its length octet, in its own case.
@@ -115,8 +115,8 @@ pub(crate) fn spelling_at(message: &[u8], offset: usize) -> Result<Spelled, Read
     let mut start = offset;
     let mut end = None;
     loop {
-        match step_at(message, at, start, octets.len() + 1)? {
-            Step::End => {
+        match name_part_at(message, at, start, octets.len() + 1)? {
+            NamePart::End => {
                 octets.push(0);
                 return Ok(Spelled {
                     octets,
@@ -124,12 +124,12 @@ pub(crate) fn spelling_at(message: &[u8], offset: usize) -> Result<Spelled, Read
                     end: end.unwrap_or(at + 1),
                 });
             }
-            Step::Label(label) => {
+            NamePart::Label(label) => {
                 append_label(&mut octets, label);
                 labels += 1;
                 at += 1 + label.len();
             }
-            Step::Pointer(target) => {
+            NamePart::Pointer(target) => {
                 end = Some(end.unwrap_or(at + 2));
                 at = target;
                 start = target;
@@ -149,13 +149,13 @@ pub(crate) fn name_end(message: &[u8], offset: usize) -> Result<usize, ReadFault
     let mut start = offset;
     let mut past = None;
     loop {
-        match step_at(message, at, start, used)? {
-            Step::End => return Ok(past.unwrap_or(at + 1)),
-            Step::Label(label) => {
+        match name_part_at(message, at, start, used)? {
+            NamePart::End => return Ok(past.unwrap_or(at + 1)),
+            NamePart::Label(label) => {
                 used += 1 + label.len();
                 at += 1 + label.len();
             }
-            Step::Pointer(target) => {
+            NamePart::Pointer(target) => {
                 past = Some(past.unwrap_or(at + 2));
                 at = target;
                 start = target;

@@ -6,7 +6,7 @@ ghost use Rattle.fleet_name.specs.Name.{labels_of, IsSpelling};
 ghost use Rattle.fleet_wire.specs.Types.{Place};
 ghost use Rattle.fleet_wire.specs.NameAt.{NameAt, ReadsName};
 
-use crate::name_reader::{Step, name_of, spelling_at, step_at};
+use crate::name_reader::{NamePart, name_of, name_part_at, spelling_at};
 use fleet_name::Name;
 use std::alloc::{AllocError, Allocator};
 
@@ -34,19 +34,19 @@ fn run_at(message: &[u8], start: usize) -> Option<Piece<'_>>
     let mut labels = 0;
     let mut at = start;
     loop {
-        match step_at(message, at, start, at - start + 1) {
-            Ok(Step::End) => {
+        match name_part_at(message, at, start, at - start + 1) {
+            Ok(NamePart::End) => {
                 return Some(Piece {
                     octets: &message[start..at + 1],
                     labels,
                     end: at + 1,
                 });
             }
-            Ok(Step::Label(label)) => {
+            Ok(NamePart::Label(label)) => {
                 labels += 1;
                 at += 1 + label.len();
             }
-            Ok(Step::Pointer(_)) => return None,
+            Ok(NamePart::Pointer(_)) => return None,
             Err(_) => return None,
         }
     }
@@ -62,8 +62,8 @@ fn piece_at(message: &[u8], offset: usize) -> Option<Piece<'_>>
     ensures spelled { IfSome result (λ r. IsSpelling r.octets.now) }
     ensures counted { IfSome result (λ r. r.labels ≡ length (labels_of r.octets.now)) }
 {
-    match step_at(message, offset, offset, 1) {
-        Ok(Step::Pointer(target)) => {
+    match name_part_at(message, offset, offset, 1) {
+        Ok(NamePart::Pointer(target)) => {
             let Piece { octets, labels, .. } = run_at(message, target)?;
             Some(Piece {
                 octets,
@@ -71,8 +71,8 @@ fn piece_at(message: &[u8], offset: usize) -> Option<Piece<'_>>
                 end: offset + 2,
             })
         }
-        Ok(Step::End) => run_at(message, offset),
-        Ok(Step::Label(_)) => run_at(message, offset),
+        Ok(NamePart::End) => run_at(message, offset),
+        Ok(NamePart::Label(_)) => run_at(message, offset),
         Err(_) => None,
     }
 }

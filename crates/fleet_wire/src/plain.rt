@@ -5,7 +5,7 @@ ghost use Rattle.fleet_name.specs.Types.{Label, Labels, OctetList};
 ghost use Rattle.fleet_name.specs.Name.{wire, IsName};
 ghost use Rattle.fleet_wire.specs.Shape.{ArePlain, IsPlain};
 
-use crate::name_reader::{Step, step_at};
+use crate::name_reader::{NamePart, name_part_at};
 use crate::shape::{Part, parts_of};
 use fleet_name::is_lower;
 
@@ -17,18 +17,18 @@ pub(crate) fn after_name(octets: &[u8]) -> Option<&[u8]>
 {
     let mut at = 0;
     loop {
-        match step_at(octets, at, 0, at + 1) {
-            Ok(Step::End) => {
+        match name_part_at(octets, at, 0, at + 1) {
+            Ok(NamePart::End) => {
                 let (_, rest) = octets.split_at(at + 1);
                 return Some(rest);
             }
-            Ok(Step::Label(label)) => {
+            Ok(NamePart::Label(label)) => {
                 if !is_lower(label) {
                     return None;
                 }
                 at += 1 + label.len();
             }
-            Ok(Step::Pointer(_)) => return None,
+            Ok(NamePart::Pointer(_)) => return None,
             Err(_) => return None,
         }
     }

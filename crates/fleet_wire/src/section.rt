@@ -3,10 +3,10 @@
 ghost use Rattle.std.specs.Prelude.{◌≡◌, ◌≤◌, [], ◌∷◌, ◌++◌, length, OnOk, OnErr};
 ghost use Rattle.fleet_name.specs.Name.{IsName};
 ghost use Rattle.fleet_wire.specs.Outline.{line};
-ghost use Rattle.fleet_wire.specs.steps.Line.{record_of_line, records_of_lines};
+ghost use Rattle.fleet_wire.specs.steps.LentRecord.{record_of_lent, records_of_lent};
 ghost use Rattle.fleet_wire.specs.declared.bounds.TheConstants.{LONGEST_MESSAGE};
 
-use crate::line::Line;
+use crate::line::LentRecord;
 use arrayvec::ArrayVec;
 use fleet_name::Name;
 use std::alloc::{AllocError, Allocator};
@@ -16,18 +16,18 @@ use std::marker::Model;
 /// most four lines allocates nothing. It is no `SmallVec`, whose size depends on the allocator's.
 #[derive(Drop)]
 pub(crate) struct Section<'a, A: Allocator> {
-    first: ArrayVec<Line<'a>, 4>,
-    more: Vec<Line<'a>, A>,
+    first: ArrayVec<LentRecord<'a>, 4>,
+    more: Vec<LentRecord<'a>, A>,
 }
 
 impl<'a, A: Allocator> Model for Section<'a, A> {
     ghost use Rattle.std.specs.Prelude.{List, ◌++◌};
     ghost use Rattle.fleet_wire.specs.Record.{RecordData};
-    ghost use Rattle.fleet_wire.specs.steps.Line.{records_of_lines};
+    ghost use Rattle.fleet_wire.specs.steps.LentRecord.{records_of_lent};
 
     ghost Value = { List RecordData };
 
-    ghost view = { λ s. records_of_lines s.first.items ++ records_of_lines s.more.items };
+    ghost view = { λ s. records_of_lent s.first.items ++ records_of_lent s.more.items };
 }
 
 impl<'a, A: Allocator> Section<'a, A> {
@@ -42,8 +42,8 @@ impl<'a, A: Allocator> Section<'a, A> {
     }
 
     /// Adds a line at the end. `Err` where an allocation fails; the section is then as it was.
-    pub(crate) fn push(&mut self, line: Line<'a>) -> Result<(), AllocError>
-        ensures ok { OnOk result (self.new ≡ self.old ++ record_of_line line.entry ∷ []) }
+    pub(crate) fn push(&mut self, line: LentRecord<'a>) -> Result<(), AllocError>
+        ensures ok { OnOk result (self.new ≡ self.old ++ record_of_lent line.entry ∷ []) }
         ensures err { OnErr result (self.new ≡ self.old) }
     {
         if self.more.is_empty() && !self.first.is_full() {
@@ -63,8 +63,8 @@ impl<'a, A: Allocator> Section<'a, A> {
     }
 
     /// The first four lines, and those on the heap.
-    pub(crate) fn parts(&self) -> (&[Line], &[Line])
-        ensures { records_of_lines result.0.now ++ records_of_lines result.1.now ≡ self.now }
+    pub(crate) fn parts(&self) -> (&[LentRecord], &[LentRecord])
+        ensures { records_of_lent result.0.now ++ records_of_lent result.1.now ≡ self.now }
     {
         (self.first.as_slice(), &self.more)
     }
@@ -76,11 +76,11 @@ pub(crate) fn line_of<'a, A: Allocator>(
     rtype: u16,
     ttl: u32,
     rdata: &'a [u8],
-) -> Line<'a>
-    ensures line { record_of_line result ≡ line name.entry.now rtype ttl rdata.entry.now }
+) -> LentRecord<'a>
+    ensures line { record_of_lent result ≡ line name.entry.now rtype ttl rdata.entry.now }
     ensures named { IsName name.entry.now }
 {
-    Line {
+    LentRecord {
         owner: name.octets(),
         rtype,
         ttl,

@@ -4,7 +4,7 @@ ghost use Rattle.std.specs.Prelude.{◌≡◌, ◌+◌, ◌<◌, ◌≤◌, ◌+
 ghost use Rattle.fleet_name.specs.declared.bounds.TheConstants.{LONGEST_NAME};
 ghost use Rattle.fleet_wire.specs.Number.{u16_octets, u32_octets};
 ghost use Rattle.fleet_wire.specs.Question.{QuestionData};
-ghost use Rattle.fleet_wire.specs.steps.Line.{record_of_line, records_of_lines};
+ghost use Rattle.fleet_wire.specs.steps.LentRecord.{record_of_lent, records_of_lent};
 ghost use Rattle.fleet_wire.specs.Message.{IsReply};
 ghost use Rattle.fleet_wire.specs.Outline.{record_octets, question_octets_if_any, section_octets, whole_octets, cut_octets, header_octets, octets_of_outline, IsOutlineData, IsWhole, message_of_outline};
 ghost use Rattle.fleet_wire.specs.declared.bounds.TheConstants.{LONGEST_MESSAGE};
@@ -12,7 +12,7 @@ ghost use Rattle.fleet_wire.specs.declared.bounds.TheConstants.{LONGEST_MESSAGE}
 use crate::bounds::LONGEST_MESSAGE;
 use crate::class::IN;
 use crate::lent::LentQuestion;
-use crate::line::Line;
+use crate::line::LentRecord;
 use crate::number::octets_of_u32;
 use crate::outline::Outline;
 use crate::section::Section;
@@ -75,10 +75,10 @@ fn push_fixed<A: Allocator>(
 }
 
 /// Adds a record.
-fn push_record<A: Allocator>(out: &mut Vec<u8, A>, line: &Line) -> Result<(), AllocError>
+fn push_record<A: Allocator>(out: &mut Vec<u8, A>, line: &LentRecord) -> Result<(), AllocError>
     requires { length line.now.rdata.now < 65536 }
     ensures { OnOk result (out.new.items
-        ≡ out.old.items ++ record_octets (record_of_line line.now)) }
+        ≡ out.old.items ++ record_octets (record_of_lent line.now)) }
 {
     out.extend_from_slice(line.owner)?;
     let count = line.rdata.len() as u16;
@@ -87,10 +87,10 @@ fn push_record<A: Allocator>(out: &mut Vec<u8, A>, line: &Line) -> Result<(), Al
 }
 
 /// Adds the records of lines.
-fn push_lines<A: Allocator>(out: &mut Vec<u8, A>, lines: &[Line]) -> Result<(), AllocError>
-    requires { length (section_octets (records_of_lines lines.now)) ≤ LONGEST_MESSAGE }
+fn push_lines<A: Allocator>(out: &mut Vec<u8, A>, lines: &[LentRecord]) -> Result<(), AllocError>
+    requires { length (section_octets (records_of_lent lines.now)) ≤ LONGEST_MESSAGE }
     ensures { OnOk result (out.new.items
-        ≡ out.old.items ++ section_octets (records_of_lines lines.now)) }
+        ≡ out.old.items ++ section_octets (records_of_lent lines.now)) }
 {
     for line in lines {
         push_record(out, line)?;
@@ -112,9 +112,9 @@ fn push_section<A: Allocator, B: Allocator>(
 }
 
 /// How many octets of `room` are left after the lines' records. `None` where they do not fit.
-fn room_after(lines: &[Line], room: usize) -> Option<usize>
-    ensures { MatchOption result (room < length (section_octets (records_of_lines lines.now)))
-        (λ left. left + length (section_octets (records_of_lines lines.now)) ≡ room) }
+fn room_after(lines: &[LentRecord], room: usize) -> Option<usize>
+    ensures { MatchOption result (room < length (section_octets (records_of_lent lines.now)))
+        (λ left. left + length (section_octets (records_of_lent lines.now)) ≡ room) }
 {
     let mut left = room;
     for line in lines {

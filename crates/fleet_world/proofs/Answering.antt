@@ -12,16 +12,16 @@ use Rattle.fleet_wire.specs.declared.header.Header.{Header}
 use Rattle.fleet_wire.specs.declared.rcode.TheConstants.{NO_ERROR, NAME_ERROR}
 use Rattle.fleet_observe.specs.Observation.{ObservationData}
 use Rattle.fleet_observe.specs.declared.observation.kind.Kind.{Kind}
-use Rattle.fleet_observe.specs.declared.observation.kind.Kind.TheVariants.{NameError, NoData as WithoutData, Positive}
+use Rattle.fleet_observe.specs.declared.observation.kind.Kind.TheVariants.{NameError, NoData as KindNoData, Positive}
 use Rattle.fleet_cache.specs.Answer.{ShownData, AnswerData, Missed, Found, NoData, NxDomain, answer_of}
 use Rattle.fleet_cache.specs.Kinds.{ArePositiveParts, HasKinds}
 use Rattle.fleet_cache.specs.Laws.{TestsLive}
 use Rattle.fleet_site.specs.ConfigData.{ConfigData}
 use Rattle.fleet_site.specs.question.AnswerRecords.{bare_outline, WritesRecords, WritesDenial}
 use Rattle.fleet_site.specs.question.Looking.{Shows}
-use Rattle.fleet_site.specs.question.Verdict.{Verdict, Silence, Answer, Unreadable, Unknown, DecidesAnswer, DecidesQuestion, Decides}
+use Rattle.fleet_site.specs.question.Decision.{DecisionData, Dropped, Reply, Unread, Miss, DecidesAnswer, DecidesQuestion, Decides}
 use Rattle.fleet_site.specs.declared.looked.Looked.{Looked}
-use Rattle.fleet_site.specs.declared.looked.Looked.TheVariants.{Reply, Miss, Dropped}
+use Rattle.fleet_site.specs.declared.looked.Looked.TheVariants.{Reply as LookedReply, Miss as LookedMiss, Dropped as LookedDropped}
 use Rattle.fleet_world.specs.FleetModel.{Replica, FleetModel, opening}
 use Rattle.fleet_world.specs.Run.{Results, Run}
 use Rattle.fleet_world.specs.Own.{AllGossipIsOwn}
@@ -38,12 +38,12 @@ use Rattle.fleet_wire.proofs.Lemmas.{question_asked}
 use Rattle.fleet_world.proofs.Rows.{IsPlainLine, IsGoodPart, IsGoodRecord, good_rows, good_chain, good_soa}
 use Rattle.fleet_world.proofs.Reading.{OneReply, ReadsBack, without_read, outline_read}
 
--- what is read in the octets of a verdict
-abbrev pub VerdictReads : (RecordData → Type 0) → Verdict → Type 0
-VerdictReads P (Answer octets) = ReadsOnly P octets
-VerdictReads P (Unreadable octets f) = ReadsOnly P octets
-VerdictReads P Silence = Unit {0}
-VerdictReads P (Unknown h q) = Unit {0}
+-- what is read in the octets of a decision
+abbrev pub DecisionReads : (RecordData → Type 0) → DecisionData → Type 0
+DecisionReads P (Reply octets) = ReadsOnly P octets
+DecisionReads P (Unread octets f) = ReadsOnly P octets
+DecisionReads P Dropped = Unit {0}
+DecisionReads P (Miss h q) = Unit {0}
 
 all_lines : (xs : List RecordData) → ((x : RecordData) → Has xs x → IsPlainLine x)
     → AllByRecursion IsLine xs
@@ -116,20 +116,20 @@ module _ (one : OneReply) (back : ReadsBack) {A : Type 0} (m : FleetModel) (es :
   not_positive k j e f g = f (sym e ∙ g)
 
   -- an answer
-  answer_decides : (h : Header) (q : QuestionData) (answer : AnswerData) (v : Verdict)
+  answer_decides : (h : Header) (q : QuestionData) (answer : AnswerData) (v : DecisionData)
       → h.opcode < 16 → IsQuestionData q → HasKinds answer
       → ((p : ShownData) → Has (parts_of answer) p → GoodPart p) → DecidesAnswer h q answer v
-      → VerdictReads FreshRecord v
-  answer_decides h q Missed v opcode asked k f d = subst (VerdictReads FreshRecord) (sym d) tt
+      → DecisionReads FreshRecord v
+  answer_decides h q Missed v opcode asked k f d = subst (DecisionReads FreshRecord) (sym d) tt
   answer_decides h q (Found chain set) v opcode asked k f d =
-      subst (VerdictReads FreshRecord) (sym d.2)
+      subst (DecisionReads FreshRecord) (sym d.2)
       (records_read h q chain set d.0 opcode asked f k.0 k.1 d.1)
   answer_decides h q (NoData chain soa) v opcode asked k f d =
-      subst (VerdictReads FreshRecord) (sym d.2)
+      subst (DecisionReads FreshRecord) (sym d.2)
       (denial_read h NO_ERROR q chain soa d.0 opcode (omega arith) asked f k.0
-      (not_positive soa.observation.kind WithoutData k.1 (λ e. cc)) d.1)
+      (not_positive soa.observation.kind KindNoData k.1 (λ e. cc)) d.1)
   answer_decides h q (NxDomain chain soa) v opcode asked k f d =
-      subst (VerdictReads FreshRecord) (sym d.2)
+      subst (DecisionReads FreshRecord) (sym d.2)
       (denial_read h NAME_ERROR q chain soa d.0 opcode (omega arith) asked f k.0
       (not_positive soa.observation.kind NameError k.1 (λ e. cc)) d.1)
 
@@ -141,38 +141,38 @@ module _ (one : OneReply) (back : ReadsBack) {A : Type 0} (m : FleetModel) (es :
   opcode_of octets = omega arith
 
   -- whatever is asked
-  pub decides : (octets : List ℕ) (v : Verdict)
+  pub decides : (octets : List ℕ) (v : DecisionData)
       → ((name : List (List ℕ)) (rtype : ℕ) (p : ShownData)
       → Has (parts_of (answer_of s t name rtype)) p → GoodPart p)
-      → Decides s t octets v → VerdictReads FreshRecord v
-  decides octets v f (inl d) = subst (VerdictReads FreshRecord) (sym d.1) tt
-  decides octets v f (inr (long, inl d)) = subst (VerdictReads FreshRecord) (sym d.1) tt
+      → Decides s t octets v → DecisionReads FreshRecord v
+  decides octets v f (inl d) = subst (DecisionReads FreshRecord) (sym d.1) tt
+  decides octets v f (inr (long, inl d)) = subst (DecisionReads FreshRecord) (sym d.1) tt
   decides octets v f (inr (long, inr (asking, inl d))) =
-      subst (VerdictReads FreshRecord) (sym d.1) (bare_decides (header_of octets) _ None)
+      subst (DecisionReads FreshRecord) (sym d.1) (bare_decides (header_of octets) _ None)
   decides octets v f (inr (long, inr (asking, inr (plain, inl d)))) =
-      subst (VerdictReads FreshRecord) (sym d.1.2) (bare_decides (header_of octets) _ None)
+      subst (DecisionReads FreshRecord) (sym d.1.2) (bare_decides (header_of octets) _ None)
   decides octets v f (inr (long, inr (asking, inr (plain, inr d)))) = go d.1.3
     where
       q : QuestionData
       q = d.1.0
 
-      go : DecidesQuestion s t (header_of octets) q v → VerdictReads FreshRecord v
+      go : DecidesQuestion s t (header_of octets) q v → DecisionReads FreshRecord v
       go (inl k) =
-          subst (VerdictReads FreshRecord) (sym k.1) (bare_decides (header_of octets) _ (Some q))
+          subst (DecisionReads FreshRecord) (sym k.1) (bare_decides (header_of octets) _ (Some q))
       go (inr k) =
           answer_decides (header_of octets) q (answer_of s t q.name q.rtype) v (opcode_of octets)
           (question_asked octets 12 q d.1.1 d.1.2.question) (has_kinds-answer_of s t q.rtype q.name)
           (f q.name q.rtype) k.1
 
-shown_read : {A : Type 0} (P : RecordData → Type 0) (v : Verdict) (looked : Looked A)
-    (bytes : List ℕ) → VerdictReads P v → Shows v looked → IsReplyOf looked bytes
+shown_read : {A : Type 0} (P : RecordData → Type 0) (v : DecisionData) (looked : Looked A)
+    (bytes : List ℕ) → DecisionReads P v → Shows v looked → IsReplyOf looked bytes
     → ReadsOnly P bytes
-shown_read P (Answer octets) (Reply b) bytes r s is = subst (ReadsOnly P) (sym (is ∙ s)) r
-shown_read P (Unreadable octets f) (Reply b) bytes r s is = subst (ReadsOnly P) (sym (is ∙ s)) r
-shown_read P Silence (Reply b) bytes r s is = absurd s
-shown_read P (Unknown h q) (Reply b) bytes r s is = absurd s
-shown_read P v Miss bytes r s is = absurd is
-shown_read P v Dropped bytes r s is = absurd is
+shown_read P (Reply octets) (LookedReply b) bytes r s is = subst (ReadsOnly P) (sym (is ∙ s)) r
+shown_read P (Unread octets f) (LookedReply b) bytes r s is = subst (ReadsOnly P) (sym (is ∙ s)) r
+shown_read P Dropped (LookedReply b) bytes r s is = absurd s
+shown_read P (Miss h q) (LookedReply b) bytes r s is = absurd s
+shown_read P v LookedMiss bytes r s is = absurd is
+shown_read P v LookedDropped bytes r s is = absurd is
 
 -- what holds of each record that is read
 pub reads_more : (P Q : RecordData → Type 0) (octets : List ℕ) → ((x : RecordData) → P x → Q x)

@@ -6,7 +6,7 @@ use Rattle.std.proofs.lemmas.Bool.{and_parts}
 use Rattle.fleet_name.specs.Places.{Has}
 use Rattle.fleet_observe.specs.declared.bounds.TheConstants.{MOST_LINKS}
 use Rattle.fleet_observe.specs.declared.observation.kind.Kind.{Kind}
-use Rattle.fleet_observe.specs.declared.observation.kind.Kind.TheVariants.{NameError, NoData as WithoutData, Positive, Flush}
+use Rattle.fleet_observe.specs.declared.observation.kind.Kind.TheVariants.{NameError, NoData as KindNoData, Positive, Flush}
 use Rattle.fleet_observe.specs.Observation.{ObservationData}
 use Rattle.fleet_cache.specs.Answer.{ShownData, AnswerData, Missed, Found, NoData, NxDomain, add_link, answer_of_kind, by_kind, is_link, target, decider, answer_by, answer_within, answer_of, part_at}
 use Rattle.fleet_cache.specs.Live.{is_live, shown_ttl}
@@ -50,8 +50,8 @@ module _ (s : List ObservationData) (t rtype : ℕ) where
   alone : (k : Kind) (p x : ShownData) → Has (parts_of (answer_of_kind k p)) x → p ≡ x
   alone Positive p x (inl e) = e
   alone Positive p x (inr h) = absurd h
-  alone WithoutData p x (inl e) = e
-  alone WithoutData p x (inr h) = absurd h
+  alone KindNoData p x (inl e) = e
+  alone KindNoData p x (inr h) = absurd h
   alone NameError p x (inl e) = e
   alone NameError p x (inr h) = absurd h
   alone Flush p x h = absurd h

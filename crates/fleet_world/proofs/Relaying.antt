@@ -12,7 +12,7 @@ use Rattle.fleet_wire.specs.Record.{RecordData, IsPlainRecord}
 use Rattle.fleet_wire.specs.Shape.{IsPlain}
 use Rattle.fleet_wire.specs.declared.class.TheConstants.{IN}
 use Rattle.fleet_wire.specs.declared.rtype.TheConstants.{CNAME, SOA}
-use Rattle.fleet_observe.specs.Digest.{EndData, WithRecords, WithoutData, WithoutName, WithCode, CutOff, DigestData}
+use Rattle.fleet_observe.specs.Digest.{EndData, Records, NoData, NxDomain, Code, Truncated, DigestData}
 use Rattle.fleet_observe.specs.DigestOf.{IsSoa, EndsAs, IsDigest}
 use Rattle.fleet_observe.specs.Relay.{code_of, is_cut, set_lines, chain_lines, answer_lines, soa_lines, authority_lines, relay_outline}
 use Rattle.fleet_observe.specs.RrSet.{RrSetData, IsRrSet}
@@ -70,25 +70,25 @@ module _ (r : MessageData) where
 
   answer_allowed : (chain : List RrSetData) (e : EndData) (y : RecordData) → EndsAs r chain e
       → Has (chain_lines chain ++ answer_lines e) y → IsAllowed y
-  answer_allowed chain CutOff y is h = elim (has_either (chain_lines chain) [] y h) [
+  answer_allowed chain Truncated y is h = elim (has_either (chain_lines chain) [] y h) [
     | inl k ↦ no_chain chain y is.1 k
     | inr k ↦ absurd k
   ]
-  answer_allowed chain (WithCode c) y is h = elim (has_either (chain_lines chain) [] y h) [
+  answer_allowed chain (Code c) y is h = elim (has_either (chain_lines chain) [] y h) [
     | inl k ↦ no_chain chain y is.4 k
     | inr k ↦ absurd k
   ]
-  answer_allowed chain (WithRecords x) y is h =
+  answer_allowed chain (Records x) y is h =
       elim (has_either (chain_lines chain) (set_lines x) y h) [
         | inl k ↦ chain_allowed r.question.name is.later chain y is.links k
         | inr k ↦ inl (in_set r.answer (last r.question.name is.later) r.question.rtype x y
             is.end_is k)
       ]
-  answer_allowed chain (WithoutData soa) y is h = elim (has_either (chain_lines chain) [] y h) [
+  answer_allowed chain (NoData soa) y is h = elim (has_either (chain_lines chain) [] y h) [
     | inl k ↦ chain_allowed r.question.name is.later chain y is.links k
     | inr k ↦ absurd k
   ]
-  answer_allowed chain (WithoutName soa) y is h = elim (has_either (chain_lines chain) [] y h) [
+  answer_allowed chain (NxDomain soa) y is h = elim (has_either (chain_lines chain) [] y h) [
     | inl k ↦ chain_allowed r.question.name is.later chain y is.links k
     | inr k ↦ absurd k
   ]
@@ -110,12 +110,12 @@ module _ (r : MessageData) where
 
   authority_allowed : (chain : List RrSetData) (e : EndData) (y : RecordData) → EndsAs r chain e
       → Has (authority_lines e) y → IsAllowed y
-  authority_allowed chain CutOff y is h = absurd h
-  authority_allowed chain (WithCode c) y is h = absurd h
-  authority_allowed chain (WithRecords x) y is h = absurd h
-  authority_allowed chain (WithoutData soa) y is h =
+  authority_allowed chain Truncated y is h = absurd h
+  authority_allowed chain (Code c) y is h = absurd h
+  authority_allowed chain (Records x) y is h = absurd h
+  authority_allowed chain (NoData soa) y is h =
       soa_allowed (last r.question.name is.later) soa y is.end_is.2 h
-  authority_allowed chain (WithoutName soa) y is h =
+  authority_allowed chain (NxDomain soa) y is h =
       soa_allowed (last r.question.name is.later) soa y is.end_is.2 h
 
 -- what reads as a reply is lawful
@@ -162,11 +162,11 @@ plain_allowed r y ttl read (inr (inr is)) =
 -- the RCODE of a relay
 code_short : (r : MessageData) (chain : List RrSetData) (e : EndData) → r.header.rcode < 16
     → EndsAs r chain e → code_of e < 16
-code_short r chain CutOff short is = omega arith
-code_short r chain (WithCode c) short is = omega (arith, short, is.3)
-code_short r chain (WithRecords x) short is = omega arith
-code_short r chain (WithoutData soa) short is = omega arith
-code_short r chain (WithoutName soa) short is = omega arith
+code_short r chain Truncated short is = omega arith
+code_short r chain (Code c) short is = omega (arith, short, is.3)
+code_short r chain (Records x) short is = omega arith
+code_short r chain (NoData soa) short is = omega arith
+code_short r chain (NxDomain soa) short is = omega arith
 
 lines_of : (xs : List RecordData) → ((y : RecordData) → Has xs y → IsPlainLine y)
     → AllByRecursion IsLine xs
@@ -236,14 +236,14 @@ module _ (one : OneReply) (back : ReadsBack) (is_read : ReadsLawful) (A : Type 0
         by_end : (w : WaiterData) → IsQuestionData w.question → (e : EndData) → g.end ≡ e
             → EndsAs r g.chain e
             → ReadsOnly (OfReply a) (octets_of_outline (relay_outline g w.question w.id true))
-        by_end w lawful CutOff e ends = without_read (OfReply a)
+        by_end w lawful Truncated e ends = without_read (OfReply a)
             (relay_outline g w.question w.id true)
             (ap (λ x. length (chain_lines g.chain ++ answer_lines x)) e ∙ none_of g.chain ends.1)
             (ap (λ x. length (authority_lines x)) e)
-        by_end w lawful (WithCode c) e ends = whole w lawful (ap is_cut e)
-        by_end w lawful (WithRecords x) e ends = whole w lawful (ap is_cut e)
-        by_end w lawful (WithoutData soa) e ends = whole w lawful (ap is_cut e)
-        by_end w lawful (WithoutName soa) e ends = whole w lawful (ap is_cut e)
+        by_end w lawful (Code c) e ends = whole w lawful (ap is_cut e)
+        by_end w lawful (Records x) e ends = whole w lawful (ap is_cut e)
+        by_end w lawful (NoData soa) e ends = whole w lawful (ap is_cut e)
+        by_end w lawful (NxDomain soa) e ends = whole w lawful (ap is_cut e)
 
         relays : (d : Effect) → Relays a.site.pending (max a.site.clock now) entry g d
             → Has d.says.packets p → Reads a

@@ -20,7 +20,7 @@ use Rattle.fleet_site.specs.Tick.{question_of, failure, failure_to, Ticked}
 use Rattle.fleet_site.specs.gossip.Frame.{Framed}
 use Rattle.fleet_site.specs.question.AnswerRecords.{bare_outline}
 use Rattle.fleet_site.specs.question.Question.{Forwarded, is_asked, is_quiet, is_turned_away, Reacts}
-use Rattle.fleet_site.specs.question.Verdict.{Verdict, Silence, Answer, Unreadable, Unknown}
+use Rattle.fleet_site.specs.question.Decision.{DecisionData, Dropped, Reply, Unread, Miss}
 use Rattle.fleet_site.specs.reply.Digested.{DigestedThen}
 use Rattle.fleet_site.specs.reply.Learn.{Learnt}
 use Rattle.fleet_world.specs.Becomes.{Calls, Becomes}
@@ -38,7 +38,7 @@ use Rattle.fleet_world.specs.declared.fault.WorldFault.{WorldFault}
 use Rattle.fleet_world.proofs.Packs.{OneList}
 use Rattle.fleet_world.proofs.Rows.{has_map}
 use Rattle.fleet_world.proofs.Reading.{OneReply, ReadsBack, without_read, query_read}
-use Rattle.fleet_world.proofs.Answering.{VerdictReads, decides, reads_more, good_parts}
+use Rattle.fleet_world.proofs.Answering.{DecisionReads, decides, reads_more, good_parts}
 
 -- the call of an event that sent a datagram
 pub record IsSent {A : Type 0} (m : FleetModel) (e : Event A) (p : PacketData) : Type 0 where
@@ -113,17 +113,17 @@ module _ (P : RecordData → Type 0) where
   forwarded upstreams from h q answer e p (is_turned_away f some told says) k =
       one_packet from _ p (bare h _ (Some q)) (subst (λ (x : OutcomeData). Has x.packets p) says k)
 
-  reacts : (upstreams : List Addr) (o : PendingData) (t : ℕ) (from : Addr) (word : ℕ) (v : Verdict)
-      (d : Effect) (p : PacketData) → VerdictReads P v → Reacts upstreams o t from word v d
+  reacts : (upstreams : List Addr) (o : PendingData) (t : ℕ) (from : Addr) (word : ℕ) (v : DecisionData)
+      (d : Effect) (p : PacketData) → DecisionReads P v → Reacts upstreams o t from word v d
       → Has d.says.packets p → ReadsOnly P p.octets
-  reacts upstreams o t from word Silence d p r e k = absurd (packets_are d _ p e k)
-  reacts upstreams o t from word (Answer octets) d p r e k =
+  reacts upstreams o t from word Dropped d p r e k = absurd (packets_are d _ p e k)
+  reacts upstreams o t from word (Reply octets) d p r e k =
       one_packet from octets p r (packets_are d _ p e k)
-  reacts upstreams o t from word (Unreadable octets f) d p r e k =
+  reacts upstreams o t from word (Unread octets f) d p r e k =
       one_packet from octets p r (packets_are d _ p e k)
-  reacts upstreams o t from word (Unknown h q) d p r (inl e) k =
+  reacts upstreams o t from word (Miss h q) d p r (inl e) k =
       one_packet from _ p (bare h _ (Some q)) (packets_are d _ p e.1 k)
-  reacts upstreams o t from word (Unknown h q) d p r (inr e) k =
+  reacts upstreams o t from word (Miss h q) d p r (inr e) k =
       forwarded upstreams from h q e.1.answer d.says p e.1.says k
 
   ticked : (upstreams : List Addr) (o : PendingData) (t : ℕ) (d : Effect) (p : PacketData)

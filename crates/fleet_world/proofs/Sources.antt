@@ -8,7 +8,7 @@ use Rattle.fleet_wire.specs.declared.rtype.TheConstants.{CNAME, NS}
 use Rattle.fleet_observe.specs.declared.bounds.TheConstants.{LONGEST_BODY}
 use Rattle.fleet_observe.specs.declared.rank.TheConstants.{AUTHORITY}
 use Rattle.fleet_observe.specs.declared.observation.kind.Kind.{Kind}
-use Rattle.fleet_observe.specs.declared.observation.kind.Kind.TheVariants.{NameError, NoData, Flush}
+use Rattle.fleet_observe.specs.declared.observation.kind.Kind.TheVariants.{NameError, NoData as KindNoData, Flush}
 use Rattle.fleet_observe.specs.Body.{negative_body}
 use Rattle.fleet_observe.specs.Observation.{ObservationData, IsNegativeKind}
 use Rattle.fleet_observe.specs.Observations.{living_observation, fitting_observation, set_observation, positive_observations, soa_observation, denial_observations, answer_rank, link_observations, end_observations, ns_observations, reply_observations, denial_rank, IsObserved}
@@ -16,7 +16,7 @@ use Rattle.fleet_observe.specs.RrSet.{RrSetData, IsRrSet}
 use Rattle.fleet_observe.specs.Soa.{SoaData}
 use Rattle.fleet_observe.specs.Walk.{AreLinks, last}
 use Rattle.fleet_observe.proofs.Lemmas.{denied_is}
-use Rattle.fleet_observe.specs.Digest.{EndData, WithRecords, WithoutData, WithoutName, WithCode, CutOff, DigestData, denied_by}
+use Rattle.fleet_observe.specs.Digest.{EndData, Records, NoData, NxDomain, Code, Truncated, DigestData, denied_by}
 use Rattle.fleet_observe.specs.DigestOf.{IsSoaOf, IsSoa, WalkEndsAs, EndsAs, IsAuthority, IsDigest}
 use Rattle.fleet_world.specs.FleetModel.{FleetModel}
 use Rattle.fleet_world.specs.Run.{Results, Run}
@@ -153,11 +153,11 @@ module _ (r : MessageData) (moment : ℕ) where
 
   chained : (d : DigestData) (e : EndData) (o : ObservationData) → EndsAs r d.chain e
       → Has (link_observations d.aa d.name moment d.chain) o → IsDated r moment o
-  chained d CutOff o is h = chain_of_none d o is.1 h
-  chained d (WithCode c) o is h = chain_of_none d o is.4 h
-  chained d (WithRecords x) o is h = chain_of_walk d o (WithRecords x) is h
-  chained d (WithoutData soa) o is h = chain_of_walk d o (WithoutData soa) is h
-  chained d (WithoutName soa) o is h = chain_of_walk d o (WithoutName soa) is h
+  chained d Truncated o is h = chain_of_none d o is.1 h
+  chained d (Code c) o is h = chain_of_none d o is.4 h
+  chained d (Records x) o is h = chain_of_walk d o (Records x) is h
+  chained d (NoData soa) o is h = chain_of_walk d o (NoData soa) is h
+  chained d (NxDomain soa) o is h = chain_of_walk d o (NxDomain soa) is h
 
   counted : (n k : List (List ℕ)) (soa : Option SoaData) (x : SoaData) → k ≡ n
       → IsSoa r.authority n soa → soa ≡ Some x → IsSoaOf r.authority k x
@@ -167,19 +167,19 @@ module _ (r : MessageData) (moment : ℕ) where
 
   ended : (d : DigestData) (e : EndData) (o : ObservationData) → d.name ≡ r.question.name
       → EndsAs r d.chain e → Has (end_observations d moment e) o → IsDated r moment o
-  ended d CutOff o name is h = absurd h
-  ended d (WithCode c) o name is h = absurd h
-  ended d (WithRecords x) o name is h =
+  ended d Truncated o name is h = absurd h
+  ended d (Code c) o name is h = absurd h
+  ended d (Records x) o name is h =
       of_answer (last r.question.name is.later) r.question.rtype x
       (answer_rank d.aa d.name x.name) o is.end_is h
-  ended d (WithoutData soa) o name is h =
-      denial NoData (denied_by d.name d.chain) d.rtype (denial_rank d.aa d.chain) soa o (inr refl)
+  ended d (NoData soa) o name is h =
+      denial KindNoData (denied_by d.name d.chain) d.rtype (denial_rank d.aa d.chain) soa o (inr refl)
       (λ x q. counted (last r.question.name is.later) (denied_by d.name d.chain) soa x
-      (walked d (WithoutData soa) name is) is.end_is.2 q) h
-  ended d (WithoutName soa) o name is h =
+      (walked d (NoData soa) name is) is.end_is.2 q) h
+  ended d (NxDomain soa) o name is h =
       denial NameError (denied_by d.name d.chain) 0 (denial_rank d.aa d.chain) soa o (inl refl)
       (λ x q. counted (last r.question.name is.later) (denied_by d.name d.chain) soa x
-      (walked d (WithoutName soa) name is) is.end_is.2 q) h
+      (walked d (NxDomain soa) name is) is.end_is.2 q) h
 
   -- an observation of a reply has its moment, and the life that the reply allows
   pub dated : (d : DigestData) (o : ObservationData) → IsDigest r d

@@ -22,7 +22,7 @@ use Rattle.fleet_site.specs.Step.{Step as SiteStep}
 use Rattle.fleet_site.specs.Tick.{Ticked}
 use Rattle.fleet_site.specs.gossip.Frame.{Framed}
 use Rattle.fleet_site.specs.question.Question.{waiter, Reacts}
-use Rattle.fleet_site.specs.question.Verdict.{Verdict, Silence, Answer, Unreadable, Unknown, DecidesAnswer, DecidesQuestion, Decides}
+use Rattle.fleet_site.specs.question.Decision.{DecisionData, Dropped, Reply, Unread, Miss, DecidesAnswer, DecidesQuestion, Decides}
 use Rattle.fleet_site.specs.reply.Digested.{DigestedThen}
 use Rattle.fleet_site.specs.reply.Learn.{Learnt}
 use Rattle.fleet_site.specs.reply.Reply.{Relays, MatchedThen, Replied}
@@ -46,30 +46,30 @@ abbrev pub AskLawfully : PendingData → Type 0
 AskLawfully o = (w : WaiterData) → IsWaiting o w → IsQuestionData w.question
 
 -- what is not known is asked with a lawful question
-unknown_lawful : (answer : AnswerData) (h k : Header) (q u : QuestionData) → IsQuestionData q
-    → DecidesAnswer h q answer (Unknown k u) → IsQuestionData u
-unknown_lawful Missed h k q u lawful d = subst IsQuestionData (sym (same d)) lawful
+missed_lawful : (answer : AnswerData) (h k : Header) (q u : QuestionData) → IsQuestionData q
+    → DecidesAnswer h q answer (Miss k u) → IsQuestionData u
+missed_lawful Missed h k q u lawful d = subst IsQuestionData (sym (same d)) lawful
   where
-    same : Unknown k u ≡ Unknown h q → u ≡ q
+    same : Miss k u ≡ Miss h q → u ≡ q
     same e = cc
-unknown_lawful (Found chain set) h k q u lawful d = absurd (let e : Unknown k u ≡ Answer d.0 = d.2 in cc)
-unknown_lawful (NoData chain soa) h k q u lawful d = absurd (let e : Unknown k u ≡ Answer d.0 = d.2 in cc)
-unknown_lawful (NxDomain chain soa) h k q u lawful d = absurd (let e : Unknown k u ≡ Answer d.0 = d.2 in cc)
+missed_lawful (Found chain set) h k q u lawful d = absurd (let e : Miss k u ≡ Reply d.0 = d.2 in cc)
+missed_lawful (NoData chain soa) h k q u lawful d = absurd (let e : Miss k u ≡ Reply d.0 = d.2 in cc)
+missed_lawful (NxDomain chain soa) h k q u lawful d = absurd (let e : Miss k u ≡ Reply d.0 = d.2 in cc)
 
 asked_lawful : (s : List ObservationData) (t : ℕ) (octets : List ℕ) (h : Header) (q : QuestionData)
-    → Decides s t octets (Unknown h q) → IsQuestionData q
-asked_lawful s t octets h q (inl d) = absurd (let e : Unknown h q ≡ Silence = d.1 in cc)
-asked_lawful s t octets h q (inr (long, inl d)) = absurd (let e : Unknown h q ≡ Silence = d.1 in cc)
+    → Decides s t octets (Miss h q) → IsQuestionData q
+asked_lawful s t octets h q (inl d) = absurd (let e : Miss h q ≡ Dropped = d.1 in cc)
+asked_lawful s t octets h q (inr (long, inl d)) = absurd (let e : Miss h q ≡ Dropped = d.1 in cc)
 asked_lawful s t octets h q (inr (long, inr (asking, inl d))) =
-    absurd (let e : Unknown h q ≡ Answer _ = d.1 in cc)
+    absurd (let e : Miss h q ≡ Reply _ = d.1 in cc)
 asked_lawful s t octets h q (inr (long, inr (asking, inr (plain, inl d)))) =
-    absurd (let e : Unknown h q ≡ Unreadable _ d.1.0 = d.1.2 in cc)
+    absurd (let e : Miss h q ≡ Unread _ d.1.0 = d.1.2 in cc)
 asked_lawful s t octets h q (inr (long, inr (asking, inr (plain, inr d)))) = go d.1.3
   where
-    go : DecidesQuestion s t (header_of octets) d.1.0 (Unknown h q) → IsQuestionData q
-    go (inl k) = absurd (let e : Unknown h q ≡ Answer _ = k.1 in cc)
+    go : DecidesQuestion s t (header_of octets) d.1.0 (Miss h q) → IsQuestionData q
+    go (inl k) = absurd (let e : Miss h q ≡ Reply _ = k.1 in cc)
     go (inr k) =
-        unknown_lawful (answer_of s t d.1.0.name d.1.0.rtype) (header_of octets) h d.1.0 q
+        missed_lawful (answer_of s t d.1.0.name d.1.0.rtype) (header_of octets) h d.1.0 q
         (question_asked octets 12 d.1.0 d.1.1 d.1.2.question) k.1
 
 module _ (stay : WaitersStay) where
@@ -79,16 +79,16 @@ module _ (stay : WaitersStay) where
   kept_asking o d c k e q = subst AskLawfully (sym (ap (λ (x : Effect). x.asking) q ∙ e)) k
 
   reacts_asking : (upstreams : List Addr) (s : List ObservationData) (o : PendingData) (t : ℕ)
-      (from : Addr) (word : ℕ) (octets : List ℕ) (v : Verdict) (d : Effect) → AskLawfully o
+      (from : Addr) (word : ℕ) (octets : List ℕ) (v : DecisionData) (d : Effect) → AskLawfully o
       → Decides s t octets v → Reacts upstreams o t from word v d → AskLawfully d.asking
-  reacts_asking upstreams s o t from word octets Silence d k is e = kept_asking o d _ k refl e
-  reacts_asking upstreams s o t from word octets (Answer bytes) d k is e =
+  reacts_asking upstreams s o t from word octets Dropped d k is e = kept_asking o d _ k refl e
+  reacts_asking upstreams s o t from word octets (Reply bytes) d k is e =
       kept_asking o d _ k refl e
-  reacts_asking upstreams s o t from word octets (Unreadable bytes f) d k is e =
+  reacts_asking upstreams s o t from word octets (Unread bytes f) d k is e =
       kept_asking o d _ k refl e
-  reacts_asking upstreams s o t from word octets (Unknown h q) d k is (inl e) =
+  reacts_asking upstreams s o t from word octets (Miss h q) d k is (inl e) =
       kept_asking o d _ k refl e.1
-  reacts_asking upstreams s o t from word octets (Unknown h q) d k is (inr e) = λ w waits.
+  reacts_asking upstreams s o t from word octets (Miss h q) d k is (inr e) = λ w waits.
       elim (stay.asking o d.asking (waiter from h q) w t word e.1.answer e.1.asks waits) [
         | inl before ↦ k w before
         | inr new ↦ subst (λ (x : WaiterData). IsQuestionData x.question) (sym new)

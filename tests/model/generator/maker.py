@@ -174,10 +174,10 @@ class ScriptMaker:
         for _ in range(self.random.choice([1, 1, 1, 2, 3])):
             self.client_sends(index, moment, self.client(index), octets)
 
-    def client_sends(self, index, moment, address, octets):
+    def client_sends(self, index, now, address, octets):
         """A datagram of a client. Which questions are open is noted, for late replies."""
         word = self.random.choice([0, 1, 4660, 4660, 0xFFFF, self.random.randrange(65536)])
-        self.add("datagram", index, moment, address, word, octets_text(octets))
+        self.add("datagram", index, now, address, word, octets_text(octets))
         self.asked += [(index, entry.identifier, entry.name, entry.rtype) for entry in self.site(index).entries[-1:]]
 
     def crowd(self, index):

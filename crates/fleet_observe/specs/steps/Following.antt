@@ -1,4 +1,4 @@
--- The steps of a walk along CNAMEs.
+-- The hops of a walk along CNAMEs.
 -- Serves the walk in `digest`.
 use Rattle.std.specs.Prelude.{◌≡◌, List}
 use Rattle.fleet_name.specs.Types.{Labels, OctetList}
@@ -11,8 +11,8 @@ use Rattle.fleet_observe.specs.RrSet.{IsOfRrSet, InSet, IsEmpty, IsOnly, SpellsN
 use Rattle.fleet_observe.specs.declared.reply.summary.Followed.{Followed}
 use Rattle.fleet_observe.specs.declared.reply.walk.Found.{Found}
 use Rattle.fleet_observe.specs.declared.reply.walk.Found.TheVariants.{Nothing, One, Several}
-use Rattle.fleet_observe.specs.declared.reply.walk.Step.{Step}
-use Rattle.fleet_observe.specs.declared.reply.walk.Step.TheVariants.{Records, Alias, Bare, Fork}
+use Rattle.fleet_observe.specs.declared.reply.walk.Hop.{Hop}
+use Rattle.fleet_observe.specs.declared.reply.walk.Hop.TheVariants.{Records, Alias, Bare, Fork}
 use Rattle.fleet_observe.specs.Walk.{GoesOn, EndsFound, EndsBare, Ends, last, IsWalk, AreLinks}
 
 -- r is a record of the RRset at name n and type t
@@ -39,11 +39,11 @@ pub record IsAlias (s : List RecordData) (t : RType) (n : Labels) (r : RecordDat
   pub spelled : SpellsName r.rdata
 
 -- what the walk does at a name
-abbrev pub IsWalkStep : {A : Type 0} → List RecordData → RType → Labels → Step A → Type 0
-IsWalkStep s t n (Records r) = EndsFound s t n × IsOf s n t r.now
-IsWalkStep s t n (Alias r) = IsAlias s t n r.now
-IsWalkStep s t n Bare = EndsBare s t n
-IsWalkStep s t n Fork = IsFork s t n
+abbrev pub IsHop : {A : Type 0} → List RecordData → RType → Labels → Hop A → Type 0
+IsHop s t n (Records r) = EndsFound s t n × IsOf s n t r.now
+IsHop s t n (Alias r) = IsAlias s t n r.now
+IsHop s t n Bare = EndsBare s t n
+IsHop s t n Fork = IsFork s t n
 
 -- the walk was followed to its end
 pub record IsFollowed {A : Type 0} (s : List RecordData) (t : RType) (n : Labels)

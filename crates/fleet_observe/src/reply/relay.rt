@@ -7,7 +7,7 @@ ghost use Rattle.fleet_observe.specs.Relay.{code_of, is_cut, soa_lines, relay_ou
 
 use crate::observation::soa::Soa;
 use crate::reply::ending::End;
-use crate::reply::rows::{add_rows, add_soa};
+use crate::reply::rows::{add_rrset, add_soa};
 use crate::reply::summary::Digest;
 use fleet_wire::rcode::{NAME_ERROR, NO_ERROR};
 use fleet_wire::{Outline, Question, write_reply};
@@ -61,7 +61,7 @@ fn put_end<'a, A: Allocator + Copy>(
     ensures { OnOk result (outline.new ≡ with_end outline.old (end_data end.entry.now)) }
 {
     match end {
-        End::Records(set) => add_rows(outline, set.rows()),
+        End::Records(set) => add_rrset(outline, set.lend()),
         End::NoData(soa) => put_soa(outline, soa),
         End::NxDomain(soa) => put_soa(outline, soa),
         End::Code(_) => Ok(()),
@@ -85,7 +85,7 @@ fn outline_of<'a, A: Allocator + Copy>(
     let tc = is_cut_off(end);
     let mut outline = Outline::new(alloc, id, 0, rd, rcode, tc, Some(question));
     for link in digest.chain() {
-        add_rows(&mut outline, link.rows())?;
+        add_rrset(&mut outline, link.lend())?;
     }
     put_end(&mut outline, end)?;
     Ok(outline)

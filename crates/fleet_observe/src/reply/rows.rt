@@ -3,7 +3,7 @@
 ghost use Rattle.std.specs.Prelude.{◌≡◌, OnOk, OnErr};
 ghost use Rattle.fleet_wire.specs.Outline.{line, with_authority};
 ghost use Rattle.fleet_wire.specs.declared.rtype.TheConstants.{SOA};
-ghost use Rattle.fleet_observe.specs.RrSet.{rrset_of_rows};
+ghost use Rattle.fleet_observe.specs.RrSet.{rrset_of_lent};
 ghost use Rattle.fleet_observe.specs.Relay.{set_lines, with_answer_lines, HasFirstOf};
 
 use fleet_name::{Name, Octets};
@@ -13,7 +13,7 @@ use std::alloc::{AllocError, Allocator, Global};
 
 /// Records of the class IN of one owner and type, borrowed from an RRset or an observation.
 #[derive(Clone, Copy)]
-pub struct Rows<'a, A: Allocator = Global> {
+pub struct LentRrSet<'a, A: Allocator = Global> {
     /// The owner of the records.
     pub name: &'a Name<A>,
     /// The type of the records.
@@ -27,17 +27,17 @@ pub struct Rows<'a, A: Allocator = Global> {
 /// Adds records at the end of the answer section of a reply, one for each RDATA in their order: a
 /// link of a chain, or the records that it leads to. `Err` where an allocation fails; a number of
 /// the first ones, not all, has then been added, and nothing else is changed.
-pub fn add_rows<'a, A: Allocator + Copy>(
+pub fn add_rrset<'a, A: Allocator + Copy>(
     outline: &mut Outline<'a, A>,
-    rows: Rows<'a, A>,
+    lent: LentRrSet<'a, A>,
 ) -> Result<(), AllocError>
     ensures ok { OnOk result (outline.new
-        ≡ with_answer_lines outline.old (set_lines (rrset_of_rows rows.entry))) }
-    ensures err { OnErr result (HasFirstOf outline.old (set_lines (rrset_of_rows rows.entry))
+        ≡ with_answer_lines outline.old (set_lines (rrset_of_lent lent.entry))) }
+    ensures err { OnErr result (HasFirstOf outline.old (set_lines (rrset_of_lent lent.entry))
         outline.new) }
 {
-    for rdata in rows.rdatas {
-        match outline.answer(rows.name, rows.rtype, rows.ttl, rdata.as_slice()) {
+    for rdata in lent.rdatas {
+        match outline.answer(lent.name, lent.rtype, lent.ttl, rdata.as_slice()) {
             Ok(()) => (),
             Err(error) => return Err(error),
         }

@@ -4,12 +4,12 @@ ghost use Rattle.std.specs.Prelude.{◌≡◌, ◌≤◌, ◌⊎◌, ◌↔◌, 
 ghost use Rattle.fleet_name.specs.Types.{OctetList};
 ghost use Rattle.fleet_name.specs.Name.{labels_of};
 ghost use Rattle.fleet_observe.specs.Members.{Has, IsAscending};
-ghost use Rattle.fleet_observe.specs.RrSet.{SpellsName, IsOfRrSet, InSet, IsTtl, IsRrSet, read_ttl, rrset_of_rows, count_below, HasSet};
+ghost use Rattle.fleet_observe.specs.RrSet.{SpellsName, IsOfRrSet, InSet, IsTtl, IsRrSet, read_ttl, rrset_of_lent, count_below, HasSet};
 
 use crate::bounds::LONGEST_LIFE;
 use crate::items::Items;
 use crate::observation::values::is_data_type;
-use crate::reply::rows::Rows;
+use crate::reply::rows::LentRrSet;
 use fleet_name::{Name, Octets};
 use fleet_wire::Record;
 use fleet_wire::class::IN;
@@ -44,10 +44,10 @@ impl<A: Allocator> Model for RrSet<A> {
 
 impl<A: Allocator> RrSet<A> {
     /// The records of the RRset, lent, as a reply has them.
-    pub fn rows(&self) -> Rows<A>
-        ensures { rrset_of_rows result ≡ self.now }
+    pub fn lend(&self) -> LentRrSet<A>
+        ensures { rrset_of_lent result ≡ self.now }
     {
-        Rows {
+        LentRrSet {
             name: &self.name,
             rtype: self.rtype,
             ttl: self.ttl,

@@ -14,7 +14,7 @@ use crate::reply::denial::soa_for;
 use crate::reply::ending::End;
 use crate::reply::names::name_of;
 use crate::reply::rrset::{RrSet, rrset_at};
-use crate::reply::walk::{Step, found_at, step_at};
+use crate::reply::walk::{Hop, found_at, hop_at};
 use fleet_name::Name;
 use fleet_wire::rcode::NO_ERROR;
 use fleet_wire::rtype::CNAME;
@@ -131,7 +131,7 @@ fn follow<'a, A: Allocator + Copy>(
 {
     let mut chain = Vec::new(alloc);
     let mut at = name;
-    while let Step::Alias(alias) = step_at(answer, at, rtype) {
+    while let Hop::Alias(alias) = hop_at(answer, at, rtype) {
         let link = rrset_at(alloc, answer, &alias.name, CNAME)?;
         chain.push(link)?;
         at = alias.rdata.as_slice();

@@ -4,7 +4,7 @@ ghost use Rattle.std.specs.Prelude.{◌≡◌, ℕ, ◌≤◌, ◌⊎◌, ◌↔
 ghost use Rattle.fleet_name.specs.Name.{labels_of};
 ghost use Rattle.fleet_observe.specs.RrSet.{SpellsName};
 ghost use Rattle.fleet_observe.specs.Walk.{HasWalk, Ends, EndsFound, EndsBare};
-ghost use Rattle.fleet_observe.specs.steps.Following.{ArePlainRecords, IsFound, IsWalkStep, IsOf};
+ghost use Rattle.fleet_observe.specs.steps.Following.{ArePlainRecords, IsFound, IsHop, IsOf};
 
 use crate::bounds::MOST_LINKS;
 use crate::reply::rrset::is_of_rrset;
@@ -25,7 +25,7 @@ pub(crate) enum Found<'a, A: Allocator> {
 
 /// What the walk does at a name: with a record of the RRset that decides it.
 #[derive(Drop)]
-pub(crate) enum Step<'a, A: Allocator> {
+pub(crate) enum Hop<'a, A: Allocator> {
     /// It ends with records of the type.
     Records(&'a Record<A>),
     /// It goes on to the target of this alias.
@@ -61,28 +61,28 @@ fn find_rrset<'a, A: Allocator>(section: &'a [Record<A>], name: &[u8], rtype: u1
 }
 
 /// What the walk does at this name, in full.
-pub(crate) fn step_at<'a, A: Allocator>(
+pub(crate) fn hop_at<'a, A: Allocator>(
     answer: &'a [Record<A>],
     name: &[u8],
     rtype: u16,
-) -> Step<'a, A>
+) -> Hop<'a, A>
     requires spelled { SpellsName name.now }
     requires plain { ArePlainRecords answer.now }
-    ensures { IsWalkStep answer.now rtype (labels_of name.now) result }
+    ensures { IsHop answer.now rtype (labels_of name.now) result }
 {
     match find_rrset(answer, name, rtype) {
-        Found::One(record) => Step::Records(record),
+        Found::One(record) => Hop::Records(record),
         Found::Several(record) => {
             if rtype == CNAME {
-                Step::Fork
+                Hop::Fork
             } else {
-                Step::Records(record)
+                Hop::Records(record)
             }
         }
         Found::Nothing => match find_rrset(answer, name, CNAME) {
-            Found::Nothing => Step::Bare,
-            Found::One(alias) => Step::Alias(alias),
-            Found::Several(_) => Step::Fork,
+            Found::Nothing => Hop::Bare,
+            Found::One(alias) => Hop::Alias(alias),
+            Found::Several(_) => Hop::Fork,
         },
     }
 }
@@ -95,11 +95,11 @@ pub(crate) fn has_walk<A: Allocator>(answer: &[Record<A>], name: &[u8], rtype: u
 {
     let mut at = name;
     for _ in 0..MOST_LINKS + 1 {
-        match step_at(answer, at, rtype) {
-            Step::Alias(alias) => at = alias.rdata.as_slice(),
-            Step::Records(_) => return true,
-            Step::Bare => return true,
-            Step::Fork => return false,
+        match hop_at(answer, at, rtype) {
+            Hop::Alias(alias) => at = alias.rdata.as_slice(),
+            Hop::Records(_) => return true,
+            Hop::Bare => return true,
+            Hop::Fork => return false,
         }
     }
     false
@@ -117,10 +117,10 @@ pub(crate) fn found_at<'a, A: Allocator>(
     ensures { MatchOption result (EndsBare answer.now rtype (labels_of name.now))
         (λ r. IsOf answer.now (labels_of name.now) rtype r.now) }
 {
-    match step_at(answer, name, rtype) {
-        Step::Records(record) => Some(record),
-        Step::Bare => None,
-        Step::Alias(_) => None,
-        Step::Fork => None,
+    match hop_at(answer, name, rtype) {
+        Hop::Records(record) => Some(record),
+        Hop::Bare => None,
+        Hop::Alias(_) => None,
+        Hop::Fork => None,
     }
 }

@@ -21,8 +21,8 @@ use Rattle.fleet_site.specs.Choice.{when◌then◌otherwise◌}
 use Rattle.fleet_site.specs.OutcomeData.{OutcomeData, nothing, sends}
 use Rattle.fleet_site.specs.question.AnswerRecords.{bare_octets}
 use Rattle.fleet_site.specs.SiteModel.{Effect, says_only, refuses}
-use Rattle.fleet_site.specs.question.Verdict.{Verdict, Silence, Answer, Unreadable, Unknown, Decides}
-use Rattle.fleet_site.specs.declared.outcome.Refusal.TheVariants.{Read, Full, Dropped}
+use Rattle.fleet_site.specs.question.Decision.{DecisionData, Dropped, Reply, Unread, Miss, Decides}
+use Rattle.fleet_site.specs.declared.outcome.Refusal.TheVariants.{Read, Full, Dropped as RefusalDropped}
 
 -- one who waits for the answer to a question: address, identifier, and the question as it is spelled
 abbrev pub waiter : Addr → Header → QuestionData → WaiterData
@@ -57,12 +57,12 @@ pub record Forwards (upstreams : List Addr) (o : PendingData) (t : Seconds) (fro
 -- what a site does with a question where this was decided. Where nothing known answers it, it is
 -- refused if recursion is not wanted (RD clear, RCODE 5, RFC 1035 4.1.1), and else goes to the table of
 -- open questions
-abbrev pub Reacts : List Addr → PendingData → Seconds → Addr → ℕ → Verdict → Effect → Type 0
-Reacts upstreams o t from word Silence d = d ≡ refuses Dropped o
-Reacts upstreams o t from word (Answer octets) d = d ≡ says_only (sends from octets) o
-Reacts upstreams o t from word (Unreadable octets f) d =
+abbrev pub Reacts : List Addr → PendingData → Seconds → Addr → ℕ → DecisionData → Effect → Type 0
+Reacts upstreams o t from word Dropped d = d ≡ refuses RefusalDropped o
+Reacts upstreams o t from word (Reply octets) d = d ≡ says_only (sends from octets) o
+Reacts upstreams o t from word (Unread octets f) d =
     d ≡ says_only (record (sends from octets) { refused = Some (Read f) }) o
-Reacts upstreams o t from word (Unknown h q) d =
+Reacts upstreams o t from word (Miss h q) d =
     when h.rd ≡ false then d ≡ says_only (sends from (bare_octets h REFUSED (Some q))) o otherwise
     Forwards upstreams o t from word h q d
 
@@ -70,4 +70,4 @@ Reacts upstreams o t from word (Unknown h q) d =
 abbrev pub Questioned : Observations → List Addr → PendingData → Seconds → Addr → ℕ → OctetList
     → Effect → Type 0
 Questioned taken upstreams o t from word octets d =
-    (v : Verdict) × Decides taken t octets v × Reacts upstreams o t from word v d
+    (v : DecisionData) × Decides taken t octets v × Reacts upstreams o t from word v d

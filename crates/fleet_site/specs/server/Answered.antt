@@ -22,7 +22,7 @@ use Rattle.fleet_site.specs.SiteModel.{SiteModel, IsLawfulModel}
 use Rattle.fleet_site.specs.Step.{datagram, tick, Step}
 use Rattle.fleet_site.specs.Tick.{failure_to}
 use Rattle.fleet_site.specs.question.Question.{waiter}
-use Rattle.fleet_site.specs.question.Verdict.{IsAsking, IsStandardQuery}
+use Rattle.fleet_site.specs.question.Decision.{IsAsking, IsStandardQuery}
 use Rattle.fleet_site.specs.reply.Reply.{relay_to}
 use Rattle.fleet_site.specs.StandsFor.{StandsFor}
 use Rattle.fleet_site.specs.server.Turn.{TurnStep, calling, TurnStepSays, Action, ActionsLead, Ticks, ServerState, Turn}

@@ -11,7 +11,7 @@ use Rattle.fleet_pending.specs.declared.bounds.TheConstants.{TRY_SECONDS}
 use Rattle.fleet_pending.specs.declared.addr.Addr.{Addr}
 use Rattle.fleet_site.specs.PacketData.{PacketData}
 use Rattle.fleet_site.specs.SiteData.{SiteData}
-use Rattle.fleet_site.specs.question.Verdict.{IsAsking}
+use Rattle.fleet_site.specs.question.Decision.{IsAsking}
 use Rattle.fleet_site.specs.server.PortRecord.{PortCall, Received}
 use Rattle.fleet_site.specs.server.Turn.{ServerState, Turn, Turns, start_of}
 use Rattle.fleet_site.specs.server.Replies.{IsClient, ReceivedAt, SentAt, IsReadAs, Echoes, RepliesWith, OwesNothing, RunsLead}
@@ -33,11 +33,11 @@ RunsAreTurns = (moments : Option (ℕ → ℕ)) (words : Stream) (every : Second
 pub record IsGivenIn (first last : ServerState) (k : ℕ) (from : Addr) (octets : OctetList) : Type 0 where
   pub a : ServerState
   pub b : ServerState
-  pub moment : Seconds
+  pub now : Seconds
   pub word : ℕ
   pub every : Seconds
   pub before : TurnsLead first a
-  pub turn : Turn moment word every a b
+  pub turn : Turn now word every a b
   pub behind : TurnsLead b last
   pub room : ℕ
   pub received : turn.arrival ≡ Received room from octets
@@ -65,10 +65,10 @@ MemoryIsCounted =
 pub record ServerTry (a b : ServerState) : Type 0 where
   pub before : ServerState
   pub turns : TurnsLead a before
-  pub moment : Seconds
+  pub now : Seconds
   pub word : ℕ
   pub every : Seconds
-  pub turn : Turn moment word every before b
+  pub turn : Turn now word every before b
   pub whole : AllByRecursion IsDoneWhole turn.ticks
   pub later : a.site.clock + TRY_SECONDS ≤ b.site.clock
 

@@ -14,7 +14,7 @@ use Rattle.fleet_site.specs.PacketData.{PacketData}
 use Rattle.fleet_site.specs.SiteData.{SiteData}
 use Rattle.fleet_site.specs.SiteModel.{SiteModel, IsLawfulModel}
 use Rattle.fleet_site.specs.StandsFor.{StandsFor, opening}
-use Rattle.fleet_site.specs.question.Verdict.{IsAsking}
+use Rattle.fleet_site.specs.question.Decision.{IsAsking}
 use Rattle.fleet_site.specs.server.PortRecord.{PortCall, Received, PortState}
 use Rattle.fleet_site.specs.server.Sending.{IsSend}
 use Rattle.fleet_site.specs.server.Served.{RunInput, Served}

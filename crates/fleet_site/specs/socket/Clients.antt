@@ -7,7 +7,7 @@ use Rattle.fleet_name.specs.Places.{Has}
 use Rattle.fleet_wire.specs.Types.{Seconds}
 use Rattle.fleet_pending.specs.declared.addr.Addr.{Addr}
 use Rattle.fleet_site.specs.SiteData.{SiteData}
-use Rattle.fleet_site.specs.question.Verdict.{IsAsking}
+use Rattle.fleet_site.specs.question.Decision.{IsAsking}
 use Rattle.fleet_site.specs.server.PortRecord.{PortCall, Received, PacketSent, PacketLost}
 use Rattle.fleet_site.specs.server.Turn.{ROOM, ServerState, Turn, start_of}
 use Rattle.fleet_site.specs.server.Served.{RunInput}

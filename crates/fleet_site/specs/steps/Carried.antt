@@ -19,7 +19,7 @@ use Rattle.fleet_site.specs.OutcomeData.{OutcomeData, nothing, sends}
 use Rattle.fleet_site.specs.question.Question.{turns_away}
 use Rattle.fleet_site.specs.question.AnswerRecords.{bare_octets}
 use Rattle.fleet_site.specs.SiteModel.{Effect, says_only}
-use Rattle.fleet_site.specs.question.Verdict.{Verdict, Unreadable}
+use Rattle.fleet_site.specs.question.Decision.{DecisionData, Unread as UnreadData}
 use Rattle.fleet_site.specs.declared.outcome.SiteFault.{SiteFault}
 use Rattle.fleet_site.specs.declared.outcome.SiteFault.TheVariants.{OutOfMemory}
 use Rattle.fleet_site.specs.declared.verdict.Decision.{Decision}
@@ -70,8 +70,8 @@ IsAnswered (Unread octets f) = Unit {0}
 IsAnswered (Miss h q) = Unit {0}
 
 -- the reply says that the octets can't be read, for this fault, which is not out of memory
-abbrev pub SaysUnread : Header → ReadFault → Verdict → Type 0
-SaysUnread h f v = (f ≢ NoMemory) × (v ≡ Unreadable (bare_octets h FORMAT_ERROR None) f)
+abbrev pub SaysUnread : Header → ReadFault → DecisionData → Type 0
+SaysUnread h f v = (f ≢ NoMemory) × (v ≡ UnreadData (bare_octets h FORMAT_ERROR None) f)
 
 -- a waiter that was not taken gets a server failure, or memory ran out
 abbrev pub TurnsAway : Addr → Header → QuestionData → PendingFault

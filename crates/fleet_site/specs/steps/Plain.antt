@@ -7,7 +7,7 @@ use Rattle.fleet_wire.specs.Question.{QuestionData}
 use Rattle.fleet_wire.specs.declared.class.TheConstants.{IN}
 use Rattle.fleet_wire.specs.declared.header.Header.{Header}
 use Rattle.fleet_observe.specs.Observation.{Observations}
-use Rattle.fleet_site.specs.question.Verdict.{Answer, Unknown, IsAsking, IsPlainQuestion, Decides}
+use Rattle.fleet_site.specs.question.Decision.{Reply, Miss as MissData, IsAsking, IsPlainQuestion, Decides}
 use Rattle.fleet_site.specs.declared.hit.Plain.{Plain}
 use Rattle.fleet_site.specs.declared.hit.Plain.TheVariants.{Other, Hit, Miss}
 
@@ -17,8 +17,8 @@ abbrev pub DecidesPlain : {A : Type 0} → Observations → Seconds → OctetLis
     → Type 0
 DecidesPlain s t octets out Other =
     (h : Header) (q : QuestionData) → ¬ IsPlainQuestion octets h q
-DecidesPlain s t octets out Hit = Decides s t octets (Answer out)
-DecidesPlain s t octets out (Miss h q) = Decides s t octets (Unknown h q)
+DecidesPlain s t octets out Hit = Decides s t octets (Reply out)
+DecidesPlain s t octets out (Miss h q) = Decides s t octets (MissData h q)
 
 -- a miss of a plain question can be asked of an upstream
 abbrev pub IsPlainMiss : {A : Type 0} → OctetList → Plain A → Type 0

@@ -9,16 +9,16 @@ use Rattle.fleet_cache.proofs.Follow.{starts, ends_none, ends_last, ends_full, g
 use Rattle.fleet_cache.proofs.answer.follow.Goals as goal
 
 pub loop-observation-init : goal.loop-observation-init
-loop-observation-init g c = starts c.args.held.now c.args.name.now c.args.rtype c.args.moment
+loop-observation-init g c = starts c.args.held.now c.args.name.now c.args.rtype c.args.now
     c.new-chain.result.items c.new-chain.ensures c.requires.named
 
 pub returns-in_default-clause-answer : goal.returns-in_default-clause-answer
 returns-in_default-clause-answer g c n is =
     let items = c.args.held.now in
-    ends_none items c.args.name.now c.args.rtype c.args.moment
+    ends_none items c.args.name.now c.args.rtype c.args.now
     c.loop-observation.at.now c.loop-observation.chain.items c.loop-observation.invariant
     (referent c.decider.result)
-    (λ m e. decider_of_held items c.args.moment m c.args.rtype (referent c.decider.result)
+    (λ m e. decider_of_held items c.args.now m c.args.rtype (referent c.decider.result)
     c.decider.ensures.own.lawful (c.decider.ensures.best m e))
     n is (ap referent c.in_default.is)
 
@@ -28,10 +28,10 @@ returns-then-not-is_link-clause-answer g c n is =
     let links = shown_parts c.loop-observation.chain.items in
     let o = c.in-Some.observation.now in
     c.finish.ensures.answer ∙ (ap (λ v. add_links links (by_kind v)) c.show-part.ensures ∙
-    ends_last items c.args.name.now c.args.rtype c.args.moment
+    ends_last items c.args.name.now c.args.rtype c.args.now
     c.loop-observation.at.now c.loop-observation.chain.items c.loop-observation.invariant
     (referent c.decider.result)
-    (λ m e. decider_of_held items c.args.moment m c.args.rtype (referent c.decider.result)
+    (λ m e. decider_of_held items c.args.now m c.args.rtype (referent c.decider.result)
     c.decider.ensures.own.lawful (c.decider.ensures.best m e))
     n is o (ap referent c.in-Some.is)
     (sym c.is_link.ensures ∙ c.if-not-is_link.true))
@@ -41,10 +41,10 @@ returns-then-is_full-clause-answer g c n is =
     let items = c.args.held.now in
     let full : MOST_LINKS ≤ length c.loop-observation.chain.items =
     grind (arith, nat_tests, c.is_full.ensures.value, c.if-is_full.true) in
-    ends_full items c.args.name.now c.args.rtype c.args.moment
+    ends_full items c.args.name.now c.args.rtype c.args.now
     c.loop-observation.at.now c.loop-observation.chain.items c.loop-observation.invariant
     (referent c.decider.result)
-    (λ m e. decider_of_held items c.args.moment m c.args.rtype (referent c.decider.result)
+    (λ m e. decider_of_held items c.args.now m c.args.rtype (referent c.decider.result)
     c.decider.ensures.own.lawful (c.decider.ensures.best m e))
     n is c.in-Some.observation.now (ap referent c.in-Some.is)
     (sym c.is_link.ensures ∙ c.if-not-is_link.false) (omega (arith, full))
@@ -62,10 +62,10 @@ loop-observation-preserved g c =
       c.if-is_full.false,
       c.loop-observation.invariant.room,
     ) in
-    goes_further items c.args.name.now c.args.rtype c.args.moment
+    goes_further items c.args.name.now c.args.rtype c.args.now
     c.loop-observation.at.now c.loop-observation.chain.items c.loop-observation.invariant
     (referent c.decider.result)
-    (λ m e. decider_of_held items c.args.moment m c.args.rtype (referent c.decider.result)
+    (λ m e. decider_of_held items c.args.now m c.args.rtype (referent c.decider.result)
     c.decider.ensures.own.lawful (c.decider.ensures.best m e))
     o c.push.new.self.items c.show-part.result c.target-at.result.now (ap referent c.in-Some.is)
     (sym c.is_link.ensures ∙ c.if-not-is_link.false) room c.push.ensures.items

@@ -7,14 +7,14 @@ use Rattle.fleet_cache.proofs.lookup.+flush_above.Goals as goal
 
 pub returns-then-not-may_flush_above-clause-best : goal.returns-then-not-may_flush_above-clause-best
 returns-then-not-may_flush_above-clause-best g k c n e =
-    at_top (lasts c.args.moment) Flush c.args.held.now n (referent c.flush_at-here.result)
+    at_top (lasts c.args.now) Flush c.args.held.now n (referent c.flush_at-here.result)
     (λ o h of_kind under. above_longer n o.name c.args.name.now e under
     (c.may_flush_above.ensures.none c.if-not-may_flush_above.true o h of_kind))
     (c.flush_at-here.ensures.best n e)
 
 pub returns-in_default-clause-best : goal.returns-in_default-clause-best
 returns-in_default-clause-best g k c n e =
-    at_root (lasts c.args.moment) Flush c.args.held.now n (referent c.flush_at-here.result)
+    at_root (lasts c.args.now) Flush c.args.held.now n (referent c.flush_at-here.result)
     (c.in_default.ensures n e) (c.flush_at-here.ensures.best n e)
 
 pub flush_above-requires : goal.flush_above-requires
@@ -27,6 +27,6 @@ flush_above-requires g k c κs within =
 pub returns-clause-best : goal.returns-clause-best
 returns-clause-best g k c n e =
     let p = c.in-Some.ensures n e in
-    one_up (lasts c.args.moment) Flush c.args.held.now n c.in-Some.above.now p
+    one_up (lasts c.args.now) Flush c.args.held.now n c.in-Some.above.now p
     (referent c.flush_at-here.result) (referent c.flush_above.result) (referent c.better_of.result)
     c.better_of.ensures (c.flush_at-here.ensures.best n e) (c.flush_above.ensures.best p.rest p.whole)

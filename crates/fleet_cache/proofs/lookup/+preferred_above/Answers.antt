@@ -9,7 +9,7 @@ use Rattle.fleet_cache.proofs.lookup.+preferred_above.Goals as goal
 pub returns-in_default-clause-flush : goal.returns-in_default-clause-flush
 returns-in_default-clause-flush g k c n e of =
     let items = c.args.held.now in
-    let t = c.args.moment in
+    let t = c.args.now in
     at_top (lasts t) Flush items n (referent c.preferred_of-own.result)
     (λ o h is under. c.in_default.ensures.up n e o h (inr is) under)
     (c.preferred_of-own.ensures items n (lasts t) of (moment_shows t items n c.at.result c.at.ensures))
@@ -17,7 +17,7 @@ returns-in_default-clause-flush g k c n e of =
 pub returns-in_default-clause-denial : goal.returns-in_default-clause-denial
 returns-in_default-clause-denial g k c n e of denials =
     let items = c.args.held.now in
-    let t = c.args.moment in
+    let t = c.args.now in
     let here = referent c.preferred_of-own.result in
     let top = at_top (lasts t) Flush items n here
     (λ o h is under. c.in_default.ensures.up n e o h (inr is) under)
@@ -42,7 +42,7 @@ preferred_above-above-requires g k c κs within =
 pub returns-clause-flush : goal.returns-clause-flush
 returns-clause-flush g k c n e of =
     let items = c.args.held.now in
-    let t = c.args.moment in
+    let t = c.args.now in
     let p = c.in-Some.ensures.up n e in
     one_up (lasts t) Flush items n c.in-Some.next.now p
     (referent c.preferred_of-own.result) (referent c.preferred_above-above.result.flush)
@@ -53,7 +53,7 @@ returns-clause-flush g k c n e of =
 pub returns-clause-denial : goal.returns-clause-denial
 returns-clause-denial g k c n e of denials =
     let items = c.args.held.now in
-    let t = c.args.moment in
+    let t = c.args.now in
     let p = c.in-Some.ensures.up n e in
     let flush = referent c.better_of-flush.result in
     let flushes = c.heads.ensures.flushes p.rest p.whole in

@@ -6,6 +6,6 @@ use Rattle.fleet_cache.proofs.lookup.cut_at.Goals as goal
 
 pub returns-clause-cut : goal.returns-clause-cut
 returns-clause-cut g c n e =
-    subst (IsCutAt c.args.held.now c.args.moment n) (sym c.cut_by.ensures)
-    (cut_of_flush c.args.moment c.args.held.now n (referent c.flush_above.result)
+    subst (IsCutAt c.args.held.now c.args.now n) (sym c.cut_by.ensures)
+    (cut_of_flush c.args.now c.args.held.now n (referent c.flush_above.result)
     c.flush_above.ensures.own.lawful (c.flush_above.ensures.best n e))

@@ -10,9 +10,9 @@ use Rattle.fleet_cache.proofs.lookup.decider.Goals as goal
 pub returns-clause-best : goal.returns-clause-best
 returns-clause-best g c n e =
     let items = c.args.held.now in
-    let lives = is_live items c.args.moment in
+    let lives = is_live items c.args.now in
     let q = c.args.rtype in
-    let shows = flush_shows c.args.moment items n (referent c.preferred_above-above.result.flush)
+    let shows = flush_shows c.args.now items n (referent c.preferred_above-above.result.flush)
     c.cut_by-cut.result c.preferred_above-above.ensures.own.lawful c.cut_by-cut.ensures
     (c.preferred_above-above.ensures.flush n e (c.at-here.ensures.of_name n Flush e)) in
     rw (c.better_of.ensures, c.better_of-negative.ensures)

@@ -21,9 +21,9 @@ returns-then-not-may_flush_any-clause-unended g c e o h =
 
 pub returns-then-not-may_flush_any-clause-live : goal.returns-then-not-may_flush_any-clause-live
 returns-then-not-may_flush_any-clause-live g c e with_flushes =
-    let before : c.args.moment < c.soonest.result =
+    let before : c.args.now < c.soonest.result =
     omega (arith, c.if-soonest-value.false, c.value.ensures.value) in
-    unended_lives c.args.held.now c.args.front.now c.soonest.result c.args.moment
+    unended_lives c.args.held.now c.args.front.now c.soonest.result c.args.now
     c.may_flush_any.ensures.own.lawful (c.may_flush_any.ensures.none c.if-not-may_flush_any.true)
     c.soonest.ensures before
 
@@ -35,7 +35,7 @@ returns-clause-unended g c e o h =
 pub returns-clause-live : goal.returns-clause-live
 returns-clause-live g c none with_flushes o h =
     let items = c.args.held.now in
-    let t = c.args.moment in
+    let t = c.args.now in
     let front = c.args.front.now in
     let x = c.in-Some.first.now in
     let found = c.requires.1 in

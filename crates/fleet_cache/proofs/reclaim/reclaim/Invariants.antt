@@ -3,7 +3,7 @@ use Rattle.fleet_cache.specs.steps.Reclaimed.{IsReclaimed}
 use Rattle.fleet_cache.proofs.reclaim.reclaim.Given as goal
 
 abbrev pub invariant-loop-left : goal.invariant-loop-left
-invariant-loop-left g l = IsReclaimed l.moment l.initial.held l.held × IsHeld l.held
+invariant-loop-left g l = IsReclaimed l.now l.initial.held l.held × IsHeld l.held
 
 abbrev pub decreases-loop-left : goal.decreases-loop-left
 decreases-loop-left g l = l.left

@@ -11,7 +11,7 @@ use Rattle.fleet_cache.proofs.reclaim.trim.Goals as goal
 pub returns : goal.returns
 returns g c =
     let items = c.args.held.now in
-    let t = c.args.moment in
+    let t = c.args.now in
     let front = c.in-Some.front.now in
     let x = c.in-Some-first.first.now in
     let lawful = c.front.ensures.own.lawful in

@@ -1,7 +1,7 @@
 use Rattle.std.proofs.Common.{◌≡◌, max, sym, ◌∙◌, arith}
 use mathlib.Core.Bool.{false≢true}
 use Rattle.fleet_cache.specs.AnswerData.{answer_data}
-use Rattle.fleet_site.specs.question.Verdict.{Answer, IsStandardQuery, IsServedQuestion}
+use Rattle.fleet_site.specs.question.Decision.{Reply, IsStandardQuery, IsServedQuestion}
 use Rattle.fleet_site.proofs.Deciding.{answer_decided, plain_decided, plain_missed, unserved_plain}
 use Rattle.fleet_site.proofs.hit.decide_plain.Goals.{then-not-is_standard_query-via-then-not-is_standard_query, then-not-is_standard_query-via-else-not-is_standard_query+then-not-is_served}
 use Rattle.fleet_site.proofs.hit.decide_plain.Goals as goal
@@ -24,9 +24,9 @@ returns-then-not-is_standard_query-clause-decides g c = λ s cached.
 
 pub returns-then-is_miss-clause-decides : goal.returns-then-is_miss-clause-decides
 returns-then-is_miss-clause-decides g c = λ s cached.
-    let later : max c.args.cache.now.floor c.args.clock ≡ c.args.clock = omega (arith, c.requires) in
+    let later : max c.args.cache.now.floor c.args.now ≡ c.args.now = omega (arith, c.requires) in
     let told = rw later at (c.answer_lent-answer.ensures.answer s cached) in
-    plain_missed s c.args.clock c.args.octets.now c.in-Some.header c.in-Some.question
+    plain_missed s c.args.now c.args.octets.now c.in-Some.header c.in-Some.question
     c.in_ok-copy.copy (answer_data c.answer_lent-answer.result) c.in-Some.ensures.found
     (c.is_standard_query.ensures.0 c.if-not-is_standard_query.false)
     (c.is_served.ensures.0 c.if-not-is_served.false) told
@@ -34,12 +34,12 @@ returns-then-is_miss-clause-decides g c = λ s cached.
 
 pub returns-clause-decides : goal.returns-clause-decides
 returns-clause-decides g c = λ s cached.
-    let later : max c.args.cache.now.floor c.args.clock ≡ c.args.clock = omega (arith, c.requires) in
+    let later : max c.args.cache.now.floor c.args.now ≡ c.args.now = omega (arith, c.requires) in
     let told = rw later at (c.answer_lent-answer.ensures.answer s cached) in
     let a = answer_data c.answer_lent-answer.result in
     let reply = c.write_answer_into.new.out.items in
-    plain_decided s c.args.clock c.args.octets.now c.in-Some.header c.in-Some.question a
-    (Answer reply) c.in-Some.ensures.found (c.is_standard_query.ensures.0 c.if-not-is_standard_query.false)
+    plain_decided s c.args.now c.args.octets.now c.in-Some.header c.in-Some.question a
+    (Reply reply) c.in-Some.ensures.found (c.is_standard_query.ensures.0 c.if-not-is_standard_query.false)
     (c.is_served.ensures.0 c.if-not-is_served.false) told
     (answer_decided c.in-Some.header c.in-Some.question a reply
     (rw c.in_ok-write_answer_into.was at c.write_answer_into.ensures))

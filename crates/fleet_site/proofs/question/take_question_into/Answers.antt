@@ -1,7 +1,7 @@
 use Rattle.std.proofs.Common.{Result, refl, sym, subst}
 use Rattle.fleet_site.specs.OutcomeData.{OutcomeData}
 use Rattle.fleet_site.specs.question.Question.{Reacts, Questioned}
-use Rattle.fleet_site.specs.question.Verdict.{Answer, Unknown, IsAsking}
+use Rattle.fleet_site.specs.question.Decision.{Reply, Miss, IsAsking}
 use Rattle.fleet_site.specs.steps.Carried.{SaysOrStops}
 use Rattle.fleet_site.specs.declared.outcome.SiteFault.{SiteFault}
 use Rattle.fleet_site.proofs.Deciding.{known_decided}
@@ -10,7 +10,7 @@ use Rattle.fleet_site.proofs.question.take_question_into.Goals as goal
 
 pub returns-in-Ok-Hit-clause-questioned : goal.returns-in-Ok-Hit-clause-questioned
 returns-in-Ok-Hit-clause-questioned g c = λ s cached. (
-  Answer c.decide_plain.new.out.items,
+  Reply c.decide_plain.new.out.items,
   rw c.in-Ok-Hit.field-0-is at (c.in-Ok-Hit.ensures.decides s cached),
   refl,
 )
@@ -19,7 +19,7 @@ pub returns-in-Ok-Miss-clause-questioned : goal.returns-in-Ok-Miss-clause-questi
 returns-in-Ok-Miss-clause-questioned g c = λ s cached.
     let a = c.args.arrival in
     let old = c.args.pending.now in
-    let v = Unknown c.in-Ok-Miss.header c.in-Ok-Miss.question in
+    let v = Miss c.in-Ok-Miss.header c.in-Ok-Miss.question in
     let miss = rw c.in-Ok-Miss.field-0-is at c.in-Ok-Miss.ensures.miss in
     let decides = rw c.in-Ok-Miss.field-0-is at (c.in-Ok-Miss.ensures.decides s cached) in
     let P : Result OutcomeData SiteFault → Type 0 =

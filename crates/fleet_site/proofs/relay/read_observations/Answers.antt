@@ -7,17 +7,17 @@ use Rattle.fleet_site.proofs.relay.read_observations.Goals as goal
 
 pub returns-in-Err-clause-refused : goal.returns-in-Err-clause-refused
 returns-in-Err-clause-refused g c =
-    λ o. unread_learnt o c.args.clock c.args.octets.now c.in-Err.fault c.in-Err.ensures.refused
+    λ o. unread_learnt o c.args.now c.args.octets.now c.in-Err.fault c.in-Err.ensures.refused
 
 pub returns-in-Err-digest_of-clause-refused : goal.returns-in-Err-digest_of-clause-refused
 returns-in-Err-digest_of-clause-refused g c =
-    λ o. undigested_learnt o c.args.clock c.args.octets.now c.in-Ok.message
+    λ o. undigested_learnt o c.args.now c.args.octets.now c.in-Ok.message
     c.in-Err-digest_of.undigested c.in-Ok.ensures.read c.in-Err-digest_of.ensures.refused
 
 pub returns-in-Ok-observe-clause-learnt : goal.returns-in-Ok-observe-clause-learnt
 returns-in-Ok-observe-clause-learnt g c = λ o.
     let P : List ObservationData → Type 0 =
-    λ list. Learnt o c.args.clock c.args.octets.now (takes list o) in
-    subst P (sym c.in-Ok-observe.ensures) (learns o c.args.clock c.args.octets.now c.in-Ok.message
+    λ list. Learnt o c.args.now c.args.octets.now (takes list o) in
+    subst P (sym c.in-Ok-observe.ensures) (learns o c.args.now c.args.octets.now c.in-Ok.message
     c.in-Ok-digest_of.digest c.in-Ok.ensures.read c.in-Ok-digest_of.ensures.meaning
     c.in-Ok-digest_of.ensures.sound)

@@ -5,7 +5,7 @@ use Rattle.fleet_site.proofs.relay.relay_of_message.Goals as goal
 pub returns-in-None-clause-refused : goal.returns-in-None-clause-refused
 returns-in-None-clause-refused g c octets answering read =
     let m = c.args.message.now in
-    refuses_unmatched c.args.pending.now c.args.clock c.args.upstream octets m answering read
+    refuses_unmatched c.args.pending.now c.args.now c.args.upstream octets m answering read
     (finds_for c.args.pending.now c.args.upstream c.header-id.result m.header
     c.question-question.result.now m.question None c.header-id.ensures.header
     c.question-question.ensures.question c.in-None.ensures.finds)
@@ -13,7 +13,7 @@ returns-in-None-clause-refused g c octets answering read =
 pub returns-in-Err-clause-refused : goal.returns-in-Err-clause-refused
 returns-in-Err-clause-refused g c octets answering read =
     let m = c.args.message.now in
-    undigested_reply c.args.pending.now c.args.clock c.args.upstream octets m
+    undigested_reply c.args.pending.now c.args.now c.args.upstream octets m
     c.in-Some.entry.now c.in-Err.undigested answering read
     (finds_for c.args.pending.now c.args.upstream c.header-id.result m.header
     c.question-question.result.now m.question (Some c.in-Some.entry.now) c.header-id.ensures.header
@@ -22,7 +22,7 @@ returns-in-Err-clause-refused g c octets answering read =
 pub returns-in-Ok-make_relay-clause-relayed : goal.returns-in-Ok-make_relay-clause-relayed
 returns-in-Ok-make_relay-clause-relayed g c octets answering read =
     let m = c.args.message.now in
-    hears_relay c.settling_gives_its_entry.ensures c.args.pending.now c.args.clock c.args.upstream
+    hears_relay c.settling_gives_its_entry.ensures c.args.pending.now c.args.now c.args.upstream
     octets m c.in-Ok.digest c.in-Some.entry.now c.in-Ok-make_relay.relay
     answering read c.in-Some.ensures.lawful
     (finds_for c.args.pending.now c.args.upstream c.header-id.result m.header

@@ -11,5 +11,5 @@ returns-in-Ok-clause-refused g c =
 
 pub returns-in-Err-clause-refused : goal.returns-in-Err-clause-refused
 returns-in-Err-clause-refused g c =
-    unread_reply c.args.pending.now c.args.clock c.args.upstream c.args.octets.now c.in-Err.fault
+    unread_reply c.args.pending.now c.args.now c.args.upstream c.args.octets.now c.in-Err.fault
     c.requires c.in-Err.ensures.refused

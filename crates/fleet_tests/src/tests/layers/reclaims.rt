@@ -101,14 +101,14 @@ fn first_end(front: &[Observation]) -> u64 {
 
 /// Whether an observation is not live at a moment where flushes withdraw what is stamped by another
 /// one.
-fn is_past(observation: &Observation, moment: Moment, flushed: Option<Moment>) -> bool {
+fn is_past(observation: &Observation, now: Moment, flushed: Option<Moment>) -> bool {
     let withdrawn = match flushed {
         Some(stamp) => {
             observation.kind() != Kind::Flush && observation.stamp().value() <= stamp.value()
         }
         None => false,
     };
-    withdrawn || observation.expires() <= moment.value()
+    withdrawn || observation.expires() <= now.value()
 }
 
 impl Plain {
@@ -126,10 +126,10 @@ impl Plain {
     /// The greatest stamp of the flushes of a name or of one above it that last at a moment. Names
     /// here have no label as long as the code of a digit, so that one is under another if its octets
     /// end with the other's.
-    fn flushed_at(&self, name: &[u8], moment: Moment) -> Option<Moment> {
+    fn flushed_at(&self, name: &[u8], now: Moment) -> Option<Moment> {
         let mut latest = None;
         for flush in &self.flushes {
-            if flush.expires() > moment.value() && name.ends_with(flush.name().octets()) {
+            if flush.expires() > now.value() && name.ends_with(flush.name().octets()) {
                 let stamp = flush.stamp();
                 latest = Some(latest.unwrap_or(stamp).max(stamp));
             }
@@ -197,26 +197,26 @@ impl Plain {
 
     /// Drops, of the front of a key, what is not live at a moment, and the front where nothing is left
     /// of it.
-    fn trim(&mut self, key: &Key, moment: Moment) {
-        let flushed = self.flushed_at(key, moment);
+    fn trim(&mut self, key: &Key, now: Moment) {
+        let flushed = self.flushed_at(key, now);
         let Some(front) = self.fronts.get_mut(key) else {
             return;
         };
-        front.retain(|held| !is_past(held, moment, flushed));
+        front.retain(|held| !is_past(held, now, flushed));
         if front.is_empty() {
             self.fronts.remove(key);
         }
     }
 
     /// Purges to a later moment.
-    fn purge(&mut self, rt: &impl Abort, alloc: Global, moment: Moment) {
-        self.floor = moment;
+    fn purge(&mut self, rt: &impl Abort, alloc: Global, now: Moment) {
+        self.floor = now;
         for _ in 0..LEAST {
             if !advance(rt, &self.fronts, &mut self.cursor) {
                 break;
             }
             let key = Vec::from_slice(alloc, self.cursor.as_slice()).expect(rt, "memory");
-            self.trim(&key, moment);
+            self.trim(&key, now);
         }
     }
 
@@ -315,11 +315,11 @@ impl Pair {
     }
 
     /// Purges to a moment, a second later than the last one at least, and compares.
-    fn purge(&mut self, rt: &impl Abort, alloc: Global, moment: u64) {
+    fn purge(&mut self, rt: &impl Abort, alloc: Global, now: u64) {
         let next = self.plain.floor.value().saturating_add(1);
-        let moment = Moment::new(moment.max(next)).expect(rt, "a moment");
-        self.cache.purge(moment);
-        self.plain.purge(rt, alloc, moment);
+        let now = Moment::new(now.max(next)).expect(rt, "a moment");
+        self.cache.purge(now);
+        self.plain.purge(rt, alloc, now);
         self.compare(rt, alloc);
     }
 

@@ -6,7 +6,7 @@ use crate::tests::refused::examples::{DENIAL, LENT, REFUSED, example_of};
 use crate::tests::refusing::Refusing;
 use fleet_cache::{Answer, Shown};
 use fleet_name::Octets;
-use fleet_observe::{Rows, add_rows, add_soa};
+use fleet_observe::{LentRrSet, add_rrset, add_soa};
 use fleet_site::Looked;
 use fleet_wire::{Header, Outline, Question, read_query, write_reply};
 use fleet_world::World;
@@ -14,9 +14,9 @@ use std::alloc::{Allocator, Global};
 use std::process::Abort;
 
 /// The records of a part.
-fn rows_of<'a, A: Allocator>(part: &Shown<'a, A>) -> Rows<'a, A> {
+fn lent_of<'a, A: Allocator>(part: &Shown<'a, A>) -> LentRrSet<'a, A> {
     let records = part.observation;
-    Rows {
+    LentRrSet {
         name: records.name(),
         rtype: records.rtype(),
         ttl: part.ttl,
@@ -32,7 +32,7 @@ fn add_links<'a, A: Allocator + Copy>(
 ) {
     for link in chain {
         let link = link.as_ref().expect(rt, "a link");
-        add_rows(outline, rows_of(link)).expect(rt, "memory");
+        add_rrset(outline, lent_of(link)).expect(rt, "memory");
     }
 }
 
@@ -53,7 +53,7 @@ fn look_at<A: Allocator + Copy>(
     match answer {
         Answer::Found { chain, set } => {
             add_links(rt, &mut outline, chain.as_slice());
-            add_rows(&mut outline, rows_of(set)).expect(rt, "memory");
+            add_rrset(&mut outline, lent_of(set)).expect(rt, "memory");
         }
         Answer::NoData { chain, soa } | Answer::NxDomain { chain, soa } => {
             add_links(rt, &mut outline, chain.as_slice());
@@ -122,7 +122,7 @@ fn check_example<A: Allocator + Copy>(
     assert_eq!(rt; count, example.questions, "{text}");
 }
 
-/// Allocates: `fleet_observe`: `add_rows`, `add_soa`.
+/// Allocates: `fleet_observe`: `add_rrset`, `add_soa`.
 #[test]
 fn answers_are_lent_where_no_memory_is_left(rt: HostRuntime) {
     let refusing = Refusing::after(rt.alloc(), 0);

@@ -18,11 +18,11 @@ loop-label-init c = record {
   fails = λ f h. h;
 }
 
-pub returns-in_err-step_at-clause-fault : goal.returns-in_err-step_at-clause-fault
-returns-in_err-step_at-clause-fault c =
+pub returns-in_err-name_part_at-clause-fault : goal.returns-in_err-name_part_at-clause-fault
+returns-in_err-name_part_at-clause-fault c =
     let r = c.from_residual in let p = err_from_is_err_and r.result r.ensures.1 in
     let i = c.loop-label.invariant in
-    rw (p.1, p.2) (i.fails _ (here (rw i.counted at c.in_err-step_at.ensures)))
+    rw (p.1, p.2) (i.fails _ (here (rw i.counted at c.in_err-name_part_at.ensures)))
 
 pub returns-in-End-clause-found : goal.returns-in-End-clause-found
 returns-in-End-clause-found c =
@@ -34,7 +34,7 @@ returns-in-End-clause-found c =
         name_at =
             rw c.unwrap_or.ensures
             (read_whole c.args.message.now c.args.offset i.before items l.at l.start l.past refl
-            i.named i.reads i.fails (rw c.in-End.is at c.in_ok-step_at.ensures));
+            i.named i.reads i.fails (rw c.in-End.is at c.in_ok-name_part_at.ensures));
         lowered = refl;
         named = i.named;
       },
@@ -46,7 +46,7 @@ loop-label-preserved-in-Label c =
     let p = c.args.offset in
     let l = c.loop-label in
     let i = l.invariant in
-    let h = rw c.in-Label.is at c.in_ok-step_at.ensures in
+    let h = rw c.in-Label.is at c.in_ok-name_part_at.ensures in
     let label = c.in-Label.label.now in
     let items = flat_map label_octets i.before in
     let new = items ++ label_octets label in
@@ -77,7 +77,7 @@ loop-label-preserved c =
     let l = c.loop-label in
     let i = l.invariant in
     let items = flat_map label_octets i.before in
-    let h = rw c.in-Pointer.is at c.in_ok-step_at.ensures in
+    let h = rw c.in-Pointer.is at c.in_ok-name_part_at.ensures in
     record {
       before = i.before;
       counted = i.counted;

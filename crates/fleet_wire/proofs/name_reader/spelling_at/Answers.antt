@@ -19,11 +19,11 @@ loop-octets-init c =
       fails = λ f h. rw e at h;
     }
 
-pub returns-in_err-step_at-clause-fault : goal.returns-in_err-step_at-clause-fault
-returns-in_err-step_at-clause-fault c =
+pub returns-in_err-name_part_at-clause-fault : goal.returns-in_err-name_part_at-clause-fault
+returns-in_err-name_part_at-clause-fault c =
     let r = c.from_residual in let p = err_from_is_err_and r.result r.ensures.1 in
     let used : c.len.result ≡ length c.loop-octets.octets.items = c.len.ensures.value in
-    rw (p.1, p.2) (c.loop-octets.invariant.fails _ (here (rw used at c.in_err-step_at.ensures)))
+    rw (p.1, p.2) (c.loop-octets.invariant.fails _ (here (rw used at c.in_err-name_part_at.ensures)))
 
 pub returns-in-End-clause-found : goal.returns-in-End-clause-found
 returns-in-End-clause-found c =
@@ -33,7 +33,7 @@ returns-in-End-clause-found c =
       labels_read i.before l.octets.items _ i.spelled i.named c.push.ensures.items,
     )
     (read_whole c.args.message.now c.args.offset i.before l.octets.items l.at l.start l.end
-    i.spelled i.named i.reads i.fails (rw c.in-End.is at c.in_ok-step_at.ensures))
+    i.spelled i.named i.reads i.fails (rw c.in-End.is at c.in_ok-name_part_at.ensures))
 
 pub returns-in-End-clause-spelled : goal.returns-in-End-clause-spelled
 returns-in-End-clause-spelled c =
@@ -55,7 +55,7 @@ pub loop-octets-preserved-in-Label : goal.loop-octets-preserved-in-Label
 loop-octets-preserved-in-Label c =
     let l = c.loop-octets in
     let i = l.invariant in
-    let h = rw c.in-Label.is at c.in_ok-step_at.ensures in
+    let h = rw c.in-Label.is at c.in_ok-name_part_at.ensures in
     let used : c.len.result ≡ length l.octets.items = c.len.ensures.value in
     let room : length l.octets.items + 1 + length c.in-Label.label.now + 1 ≤ LONGEST_NAME = rw used at h.1 in
     let label = c.in-Label.label.now in
@@ -85,7 +85,7 @@ pub loop-octets-preserved : goal.loop-octets-preserved
 loop-octets-preserved c =
     let l = c.loop-octets in
     let i = l.invariant in
-    let h = rw c.in-Pointer.is at c.in_ok-step_at.ensures in
+    let h = rw c.in-Pointer.is at c.in_ok-name_part_at.ensures in
     record {
       before = i.before;
       spelled = i.spelled;

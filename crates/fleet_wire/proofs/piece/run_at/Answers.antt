@@ -25,8 +25,8 @@ pub overflow_add-at : goal.overflow_add-at
 overflow_add-at c =
     let i = c.loop-label.invariant in omega (arith, i.size, octets_fit i.before i.named)
 
-pub step_at-requires : goal.step_at-requires
-step_at-requires c =
+pub name_part_at-requires : goal.name_part_at-requires
+name_part_at-requires c =
     let i = c.loop-label.invariant in omega (arith, i.size, octets_fit i.before i.named)
 
 pub slice_bounds-result-count : goal.slice_bounds-result-count

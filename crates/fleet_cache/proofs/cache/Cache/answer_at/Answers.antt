@@ -30,7 +30,7 @@ returns-clause-answer g c s cached n spells =
     let own : IsCached s floor (live_of items floor) =
     subst (λ v. IsCached s v.floor v.items) (sym view) cached in
     let same : floor ≡ c.args.self.now.floor = ap (λ (v : CacheData). v.floor) view in
-    let moment : at ≡ max c.args.self.now.floor c.args.moment = omega (arith, c.later-at.ensures, same)
+    let moment : at ≡ max c.args.self.now.floor c.args.now = omega (arith, c.later-at.ensures, same)
     in
     let le : floor ≤ at = omega (arith, c.later-at.ensures) in
     let alike : answer_of items at n c.args.rtype ≡ answer_of s at n c.args.rtype =

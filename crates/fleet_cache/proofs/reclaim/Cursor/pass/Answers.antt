@@ -13,7 +13,7 @@ use Rattle.fleet_cache.proofs.reclaim.Cursor.pass.Goals.{then-len-le-SHORT_WORDS
 pub loop-key-init : goal.loop-key-init
 loop-key-init g c =
     let from = c.args.self.now.key.items in
-    let IsSuch = StaysIn c.args.held.now c.args.moment c.args.flushes 18446744073709551615 in
+    let IsSuch = StaysIn c.args.held.now c.args.now c.args.flushes 18446744073709551615 in
     let few : length from ≤ 4 = omega (
       arith,
       c.len.ensures,
@@ -44,11 +44,11 @@ pub loop-key-preserved : goal.loop-key-preserved
 loop-key-preserved g c =
     let items = c.args.held.now in
     let from = c.args.self.now.key.items in
-    let IsSuch = StaysIn items c.args.moment c.args.flushes c.look.new.self.soonest in (
+    let IsSuch = StaysIn items c.args.now c.args.flushes c.look.new.self.soonest in (
       passes_one short_words 0 items from IsShort c.loop-key.key-iterator c.next.new.self
           (c.in-Some.key.now, c.in-Some.front.now)
           c.in-Some.ensures.steps c.loop-key.invariant.0 IsSuch
-          (stays_later items c.args.moment c.args.flushes c.loop-key.passed.soonest
+          (stays_later items c.args.now c.args.flushes c.loop-key.passed.soonest
           c.look.new.self.soonest c.look.ensures.soonest)
           (c.look.ensures.stays (c.look.ensures.goes_on c.if-look.false)),
       looks_on short_words 0 items from IsShort c.loop-key.key-iterator c.next.new.self
@@ -83,8 +83,8 @@ returns-else-not-stop_at-clause-passed g c = λ room.
     passed_to short_words 0 items c.args.self.now.key.items IsShort
     c.loop-key.key-iterator c.next.new.self (c.in-Some.key.now, c.in-Some.front.now)
     c.in-Some.ensures.steps c.loop-key.invariant.0
-    (StaysIn items c.args.moment c.args.flushes c.look.new.self.soonest)
-    (stays_later items c.args.moment c.args.flushes c.loop-key.passed.soonest
+    (StaysIn items c.args.now c.args.flushes c.look.new.self.soonest)
+    (stays_later items c.args.now c.args.flushes c.loop-key.passed.soonest
     c.look.new.self.soonest c.look.ensures.soonest)
     c.stop_at.new.self.key.items (c.stop_at.ensures.at c.if-not-stop_at.false ∙ c.words.ensures)
     (λ o before. short_before (words_of o) (short_words c.in-Some.key.now)
@@ -95,7 +95,7 @@ returns-else-not-stop_at-clause-stopped g c = λ room fresh.
     passed_at short_words 0 c.args.held.now c.args.self.now.key.items IsShort
     c.loop-key.key-iterator c.next.new.self (c.in-Some.key.now, c.in-Some.front.now)
     c.in-Some.ensures.steps c.loop-key.invariant.0
-    (StaysIn c.args.held.now c.args.moment c.args.flushes c.look.new.self.soonest)
+    (StaysIn c.args.held.now c.args.now c.args.flushes c.look.new.self.soonest)
     (c.look.ensures.stays fresh)
     c.stop_at.new.self.key.items (c.stop_at.ensures.at c.if-not-stop_at.false ∙ c.words.ensures)
 
@@ -127,7 +127,7 @@ loop-key-2-init g c =
     let items = c.args.held.now in
     let from = c.args.self.now.key.items in
     let soonest = c.if-len-le-SHORT_WORDS.passed.soonest in
-    let IsSuch = StaysIn items c.args.moment c.args.flushes soonest in
+    let IsSuch = StaysIn items c.args.now c.args.flushes soonest in
     let way = begins_long items from IsSuch
     {K = Vec ℕ g.row.A.Denot} (λ k. k.items)
     c.long_behind-key-items.result c.into_iter-key-iterator-2.result
@@ -153,7 +153,7 @@ loop-key-2-init g c =
       way,
       elim c.if-len-le-SHORT_WORDS.branch [
         | then-len-le-SHORT_WORDS+in-None w ↦ rw w.passed-is (looks_further items from
-            (StaysIn items c.args.moment c.args.flushes w.loop-key.passed.soonest)
+            (StaysIn items c.args.now c.args.flushes w.loop-key.passed.soonest)
             {K = Vec ℕ g.row.A.Denot} (λ k. k.items) w.loop-key.key-iterator
             c.into_iter-key-iterator-2.result c.args.left w.loop-key.passed.left
             w.loop-key.invariant.1
@@ -187,8 +187,8 @@ loop-key-2-preserved g c =
           c.loop-key-2.key-iterator c.next-in-loop-key-2.new.self
           (c.in-Some-2.key.now, c.in-Some-2.front.now) c.in-Some-2.ensures.steps
           c.loop-key-2.invariant.0
-          (StaysIn items c.args.moment c.args.flushes looked.new.self.soonest)
-          (stays_later items c.args.moment c.args.flushes c.loop-key-2.passed.soonest
+          (StaysIn items c.args.now c.args.flushes looked.new.self.soonest)
+          (stays_later items c.args.now c.args.flushes c.loop-key-2.passed.soonest
           looked.new.self.soonest looked.ensures.soonest)
           (looked.ensures.stays (looked.ensures.goes_on c.if-look-2.false)),
       looks_on {K = Vec ℕ g.row.A.Denot} (λ k. k.items) 1 items from IsAny
@@ -230,8 +230,8 @@ returns-else-not-stop_at-2-clause-passed g c = λ room.
     passed_to {K = Vec ℕ g.row.A.Denot} (λ k. k.items) 1 items c.args.self.now.key.items IsAny
     c.loop-key-2.key-iterator c.next-in-loop-key-2.new.self
     (c.in-Some-2.key.now, c.in-Some-2.front.now) c.in-Some-2.ensures.steps c.loop-key-2.invariant.0
-    (StaysIn items c.args.moment c.args.flushes looked.new.self.soonest)
-    (stays_later items c.args.moment c.args.flushes c.loop-key-2.passed.soonest
+    (StaysIn items c.args.now c.args.flushes looked.new.self.soonest)
+    (stays_later items c.args.now c.args.flushes c.loop-key-2.passed.soonest
     looked.new.self.soonest looked.ensures.soonest)
     c.stop_at-then-look-2.new.self.key.items
     (c.stop_at-then-look-2.ensures.at c.if-not-stop_at-2.false ∙ c.deref-then-look-2.ensures.value)
@@ -243,7 +243,7 @@ returns-else-not-stop_at-2-clause-stopped g c = λ room fresh.
     passed_at {K = Vec ℕ g.row.A.Denot} (λ k. k.items) 1 c.args.held.now c.args.self.now.key.items IsAny
     c.loop-key-2.key-iterator c.next-in-loop-key-2.new.self
     (c.in-Some-2.key.now, c.in-Some-2.front.now) c.in-Some-2.ensures.steps c.loop-key-2.invariant.0
-    (StaysIn c.args.held.now c.args.moment c.args.flushes looked.new.self.soonest)
+    (StaysIn c.args.held.now c.args.now c.args.flushes looked.new.self.soonest)
     (looked.ensures.stays fresh) c.stop_at-then-look-2.new.self.key.items
     (c.stop_at-then-look-2.ensures.at c.if-not-stop_at-2.false ∙ c.deref-then-look-2.ensures.value)
 

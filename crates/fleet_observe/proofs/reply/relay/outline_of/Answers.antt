@@ -18,9 +18,9 @@ loop-link-preserved g c =
     let xs = c.chain-link-items.result.now in let i = c.loop-link.link-index in
     let item = c.link-item.result in
     let within : i < length xs = omega arith in
-    let added : c.add_rows.new.outline ≡ with_answer_lines c.loop-link.outline (set_lines item) =
-    c.in_ok-add_rows.ensures.ok ∙ ap (λ (x : RrSetData). with_answer_lines c.loop-link.outline
-    (set_lines x)) c.rows.ensures in
+    let added : c.add_rrset.new.outline ≡ with_answer_lines c.loop-link.outline (set_lines item) =
+    c.in_ok-add_rrset.ensures.ok ∙ ap (λ (x : RrSetData). with_answer_lines c.loop-link.outline
+    (set_lines x)) c.lend.ensures in
     rw (
       added,
       c.loop-link.invariant,

@@ -31,6 +31,6 @@ loop-alias-preserved g c =
 pub returns : goal.returns
 returns g c =
     let i = c.loop-alias.invariant in
-    let w = linked_whole _ _ _ _ _ i.linked (stops_there _ _ _ _ c.step_at.ensures
+    let w = linked_whole _ _ _ _ _ i.linked (stops_there _ _ _ _ c.hop_at.ensures
     c.in_default.not-Alias) c.requires.walk in
     record { later = w.0; walk = w.1; links = w.2; at_last = w.3; spelled = i.spelled }

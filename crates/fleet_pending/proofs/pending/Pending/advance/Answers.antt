@@ -18,10 +18,10 @@ invariant_of-self g c =
     let ids = UsesId c.args.id in
     let k = read_at ids c.as_slice.ensures.value c.in-Some.ensures c.index.ensures in
     let m = read_at ids c.as_slice.ensures.value c.in-Some.ensures c.index_mut.ensures.value in (
-      advance_keeps _ _ c.args.id c.args.moment c.self.invariant.0
+      advance_keeps _ _ c.args.id c.args.now c.self.invariant.0
           (advances _ _ c.in-Some.i _ _ _ _ _ _ c.move_on.new.entry refl c.behind-self.view_is k m
           c.if-next-self.true c.move_on.ensures),
-      soonest_moved c.self.inside.soonest _ c.in-Some.i c.args.moment c.self.inside.entries.items
+      soonest_moved c.self.inside.soonest _ c.in-Some.i c.args.now c.self.inside.entries.items
           c.move_on.new.entry c.self.invariant.1 (omega (arith, c.min-self-inside.ensures))
           (omega (arith, c.min-self-inside.ensures, c.value.ensures.value)) (ap (λ e. e.deadline) c.move_on.ensures),
     )
@@ -31,7 +31,7 @@ returns-then-next-self-clause-advances g c =
     let ids = UsesId c.args.id in
     let k = read_at ids c.as_slice.ensures.value c.in-Some.ensures c.index.ensures in
     let m = read_at ids c.as_slice.ensures.value c.in-Some.ensures c.index_mut.ensures.value in
-    advances _ c.args.id c.in-Some.i c.args.moment _ _ _ _ _ c.move_on.new.entry c.self.view_is
+    advances _ c.args.id c.in-Some.i c.args.now _ _ _ _ _ c.move_on.new.entry c.self.view_is
     c.behind-self.view_is k m c.if-next-self.true c.move_on.ensures
 
 pub returns-then-next-self-clause-lawful : goal.returns-then-next-self-clause-lawful

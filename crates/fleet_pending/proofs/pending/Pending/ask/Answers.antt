@@ -17,7 +17,7 @@ invariant_of-self g c =
     let asks = AsksFor c.waiter.inside.question in
     let k = read_at asks c.as_slice.ensures.value c.in-Some.ensures c.index_mut.ensures.value in
     let r = ask_result c.join.result in (
-      asks_keeps _ _ c.args.waiter c.args.moment c.args.word r c.self.invariant.0
+      asks_keeps _ _ c.args.waiter c.args.now c.args.word r c.self.invariant.0
           (asks_there _ c.in-Some.i _ _ _ c.self.inside.entries.items c.index_mut.result.now
           c.join.new.entry _ _ r refl c.waiter.view_is k c.join.ensures.joins),
       soonest_joined c.self.inside.soonest c.in-Some.i c.self.inside.entries.items
@@ -28,10 +28,10 @@ invariant_of-self g c =
 pub invariant_of-self-in-None : goal.invariant_of-self-in-None
 invariant_of-self-in-None g c =
     let r = ask_result c.add_entry.result in (
-      asks_keeps _ _ c.args.waiter c.args.moment c.args.word r c.self.invariant.0
+      asks_keeps _ _ c.args.waiter c.args.now c.args.word r c.self.invariant.0
           (asks_anew _ _ _ _ _ _ c.add_entry.new.entries.items _ _ r refl c.waiter.view_is
           c.as_slice.ensures.value c.in-None.ensures c.add_entry.ensures.opens),
-      soonest_opened c.self.inside.soonest c.min-self-inside.result c.args.moment c.args.word
+      soonest_opened c.self.inside.soonest c.min-self-inside.result c.args.now c.args.word
           c.self.inside.entries.items c.add_entry.new.entries.items _ r c.self.invariant.1
           (omega (arith, c.min-self-inside.ensures))
           (omega (arith, c.min-self-inside.ensures, c.value.ensures.value))
@@ -42,7 +42,7 @@ pub returns-in-Some-clause-asks : goal.returns-in-Some-clause-asks
 returns-in-Some-clause-asks g c =
     let asks = AsksFor c.waiter.inside.question in
     let k = read_at asks c.as_slice.ensures.value c.in-Some.ensures c.index_mut.ensures.value in
-    asks_there _ c.in-Some.i c.args.moment c.args.word _ c.self.inside.entries.items
+    asks_there _ c.in-Some.i c.args.now c.args.word _ c.self.inside.entries.items
     c.index_mut.result.now c.join.new.entry _ c.args.waiter (ask_result c.join.result)
     c.self.view_is c.waiter.view_is k c.join.ensures.joins
 
@@ -57,7 +57,7 @@ returns-in-Some-clause-unchanged g c =
 
 pub returns-in-None-clause-asks : goal.returns-in-None-clause-asks
 returns-in-None-clause-asks g c =
-    asks_anew _ c.args.moment c.args.word _ _ _ c.add_entry.new.entries.items _ c.args.waiter
+    asks_anew _ c.args.now c.args.word _ _ _ c.add_entry.new.entries.items _ c.args.waiter
     (ask_result c.add_entry.result) c.self.view_is c.waiter.view_is
     c.as_slice.ensures.value c.in-None.ensures c.add_entry.ensures.opens
 

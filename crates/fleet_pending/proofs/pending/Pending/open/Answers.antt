@@ -11,7 +11,7 @@ pub returns-clause-asks : goal.returns-clause-asks
 returns-clause-asks g c =
     let free = subst (λ (o : PendingData). IsFirstFree c.args.word o.entries c.args.id)
     (sym c.self.view_is) c.requires.2 in
-    opens_new _ c.args.moment c.args.word c.args.self.now c.self.inside.entries.items
+    opens_new _ c.args.now c.args.word c.args.self.now c.self.inside.entries.items
     c.enter.new.entries.items c.args.waiter (ask_result c.enter.result) c.self.view_is
     c.requires.0 (c.enter.ensures.opens c.args.word free)
 
@@ -21,7 +21,7 @@ invariant_of-self g c =
     (sym c.self.view_is) c.requires.2 in (
   asks_keeps _ _ _ _ _ _ (subst IsPendingData c.self.view_is c.self.invariant.0)
       (returns-clause-asks g c),
-  soonest_opened c.self.inside.soonest c.min-self-inside.result c.args.moment c.args.word
+  soonest_opened c.self.inside.soonest c.min-self-inside.result c.args.now c.args.word
       c.self.inside.entries.items c.enter.new.entries.items _ (ask_result c.enter.result)
       c.self.invariant.1 (omega (arith, c.min-self-inside.ensures))
       (omega (arith, c.min-self-inside.ensures, c.value.ensures.value))

@@ -2,7 +2,7 @@ use Rattle.std.proofs.Common.{sym, ◌∙◌, subst, max}
 use Rattle.std.specs.Prelude.{IfOk}
 use mathlib.Core.Bool.{false≢true}
 use Rattle.fleet_site.specs.question.Handling.{handled_result, IsInPlace}
-use Rattle.fleet_site.specs.question.Verdict.{IsPlainHit}
+use Rattle.fleet_site.specs.question.Decision.{IsPlainHit}
 use Rattle.fleet_site.specs.ConfigData.{IsAmong}
 use Rattle.fleet_site.specs.SiteModel.{SiteModel}
 use Rattle.fleet_site.specs.steps.Sender.{IsSender}

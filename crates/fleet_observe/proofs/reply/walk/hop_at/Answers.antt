@@ -2,7 +2,7 @@ use Rattle.std.proofs.Common.{◌∙◌, sym, inl, inr}
 use Rattle.fleet_name.specs.Name.{labels_of}
 use Rattle.fleet_observe.proofs.Sections.{in_of}
 use Rattle.fleet_observe.proofs.Walks.{alias_is}
-use Rattle.fleet_observe.proofs.reply.walk.step_at.Goals as goal
+use Rattle.fleet_observe.proofs.reply.walk.hop_at.Goals as goal
 
 pub returns-in-One : goal.returns-in-One
 returns-in-One g c =

@@ -15,15 +15,15 @@ use Rattle.fleet_cache.specs.Answer.{AnswerData, Missed, Found, NoData, NxDomain
 use Rattle.fleet_site.specs.Choice.{when◌then◌otherwise◌}
 use Rattle.fleet_site.specs.question.AnswerRecords.{bare_octets, Writes}
 use Rattle.fleet_site.specs.declared.verdict.Decision.{Decision}
-use Rattle.fleet_site.specs.declared.verdict.Decision.TheVariants.{Dropped, Reply, Unread, Miss}
+use Rattle.fleet_site.specs.declared.verdict.Decision.TheVariants.{Dropped as DecisionDropped, Reply as DecisionReply, Unread as DecisionUnread, Miss as DecisionMiss}
 
 -- what is decided of octets: no reply; a reply; one that says that they can't be read, for this fault;
 -- or nothing that is known answers the question
-pub data Verdict : Type 0 where
-  Silence : Verdict
-  Answer : OctetList → Verdict
-  Unreadable : OctetList → ReadFault → Verdict
-  Unknown : Header → QuestionData → Verdict
+pub data DecisionData : Type 0 where
+  Dropped : DecisionData
+  Reply : OctetList → DecisionData
+  Unread : OctetList → ReadFault → DecisionData
+  Miss : Header → QuestionData → DecisionData
 
 -- a question that is answered: of class 1 (IN) and of a type that data can have
 pub record IsServedQuestion (q : QuestionData) : Type 0 where
@@ -37,34 +37,34 @@ pub record IsAsking (octets : OctetList) : Type 0 where
 
 -- what is decided of a question by what the set answers: its reply, or nothing that is known where it
 -- is missed
-abbrev pub DecidesAnswer : Header → QuestionData → AnswerData → Verdict → Type 0
-DecidesAnswer h q Missed v = v ≡ Unknown h q
+abbrev pub DecidesAnswer : Header → QuestionData → AnswerData → DecisionData → Type 0
+DecidesAnswer h q Missed v = v ≡ Miss h q
 DecidesAnswer h q (Found chain set) v =
-    (octets : OctetList) × Writes h q (Found chain set) octets × (v ≡ Answer octets)
+    (octets : OctetList) × Writes h q (Found chain set) octets × (v ≡ Reply octets)
 DecidesAnswer h q (NoData chain soa) v =
-    (octets : OctetList) × Writes h q (NoData chain soa) octets × (v ≡ Answer octets)
+    (octets : OctetList) × Writes h q (NoData chain soa) octets × (v ≡ Reply octets)
 DecidesAnswer h q (NxDomain chain soa) v =
-    (octets : OctetList) × Writes h q (NxDomain chain soa) octets × (v ≡ Answer octets)
+    (octets : OctetList) × Writes h q (NxDomain chain soa) octets × (v ≡ Reply octets)
 
 -- what is decided of a question that was read: not implemented (RCODE 4, RFC 1035 4.1.1) where it is
 -- not served, else by what the set answers at the moment
-abbrev pub DecidesQuestion : Observations → Seconds → Header → QuestionData → Verdict → Type 0
+abbrev pub DecidesQuestion : Observations → Seconds → Header → QuestionData → DecisionData → Type 0
 DecidesQuestion s t h q v =
-    when ¬ IsServedQuestion q then v ≡ Answer (bare_octets h NOT_IMPLEMENTED (Some q)) otherwise
+    when ¬ IsServedQuestion q then v ≡ Reply (bare_octets h NOT_IMPLEMENTED (Some q)) otherwise
     DecidesAnswer h q (answer_of s t q.name q.rtype) v
 
 -- What a site makes of octets that are asked, before it looks at open questions. The first that fits
--- (RFC 1035 4.1.1): under 12 octets or a reply, silence; another Opcode than 0, not implemented (RCODE
+-- (RFC 1035 4.1.1): under 12 octets or a reply, dropped; another Opcode than 0, not implemented (RCODE
 -- 4); no query, a format error (RCODE 1); else it is decided by the question.
-abbrev pub Decides : Observations → Seconds → OctetList → Verdict → Type 0
+abbrev pub Decides : Observations → Seconds → OctetList → DecisionData → Type 0
 Decides s t octets v =
-    when length octets < 12 then v ≡ Silence otherwise
-    when IsTrue (header_of octets).response then v ≡ Silence otherwise
+    when length octets < 12 then v ≡ Dropped otherwise
+    when IsTrue (header_of octets).response then v ≡ Dropped otherwise
     when (header_of octets).opcode ≢ 0
-    then v ≡ Answer (bare_octets (header_of octets) NOT_IMPLEMENTED None) otherwise
+    then v ≡ Reply (bare_octets (header_of octets) NOT_IMPLEMENTED None) otherwise
     when ¬ HasQuery octets
     then ((f : ReadFault) × QueryFails octets f
-    × (v ≡ Unreadable (bare_octets (header_of octets) FORMAT_ERROR None) f)) otherwise
+    × (v ≡ Unread (bare_octets (header_of octets) FORMAT_ERROR None) f)) otherwise
     ((q : QuestionData) × (past : Place) × IsQuery octets (header_of octets) q past
     × DecidesQuestion s t (header_of octets) q v)
 
@@ -88,9 +88,9 @@ pub record IsPlainHit (s : Observations) (t : Seconds) (octets : OctetList) : Ty
 
 -- What follows, private contracts alone cite.
 
--- a decision of the code as a verdict
-abbrev pub verdict : {A : Type 0} → Decision A → Verdict
-verdict Dropped = Silence
-verdict (Reply octets) = Answer octets
-verdict (Unread octets f) = Unreadable octets f
-verdict (Miss h q) = Unknown h q
+-- a decision, as plain data
+abbrev pub decision_data : {A : Type 0} → Decision A → DecisionData
+decision_data DecisionDropped = Dropped
+decision_data (DecisionReply octets) = Reply octets
+decision_data (DecisionUnread octets f) = Unread octets f
+decision_data (DecisionMiss h q) = Miss h q
