@@ -16,7 +16,7 @@ use Rattle.fleet_name.proofs.Lemmas.{has_left, has_right, has_either}
 use Rattle.fleet_observe.proofs.Walks.{walk_is}
 use Rattle.fleet_observe.specs.declared.bounds.TheConstants.{LONGEST_BODY}
 use Rattle.fleet_observe.specs.declared.observation.kind.Kind.{Kind}
-use Rattle.fleet_observe.specs.declared.observation.kind.Kind.TheVariants.{NameError, NoData, Positive}
+use Rattle.fleet_observe.specs.declared.observation.kind.Kind.TheVariants.{NameError, NoData as KindNoData, Positive}
 
 -- two lists of distinct values that share none
 distinct_append : {X : Type 0} (xs ys : List X) → AllDistinct xs → AllDistinct ys
@@ -226,7 +226,7 @@ end_apart r d stamp (Records x) o t link h =
     no_link_at_end r.answer r.question.rtype r.question.name t.later d.chain t.walk t.links
     (subst (λ (n : List (List ℕ)). Has (owners_of d.chain) n) named link.owner)
 end_apart r d stamp (NoData soa) o t link h =
-    kinds_apart NoData o.kind (negative_is NoData (denied_by d.name d.chain) d.rtype
+    kinds_apart KindNoData o.kind (negative_is KindNoData (denied_by d.name d.chain) d.rtype
     (denial_rank d.aa d.chain) stamp soa o h).0 (omega arith) link.kind
 end_apart r d stamp (NxDomain soa) o t link h =
     kinds_apart NameError o.kind (negative_is NameError (denied_by d.name d.chain) 0
@@ -236,7 +236,7 @@ end_apart r d stamp Truncated o t link h = h
 
 end_distinct : (d : DigestData) (stamp : ℕ) (e : EndData) → AllDistinct (end_observations d stamp e)
 end_distinct d stamp (Records x) = positive_distinct x (answer_rank d.aa d.name x.name) stamp
-end_distinct d stamp (NoData soa) = negative_distinct NoData (denied_by d.name d.chain)
+end_distinct d stamp (NoData soa) = negative_distinct KindNoData (denied_by d.name d.chain)
     d.rtype (denial_rank d.aa d.chain) stamp soa
 end_distinct d stamp (NxDomain soa) = negative_distinct NameError (denied_by d.name d.chain) 0
     (denial_rank d.aa d.chain) stamp soa
@@ -250,7 +250,7 @@ end_not_two d stamp (Records x) o h two =
     (positive_is x (answer_rank d.aa d.name x.name) stamp o h) ∙ two)
 end_not_two d stamp (NoData soa) o h two =
     denial_not_two d.aa d.chain
-    ((negative_is NoData (denied_by d.name d.chain) d.rtype (denial_rank d.aa d.chain) stamp
+    ((negative_is KindNoData (denied_by d.name d.chain) d.rtype (denial_rank d.aa d.chain) stamp
     soa o h).1 ∙ two)
 end_not_two d stamp (NxDomain soa) o h two =
     denial_not_two d.aa d.chain
