@@ -82,6 +82,11 @@ impl<A: Allocator> Cache<A> {
         }
     }
 
+    /// The allocator that the cache was made with.
+    pub fn allocator(&self) -> &A {
+        &self.alloc
+    }
+
     /// Takes an observation in: the cache is then that of the set with this one. The answer is `false`
     /// exactly where the observation had ended at the floor, is withdrawn by a flush, was there already
     /// or is dominated: then nothing changes. Else what it dominates goes. A flush withdraws what lies

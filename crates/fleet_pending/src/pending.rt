@@ -63,6 +63,11 @@ impl<A: Allocator> Pending<A> {
         }
     }
 
+    /// The allocator that the table was made with.
+    pub fn allocator(&self) -> &A {
+        self.entries.allocator()
+    }
+
     /// Enters a waiter that asks a question at a moment: into the entry that has its question, or into
     /// a new one. The search for a free id begins at `word`. The question's class is not looked at:
     /// where each question was of one class, so is each waiter's (`waiters_stay`).

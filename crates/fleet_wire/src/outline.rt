@@ -3,6 +3,7 @@
 ghost use Rattle.std.specs.Prelude.{◌≡◌, ◌<◌, [], Some, None, OnOk, OnErr, MatchOption};
 ghost use Rattle.fleet_wire.specs.Outline.{line, with_answer, with_authority};
 
+use crate::header::Header;
 use crate::lent::LentQuestion;
 use crate::question::Question;
 use crate::section::{Section, line_of};
@@ -61,31 +62,38 @@ impl<'a, A: Allocator + Copy> Outline<'a, A> {
             None => None,
             Some(asked) => Some(asked.lend()),
         };
-        Outline::of_lent(alloc, id, opcode, rd, rcode, tc, lent)
-    }
-
-    /// An outline of these header fields and a question that borrows its name, without lines. All
-    /// else is as for `new`.
-    pub fn of_lent(
-        alloc: A,
-        id: u16,
-        opcode: u8,
-        rd: bool,
-        rcode: u8,
-        tc: bool,
-        question: Option<LentQuestion<'a>>,
-    ) -> Outline<'a, A>
-        requires opcode { opcode < 16 }
-        requires rcode { rcode < 16 }
-        ensures header { (result.id ≡ id) × (result.opcode ≡ opcode) × (result.rd ≡ rd)
-            × (result.rcode ≡ rcode) × (result.tc ≡ tc) }
-        ensures question { result.question ≡ question.entry }
-        ensures empty { (result.answer ≡ []) × (result.authority ≡ []) }
-    {
         Outline {
             id,
             opcode,
             rd,
+            rcode,
+            tc,
+            question: lent,
+            answer: Section::new(alloc),
+            authority: Section::new(alloc),
+        }
+    }
+
+    /// An outline of the reply to a query with this header: it has the query's ID, Opcode and RD. Its
+    /// question, if any, borrows its name. All else is as for `new`.
+    pub fn of_lent(
+        alloc: A,
+        header: Header,
+        rcode: u8,
+        tc: bool,
+        question: Option<LentQuestion<'a>>,
+    ) -> Outline<'a, A>
+        requires opcode { header.opcode < 16 }
+        requires rcode { rcode < 16 }
+        ensures header { (result.id ≡ header.id) × (result.opcode ≡ header.opcode)
+            × (result.rd ≡ header.rd) × (result.rcode ≡ rcode) × (result.tc ≡ tc) }
+        ensures question { result.question ≡ question.entry }
+        ensures empty { (result.answer ≡ []) × (result.authority ≡ []) }
+    {
+        Outline {
+            id: header.id,
+            opcode: header.opcode,
+            rd: header.rd,
             rcode,
             tc,
             question,

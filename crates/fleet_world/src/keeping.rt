@@ -11,7 +11,6 @@ use std::alloc::{AllocError, Allocator};
 /// Makes room for a number of frames after those that are kept, and gives the numbers that they will
 /// have.
 pub(crate) fn make_room<A: Allocator + Copy>(
-    alloc: A,
     frames: &mut Vec<Octets<A>, A>,
     count: usize,
 ) -> Result<Vec<usize, A>, AllocError>
@@ -21,7 +20,7 @@ pub(crate) fn make_room<A: Allocator + Copy>(
 {
     frames.reserve(count)?;
     let first = frames.len();
-    let mut all = Vec::with_capacity(alloc, count)?;
+    let mut all = Vec::with_capacity(*frames.allocator(), count)?;
     for at in 0..count {
         all.push_reserved(first + at);
     }

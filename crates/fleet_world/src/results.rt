@@ -11,14 +11,13 @@ use std::alloc::Allocator;
 
 /// Frames are sent, a number of observations was taken, and that is all.
 pub(crate) fn outcome_of<A: Allocator + Copy>(
-    alloc: A,
     frames: Vec<Octets<A>, A>,
     taken: usize,
 ) -> Outcome<A>
     ensures { result ≡ record nothing { frames = frames.items; taken = taken } }
 {
     Outcome {
-        packets: Packets::new(Vec::new(alloc)),
+        packets: Packets::new(Vec::new(*frames.allocator())),
         frames: Frames::new(frames),
         taken,
         refused: None,

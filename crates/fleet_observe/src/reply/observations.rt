@@ -51,7 +51,6 @@ fn is_observed<A: Allocator>(set: &RrSet<A>) -> bool
 
 /// Adds the observation of an RRset, unless its TTL is zero or its body too long.
 fn put_set<A: Allocator + Copy>(
-    alloc: A,
     set: &RrSet<A>,
     rank: u8,
     stamp: Moment,
@@ -67,7 +66,7 @@ fn put_set<A: Allocator + Copy>(
     if !is_observed(set) {
         return Ok(());
     }
-    let rdatas = copies(alloc, set.rdatas.as_slice())?;
+    let rdatas = copies(*out.allocator(), set.rdatas.as_slice())?;
     let name = set.name.try_clone()?;
     let made = Observation::positive(name, set.rtype, rank, stamp, set.ttl, rdatas);
     let Ok(observation) = made else {
@@ -79,7 +78,6 @@ fn put_set<A: Allocator + Copy>(
 
 /// Adds the observation of a denial, unless the SOA's TTL is zero.
 fn put_denial<A: Allocator + Copy>(
-    alloc: A,
     denied: &[u8],
     rtype: Option<u16>,
     rank: u8,
@@ -103,7 +101,7 @@ fn put_denial<A: Allocator + Copy>(
     if soa.ttl == 0 {
         return Ok(());
     }
-    let name = name_of(alloc, denied)?;
+    let name = name_of(*out.allocator(), denied)?;
     let copy = Soa {
         owner: soa.owner.try_clone()?,
         ttl: soa.ttl,
@@ -166,7 +164,6 @@ fn denied_at<'a, A: Allocator>(name: &'a Name<A>, chain: &'a [RrSet<A>]) -> &'a 
 
 /// Adds the observations of the links.
 fn put_links<A: Allocator + Copy>(
-    alloc: A,
     digest: &Digest<A>,
     stamp: Moment,
     out: &mut Vec<Observation<A>, A>,
@@ -180,14 +177,13 @@ fn put_links<A: Allocator + Copy>(
     let aa = digest.aa();
     for link in digest.chain() {
         let rank = rank_of(aa, name, &link.name);
-        put_set(alloc, link, rank, stamp, out)?;
+        put_set(link, rank, stamp, out)?;
     }
     Ok(())
 }
 
 /// Adds the observation of the end.
 fn put_end<A: Allocator + Copy>(
-    alloc: A,
     digest: &Digest<A>,
     stamp: Moment,
     out: &mut Vec<Observation<A>, A>,
@@ -202,11 +198,11 @@ fn put_end<A: Allocator + Copy>(
     let rank = rank_of_denial(aa, digest.chain());
     let rtype = digest.rtype();
     match digest.end() {
-        End::Records(set) => put_set(alloc, set, rank_of(aa, name, &set.name), stamp, out),
+        End::Records(set) => put_set(set, rank_of(aa, name, &set.name), stamp, out),
         End::NoData(None) => Ok(()),
-        End::NoData(Some(soa)) => put_denial(alloc, denied, Some(rtype), rank, stamp, soa, out),
+        End::NoData(Some(soa)) => put_denial(denied, Some(rtype), rank, stamp, soa, out),
         End::NxDomain(None) => Ok(()),
-        End::NxDomain(Some(soa)) => put_denial(alloc, denied, None, rank, stamp, soa, out),
+        End::NxDomain(Some(soa)) => put_denial(denied, None, rank, stamp, soa, out),
         End::Code(_) => Ok(()),
         End::Truncated => Ok(()),
     }
@@ -214,7 +210,6 @@ fn put_end<A: Allocator + Copy>(
 
 /// Adds the observations of the NS RRsets.
 fn put_ns<A: Allocator + Copy>(
-    alloc: A,
     digest: &Digest<A>,
     stamp: Moment,
     out: &mut Vec<Observation<A>, A>,
@@ -225,7 +220,7 @@ fn put_ns<A: Allocator + Copy>(
     ensures lawful { IsLawful digest.now }
 {
     for set in digest.ns() {
-        put_set(alloc, set, AUTHORITY, stamp, out)?;
+        put_set(set, AUTHORITY, stamp, out)?;
     }
     Ok(())
 }
@@ -244,9 +239,9 @@ pub fn observations<A: Allocator + Copy>(
     ensures lawful { IfOk result (λ os. AreObservations os.items) }
 {
     let mut out = Vec::new(alloc);
-    put_links(alloc, digest, stamp, &mut out)?;
-    put_end(alloc, digest, stamp, &mut out)?;
-    put_ns(alloc, digest, stamp, &mut out)?;
+    put_links(digest, stamp, &mut out)?;
+    put_end(digest, stamp, &mut out)?;
+    put_ns(digest, stamp, &mut out)?;
     prove!(stamp.value() <= LATEST);
     Ok(out)
 }

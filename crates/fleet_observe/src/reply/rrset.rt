@@ -125,7 +125,6 @@ fn insertion_index<A: Allocator>(rdatas: &[Octets<A>], rdata: &[u8]) -> usize
 
 /// Inserts an RDATA at its place, unless it is there already. `Err` where an allocation fails.
 fn add<A: Allocator + Copy>(
-    alloc: A,
     rdatas: &mut Vec<Octets<A>, A>,
     rdata: &[u8],
 ) -> Result<(), AllocError>
@@ -138,7 +137,7 @@ fn add<A: Allocator + Copy>(
         return Ok(());
     }
     let at = insertion_index(rdatas, rdata);
-    rdatas.insert(at, Octets::copy_of(alloc, rdata)?)?;
+    rdatas.insert(at, Octets::copy_of(*rdatas.allocator(), rdata)?)?;
     Ok(())
 }
 
@@ -157,7 +156,7 @@ pub(crate) fn rrset_at<A: Allocator + Copy>(
     let mut rdatas = Vec::new(alloc);
     for record in section {
         if is_of_rrset(record, name, rtype) {
-            add(alloc, &mut rdatas, record.rdata.as_slice())?;
+            add(&mut rdatas, record.rdata.as_slice())?;
         }
     }
     Ok(RrSet {
