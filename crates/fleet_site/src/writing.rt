@@ -11,8 +11,9 @@ ghost use Rattle.fleet_site.specs.steps.Writing.{answer_rcode, AddsRows, AddsCha
 
 use fleet_cache::{Answer, Shown};
 use fleet_name::Octets;
-use fleet_observe::{LentRrSet, add_rrset, add_soa};
+use fleet_observe::{LentRrSet, add_rrset};
 use fleet_wire::rcode::{NAME_ERROR, NO_ERROR};
+use fleet_wire::rtype::SOA;
 use fleet_wire::{Header, LentQuestion, Outline, Question, write_reply, write_reply_into};
 use std::alloc::{AllocError, Allocator};
 
@@ -43,7 +44,6 @@ pub(crate) fn reply_with_answer<A: Allocator + Copy>(
 /// The reply with an answer, in place of what `out` holds.
 pub(crate) fn write_answer_into<'a, A: Allocator + Copy>(
     out: &mut Vec<u8, A>,
-    alloc: A,
     header: Header,
     question: LentQuestion<'a>,
     answer: &Answer<'a, A>,
@@ -53,6 +53,7 @@ pub(crate) fn write_answer_into<'a, A: Allocator + Copy>(
     requires kinds { HasKinds (answer_data answer.now) }
     ensures { OnOk result (Writes header question.entry (answer_data answer.now) out.new.items) }
 {
+    let alloc = *out.allocator();
     let mut outline = begin(alloc, header, rcode_of(answer), Some(question));
     add_answer(&mut outline, answer)?;
     write_reply_into(out, &outline)
@@ -139,7 +140,7 @@ fn add_denial<'a, A: Allocator + Copy>(
         → OnOk result (AddsSoaRow part.now outline.old outline.new) }
 {
     match part.observation.soa() {
-        Some((owner, rdata)) => add_soa(outline, owner, part.ttl, rdata),
+        Some((owner, rdata)) => outline.authority(owner, SOA, part.ttl, rdata),
         None => Ok(()),
     }
 }
@@ -155,15 +156,7 @@ fn begin<'a, A: Allocator + Copy>(
     requires rcode { rcode < 16 }
     ensures { result ≡ bare_outline header rcode question.entry }
 {
-    Outline::of_lent(
-        alloc,
-        header.id,
-        header.opcode,
-        header.rd,
-        rcode,
-        false,
-        question,
-    )
+    Outline::of_lent(alloc, header, rcode, false, question)
 }
 
 /// The octets of a reply.

@@ -7,9 +7,10 @@ ghost use Rattle.fleet_observe.specs.Relay.{code_of, is_cut, soa_lines, relay_ou
 
 use crate::observation::soa::Soa;
 use crate::reply::ending::End;
-use crate::reply::rows::{add_rrset, add_soa};
+use crate::reply::rows::add_rrset;
 use crate::reply::summary::Digest;
 use fleet_wire::rcode::{NAME_ERROR, NO_ERROR};
+use fleet_wire::rtype::SOA;
 use fleet_wire::{Outline, Question, write_reply};
 use std::alloc::{AllocError, Allocator};
 
@@ -49,7 +50,7 @@ fn put_soa<'a, A: Allocator + Copy>(
 {
     match soa {
         None => Ok(()),
-        Some(soa) => add_soa(outline, &soa.owner, soa.ttl, soa.rdata.as_slice()),
+        Some(soa) => outline.authority(&soa.owner, SOA, soa.ttl, soa.rdata.as_slice()),
     }
 }
 

@@ -1,14 +1,11 @@
 //! Borrowed records that replies are made from.
 
 ghost use Rattle.std.specs.Prelude.{◌≡◌, OnOk, OnErr};
-ghost use Rattle.fleet_wire.specs.Outline.{line, with_authority};
-ghost use Rattle.fleet_wire.specs.declared.rtype.TheConstants.{SOA};
 ghost use Rattle.fleet_observe.specs.RrSet.{rrset_of_lent};
 ghost use Rattle.fleet_observe.specs.Relay.{set_lines, with_answer_lines, HasFirstOf};
 
 use fleet_name::{Name, Octets};
 use fleet_wire::Outline;
-use fleet_wire::rtype::SOA;
 use std::alloc::{AllocError, Allocator, Global};
 
 /// Records of the class IN of one owner and type, borrowed from an RRset or an observation.
@@ -43,20 +40,4 @@ pub fn add_rrset<'a, A: Allocator + Copy>(
         }
     }
     Ok(())
-}
-
-/// Adds an SOA record at the end of the authority section of a reply: its owner, its TTL in seconds
-/// and its RDATA, with every name in full (RFC 2308 3). `Err` where an allocation fails; the
-/// outline is then as it was.
-pub fn add_soa<'a, A: Allocator + Copy>(
-    outline: &mut Outline<'a, A>,
-    owner: &'a Name<A>,
-    ttl: u32,
-    rdata: &'a [u8],
-) -> Result<(), AllocError>
-    ensures ok { OnOk result (outline.new
-        ≡ with_authority outline.old (line owner.entry.now SOA ttl rdata.entry.now)) }
-    ensures err { OnErr result (outline.new ≡ outline.old) }
-{
-    outline.authority(owner, SOA, ttl, rdata)
 }

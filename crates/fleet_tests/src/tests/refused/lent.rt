@@ -6,8 +6,9 @@ use crate::tests::refused::examples::{DENIAL, LENT, REFUSED, example_of};
 use crate::tests::refusing::Refusing;
 use fleet_cache::{Answer, Shown};
 use fleet_name::Octets;
-use fleet_observe::{LentRrSet, add_rrset, add_soa};
+use fleet_observe::{LentRrSet, add_rrset};
 use fleet_site::Looked;
+use fleet_wire::rtype::SOA;
 use fleet_wire::{Header, Outline, Question, read_query, write_reply};
 use fleet_world::World;
 use std::alloc::{Allocator, Global};
@@ -58,7 +59,7 @@ fn look_at<A: Allocator + Copy>(
         Answer::NoData { chain, soa } | Answer::NxDomain { chain, soa } => {
             add_links(rt, &mut outline, chain.as_slice());
             let (owner, rdata) = soa.observation.soa().expect(rt, "an SOA");
-            add_soa(&mut outline, owner, soa.ttl, rdata).expect(rt, "memory");
+            outline.authority(owner, SOA, soa.ttl, rdata).expect(rt, "memory");
         }
         Answer::Miss => return Looked::Miss,
     }
@@ -122,7 +123,7 @@ fn check_example<A: Allocator + Copy>(
     assert_eq!(rt; count, example.questions, "{text}");
 }
 
-/// Allocates: `fleet_observe`: `add_rrset`, `add_soa`.
+/// Allocates: `fleet_observe`: `add_rrset`.
 #[test]
 fn answers_are_lent_where_no_memory_is_left(rt: HostRuntime) {
     let refusing = Refusing::after(rt.alloc(), 0);
