@@ -5,13 +5,14 @@
   tools/wrong_bodies.py --above CRATE ..   those of these crates and of all crates that stand on them: what a changed
                                            definition asks for
   tools/wrong_bodies.py --all              those of all crates
-  tools/wrong_bodies.py --stale            lists the bodies whose verdict is older than what it judged, or that have none;
-                                           takes seconds, and tries nothing
+  tools/wrong_bodies.py --stale            lists the bodies whose verdict is older than what it judged, or that have none, and
+                                           ends with 1 where there is one; takes seconds, and tries nothing
 
 A wrong body is an edit of the code, crates/NAME/wrong-bodies/BODY.edit, in the form of those of must-fail/ (`rt help`).
 The prover has to refuse it; one that passes is a defect of a contract. The bodies are laid under must-fail/ in a copy of the
 sources of their crate and of those below it, and `rt must-fail` tries them there: some at a time, as it chooses itself. Its
-lines may come late, and what it tried once on the same sources it does not try again.
+lines may come late, and what it tried once on the same sources it does not try again. --room FOLDER keeps the copy there, so
+that a later run finds what the kit has built of it; runs of different crates may share a room at the same time.
 
 crates/NAME/wrong-bodies/verdicts has a line for each: its verdict, a hash and its name. The hash is of what was judged: the
 body, how often each text that it replaces stands in its file, the src/, specs/ and proofs/ of its crate, what the crates
@@ -19,8 +20,8 @@ below promise (promises.py says what that is), and the line of `rt version`. Com
 with any other hash is stale, those that an older form of this tool wrote among them.
 
 With --only NAME (more than once, if need be) the bodies of that name alone; with --stale-only those alone whose verdict is
-stale; --jobs N shares the bodies of a crate out to N copies, each with a run of its own. It ends with 1 where a body was not
-refused, is no edit or was not spoken of. One that could not be tried keeps its verdict from before.
+stale; --jobs N shares the bodies of a crate out to N copies, each with a run of its own (FOLDER-2 is the second room). It ends
+with 1 where a body was not refused, is no edit or was not spoken of. One that could not be tried keeps its verdict from before.
 """
 
 import argparse
@@ -133,45 +134,59 @@ def list_stale(states):
     for body in stale:
         print(f"stale: {body.parent.parent.name}/{body.name}")
     print(f"wrong bodies: {count - len(stale)} of {count} refused on this code; {len(stale)} stale")
-    return 0
+    if not stale:
+        return 0
+    print("try them again: python3 tools/wrong_bodies.py --all --stale-only")
+    return 1
+
+
+def renew(source, copy):
+    """Makes the copy of a folder what the folder is now. A file that is the same is not touched."""
+    files = {it.relative_to(source): it.read_bytes() for it in source.rglob("*") if it.is_file()}
+    for file in [it for it in copy.rglob("*") if it.is_file() and it.relative_to(copy) not in files]:
+        file.unlink()
+    for place, octets in files.items():
+        file = copy / place
+        if not file.is_file() or file.read_bytes() != octets:
+            file.parent.mkdir(parents=True, exist_ok=True)
+            file.write_bytes(octets)
 
 
 def lay_out(room, lines, below, name, bodies):
     """Copies the sources of a crate and of those below it, with the bodies as its edits."""
-    needed = all_below(below, name)
-    (room / "crates.txt").write_text("".join(f"{line}\n" for it, line in lines.items() if it in needed), encoding="utf-8")
-    shutil.copy(ROOT / "HANDLES", room)
-    for crate in needed:
+    for crate in all_below(below, name):
         for part in ("src", "specs", "proofs"):
-            if (ROOT / "crates" / crate / part).is_dir():
-                shutil.copytree(ROOT / "crates" / crate / part, room / "crates" / crate / part)
+            renew(ROOT / "crates" / crate / part, room / "crates" / crate / part)
+    there = "".join(f"{line}\n" for it, line in lines.items() if (room / "crates" / it).is_dir())
+    (room / "crates.txt").write_text(there, encoding="utf-8")
+    shutil.copy(ROOT / "HANDLES", room)
     edits = room / "crates" / name / "must-fail"
+    shutil.rmtree(edits, ignore_errors=True)
     edits.mkdir()
     for body in bodies:
         shutil.copy(body, edits)
 
 
-def try_share(lines, below, name, bodies, note):
-    """Tries bodies of a crate in a copy of its own: passes each line of `rt must-fail` on, with the body that it speaks of
-    and what it tells of it; and names those of which it told nothing."""
+def try_share(room, lines, below, name, bodies, note):
+    """Tries bodies of a crate in a copy: passes each line of `rt must-fail` on, with the body that it speaks of and what it
+    tells of it; and names those of which it told nothing."""
     left = {it.stem for it in bodies}
-    with tempfile.TemporaryDirectory(prefix="wrong-bodies-") as place:
-        lay_out(Path(place), lines, below, name, bodies)
-        words = ["rt", "must-fail", name]
-        with subprocess.Popen(words, cwd=place, stdout=subprocess.PIPE, stderr=subprocess.STDOUT, text=True) as ran:
-            for line in ran.stdout:
-                told = TOLD.match(line)
-                if told and told[1] == name and told[2] in left:
-                    left.remove(told[2])
-                    note(line.rstrip(), told[2], told[3])
-                else:
-                    note(line.rstrip(), None, None)
+    lay_out(room, lines, below, name, bodies)
+    words = ["rt", "must-fail", name]
+    with subprocess.Popen(words, cwd=room, stdout=subprocess.PIPE, stderr=subprocess.STDOUT, text=True) as ran:
+        for line in ran.stdout:
+            told = TOLD.match(line)
+            if told and told[1] == name and told[2] in left:
+                left.remove(told[2])
+                note(line.rstrip(), told[2], told[3])
+            else:
+                note(line.rstrip(), None, None)
     for body in sorted(left):
         note(f"{name}/{body}.edit: nothing was said of it", body, None)
 
 
-def try_crate(lines, states, name, bodies, jobs):
-    """Tries bodies of a crate; says whether each was refused."""
+def try_crate(rooms, lines, states, name, bodies):
+    """Tries bodies of a crate, shared out to the rooms; says whether each was refused."""
     verdicts, refused, lock = read_verdicts(name), set(), threading.Lock()
     stamps = {it.stem: states.stamp(it) for it in bodies}
 
@@ -185,9 +200,9 @@ def try_crate(lines, states, name, bodies, jobs):
             if told == "refused":
                 refused.add(body)
 
-    shares = [it for it in (bodies[at::jobs] for at in range(jobs)) if it]
+    shares = [(room, bodies[at :: len(rooms)]) for at, room in enumerate(rooms) if bodies[at :: len(rooms)]]
     with ThreadPoolExecutor(len(shares)) as pool:
-        for done in [pool.submit(try_share, lines, states.below, name, it, note) for it in shares]:
+        for done in [pool.submit(try_share, room, lines, states.below, name, it, note) for room, it in shares]:
             done.result()
     return refused == stamps.keys()
 
@@ -201,6 +216,7 @@ def main():
     words.add_argument("--stale-only", action="store_true")
     words.add_argument("--only", action="append", default=[])
     words.add_argument("--jobs", type=int, default=1)
+    words.add_argument("--room", type=Path)
     given = words.parse_args()
     lines, below = read_crates()
     states = States(below)
@@ -211,12 +227,15 @@ def main():
         words.error(f"no crate {unknown[0]}" if unknown else "name crates, or --all")
     wanted = {*given.crates}
     well = True
-    for name in below:
-        if given.all or name in wanted or given.above and all_below(below, name) & wanted:
-            bodies = stale_bodies(states, name) if given.stale_only else bodies_of(name)
-            bodies = [it for it in bodies if not given.only or it.stem in given.only]
-            if bodies:
-                well = try_crate(lines, states, name, bodies, max(1, given.jobs)) and well
+    with tempfile.TemporaryDirectory(prefix="wrong-bodies-") as place:
+        room = given.room or Path(place) / "room"
+        rooms = [room, *(room.with_name(f"{room.name}-{at}") for at in range(2, given.jobs + 1))]
+        for name in below:
+            if given.all or name in wanted or given.above and all_below(below, name) & wanted:
+                bodies = stale_bodies(states, name) if given.stale_only else bodies_of(name)
+                bodies = [it for it in bodies if not given.only or it.stem in given.only]
+                if bodies:
+                    well = try_crate(rooms, lines, states, name, bodies) and well
     return 0 if well else 1
 
 
