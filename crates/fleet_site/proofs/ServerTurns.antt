@@ -174,8 +174,10 @@ swept_now old new every t from since s r q peers a d due i k c =
       actions = action_of sweeping a y.calls ∷ [];
       swept = (
         t,
-        inl (subst (λ (m : ℕ). IsSweepDue every m t) d due,
-            (action_of sweeping a y.calls, refl, refl, refl)),
+        inl (
+          subst (λ (m : ℕ). IsSweepDue every m t) d due,
+          (action_of sweeping a y.calls, refl, refl, refl),
+        ),
         refl,
       );
       took = took_one old new s s sweeping a r q k y;

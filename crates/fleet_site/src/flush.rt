@@ -16,7 +16,6 @@ use std::alloc::Allocator;
 
 /// Takes the flush of a name at the clock, and sends it as its frame, which is made first.
 pub(crate) fn flush_name<A: Allocator + Copy>(
-    alloc: A,
     cache: &mut Cache<A>,
     now: Moment,
     name: &Name<A>,
@@ -28,6 +27,7 @@ pub(crate) fn flush_name<A: Allocator + Copy>(
         (record { cache = cache.new; asking = o }) }
     ensures floor { cache.new.floor ≡ cache.old.floor }
 {
+    let alloc = *cache.allocator();
     let name = name.try_clone()?;
     let mut observed = Vec::with_capacity(alloc, 1)?;
     observed.push_reserved(Observation::flush(name, now));

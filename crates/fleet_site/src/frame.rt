@@ -16,7 +16,6 @@ use std::alloc::Allocator;
 
 /// Takes a frame's observations. For a frame of nothing but what is past or held nothing is allocated.
 pub(crate) fn take_frame<A: Allocator + Copy>(
-    alloc: A,
     cache: &mut Cache<A>,
     octets: &[u8],
 ) -> Result<Outcome<A>, SiteFault>
@@ -27,6 +26,7 @@ pub(crate) fn take_frame<A: Allocator + Copy>(
         (record { cache = cache.new; asking = o }) }
     ensures floor { cache.new.floor ≡ cache.old.floor }
 {
+    let alloc = *cache.allocator();
     match fleet_gossip::take_frame(alloc, cache, octets) {
         Ok(taken) => Ok(Outcome::without_packets(alloc, taken, None)),
         Err(stop) => match stop {
@@ -40,7 +40,6 @@ pub(crate) fn take_frame<A: Allocator + Copy>(
 
 /// Takes observations, and sends nothing.
 pub(crate) fn take_all<A: Allocator + Copy>(
-    alloc: A,
     cache: &mut Cache<A>,
     observations: Vec<Observation<A>, A>,
 ) -> Result<Outcome<A>, SiteFault>
@@ -48,6 +47,7 @@ pub(crate) fn take_all<A: Allocator + Copy>(
         → TakesOrStops s observations.items result cache.new }
     ensures floor { cache.new.floor ≡ cache.old.floor }
 {
+    let alloc = *cache.allocator();
     let taken = observations.len();
     match cache.take_list(observations) {
         Ok(()) => Ok(Outcome::without_packets(alloc, taken, None)),

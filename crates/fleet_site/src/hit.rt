@@ -36,7 +36,6 @@ fn is_standard_query(header: Header) -> bool
 /// Where `out` has room for 512 octets and no section of the reply has more than four records, this
 /// takes no memory; a miss takes a copy of the question.
 pub(crate) fn decide_plain<A: Allocator + Copy>(
-    alloc: A,
     cache: &Cache<A>,
     now: Moment,
     octets: &[u8],
@@ -57,9 +56,9 @@ pub(crate) fn decide_plain<A: Allocator + Copy>(
     }
     let answer = cache.answer_lent(&question, now);
     if is_miss(&answer) {
-        let copy = question.try_copy(alloc)?;
+        let copy = question.try_copy(*cache.allocator())?;
         return Ok(Plain::Miss(header, copy));
     }
-    write_answer_into(out, alloc, header, question, &answer)?;
+    write_answer_into(out, header, question, &answer)?;
     Ok(Plain::Hit)
 }

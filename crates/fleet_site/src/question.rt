@@ -17,6 +17,7 @@ ghost use Rattle.fleet_site.specs.Table.{IsTableOf, KeepsTable};
 ghost use Rattle.fleet_site.specs.question.Decision.{IsAsking, IsPlainHit, decision_data};
 
 use crate::config::addr_of;
+use crate::datagram::Datagram;
 use crate::handled::Handled;
 use crate::hit::{Plain, decide_plain};
 use crate::outcome::{Outcome, Refusal, SiteFault};
@@ -24,7 +25,6 @@ use crate::verdict::{Decision, decide};
 use crate::writing::reply_without;
 use fleet_cache::Cache;
 use fleet_name::Octets;
-use fleet_observe::Moment;
 use fleet_pending::{
     Addr, Asked, Pending, PendingFault, Unasked, Waiter, asking_uses_query_id, waiters_stay,
 };
@@ -32,36 +32,23 @@ use fleet_wire::rcode::{REFUSED, SERVER_FAILURE};
 use fleet_wire::{Header, Question, one_query, write_query};
 use std::alloc::{AllocError, Allocator};
 
-/// When a question came, from whom, and where the search for the id of its query begins.
-#[derive(Clone, Copy)]
-pub(crate) struct Arrival {
-    /// The site's clock.
-    pub clock: Moment,
-    /// Who asks.
-    pub from: Addr,
-    /// Where the search for an id begins.
-    pub word: u16,
-}
-
 /// Does what a question calls for: octets from an address that is no upstream's and no peer's.
 pub(crate) fn take_question<A: Allocator + Copy>(
-    alloc: A,
     cache: &Cache<A>,
     pending: &mut Pending<A>,
     upstreams: &[Addr],
-    arrival: Arrival,
-    octets: &[u8],
+    datagram: Datagram<'_>,
 ) -> Result<Outcome<A>, SiteFault>
-    requires reached { cache.now.floor ≤ arrival.clock }
+    requires reached { cache.now.floor ≤ datagram.now }
     requires table { IsTableOf upstreams.now pending.old }
     ensures questioned { (s : Observations) → IsCached s cache.now.floor cache.now.items
         → SaysOrStops
-        (Questioned s upstreams.now pending.old arrival.clock arrival.from arrival.word octets.now)
-        (IsAsking octets.now) pending.old result pending.new }
+        (Questioned s upstreams.now pending.old datagram.now datagram.from datagram.word
+        datagram.octets.now) (IsAsking datagram.octets.now) pending.old result pending.new }
     ensures table { KeepsTable pending.old pending.new }
 {
-    match decide(alloc, cache, arrival.clock, octets) {
-        Ok(decision) => respond(alloc, pending, upstreams, arrival, decision),
+    match decide(cache, datagram.now, datagram.octets) {
+        Ok(decision) => respond(pending, upstreams, datagram, decision),
         Err(_) => Err(SiteFault::OutOfMemory { taken: 0 }),
     }
 }
@@ -69,34 +56,30 @@ pub(crate) fn take_question<A: Allocator + Copy>(
 /// Does what `take_question` does, with the reply of a hit written in place of what `out` holds, where
 /// the octets are a plain question (`IsPlainQuestion`). Such a question is read and looked up once.
 pub(crate) fn take_question_into<A: Allocator + Copy>(
-    alloc: A,
     cache: &Cache<A>,
     pending: &mut Pending<A>,
     upstreams: &[Addr],
-    arrival: Arrival,
-    octets: &[u8],
+    datagram: Datagram<'_>,
     out: &mut Vec<u8, A>,
 ) -> Result<Handled<A>, SiteFault>
-    requires reached { cache.now.floor ≤ arrival.clock }
+    requires reached { cache.now.floor ≤ datagram.now }
     requires table { IsTableOf upstreams.now pending.old }
     ensures questioned { (s : Observations) → IsCached s cache.now.floor cache.now.items
         → SaysOrStops
-        (Questioned s upstreams.now pending.old arrival.clock arrival.from arrival.word octets.now)
-        (IsAsking octets.now) pending.old (handled_result arrival.from out.new.items result)
-        pending.new }
+        (Questioned s upstreams.now pending.old datagram.now datagram.from datagram.word
+        datagram.octets.now) (IsAsking datagram.octets.now) pending.old
+        (handled_result datagram.from out.new.items result) pending.new }
     ensures in_place { (s : Observations) → IsCached s cache.now.floor cache.now.items
-        → IsPlainHit s arrival.clock octets.now → IfOk result (λ h. IsInPlace h) }
+        → IsPlainHit s datagram.now datagram.octets.now → IfOk result (λ h. IsInPlace h) }
     ensures table { KeepsTable pending.old pending.new }
 {
-    match decide_plain(alloc, cache, arrival.clock, octets, out) {
-        Ok(Plain::Other) => {
-            whole(take_question(alloc, cache, pending, upstreams, arrival, octets))
-        }
+    match decide_plain(cache, datagram.now, datagram.octets, out) {
+        Ok(Plain::Other) => whole(take_question(cache, pending, upstreams, datagram)),
         Ok(Plain::Hit) => Ok(Handled::Reply),
         Ok(Plain::Miss(header, question)) => {
             one_query();
             let miss = Decision::Miss(header, question);
-            whole(respond(alloc, pending, upstreams, arrival, miss))
+            whole(respond(pending, upstreams, datagram, miss))
         }
         Err(_) => Err(SiteFault::OutOfMemory { taken: 0 }),
     }
@@ -116,31 +99,32 @@ pub(crate) fn whole<A: Allocator>(
 
 /// Does what was decided of octets.
 fn respond<A: Allocator + Copy>(
-    alloc: A,
     pending: &mut Pending<A>,
     upstreams: &[Addr],
-    arrival: Arrival,
+    datagram: Datagram<'_>,
     decision: Decision<A>,
 ) -> Result<Outcome<A>, SiteFault>
     requires askable { IsAskable decision }
     requires table { IsTableOf upstreams.now pending.old }
-    ensures reacts { SaysOrStops (Reacts upstreams.now pending.old arrival.clock arrival.from arrival.word
-        (decision_data decision)) (IsAnswered decision) pending.old result pending.new }
+    ensures reacts { SaysOrStops (Reacts upstreams.now pending.old datagram.now datagram.from
+        datagram.word (decision_data decision)) (IsAnswered decision) pending.old result
+        pending.new }
     ensures table { KeepsTable pending.old pending.new }
 {
+    let alloc = *pending.allocator();
     match decision {
         Decision::Dropped => Ok(Outcome::without_packets(alloc, 0, Some(Refusal::Dropped))),
-        Decision::Reply(octets) => Ok(Outcome::with_packet(alloc, arrival.from, octets, None)?),
+        Decision::Reply(octets) => Ok(Outcome::with_packet(alloc, datagram.from, octets, None)?),
         Decision::Unread(octets, fault) => {
             let refusal = Refusal::Read(fault);
-            Ok(Outcome::with_packet(alloc, arrival.from, octets, Some(refusal))?)
+            Ok(Outcome::with_packet(alloc, datagram.from, octets, Some(refusal))?)
         }
         Decision::Miss(header, question) => {
             if header.rd {
-                forward(alloc, pending, upstreams, arrival, header, question)
+                forward(pending, upstreams, datagram, header, question)
             } else {
                 let octets = reply_without(alloc, header, REFUSED, &question)?;
-                Ok(Outcome::with_packet(alloc, arrival.from, octets, None)?)
+                Ok(Outcome::with_packet(alloc, datagram.from, octets, None)?)
             }
         }
     }
@@ -149,27 +133,27 @@ fn respond<A: Allocator + Copy>(
 /// Brings a miss to the table, and sends a new entry's query, which is written before, to its upstream.
 /// So nothing is taken back where memory runs out.
 fn forward<A: Allocator + Copy>(
-    alloc: A,
     pending: &mut Pending<A>,
     upstreams: &[Addr],
-    arrival: Arrival,
+    datagram: Datagram<'_>,
     header: Header,
     question: Question<A>,
 ) -> Result<Outcome<A>, SiteFault>
     requires opcode { header.opcode < 16 }
     requires class { question.class ≡ IN }
     requires table { IsTableOf upstreams.now pending.old }
-    ensures forwards { SaysOrStops (Forwards upstreams.now pending.old arrival.clock arrival.from
-        arrival.word header question) ⊤ pending.old result pending.new }
+    ensures forwards { SaysOrStops (Forwards upstreams.now pending.old datagram.now datagram.from
+        datagram.word header question) ⊤ pending.old result pending.new }
     ensures table { KeepsTable pending.old pending.new }
 {
     asking_uses_query_id();
-    let fresh = pending.query_id(&question, arrival.word);
+    let alloc = *pending.allocator();
+    let fresh = pending.query_id(&question, datagram.word);
     let outcome = first_outcome(alloc, upstreams, fresh, &question)?;
-    let from = arrival.from;
+    let from = datagram.from;
     let id = header.id;
     let waiter = Waiter { from, id, question };
-    match join_or_open(pending, waiter, arrival, fresh) {
+    match join_or_open(pending, waiter, datagram, fresh) {
         Ok(_) => Ok(outcome),
         Err(unasked) => turn_away(alloc, from, header, unasked),
     }
@@ -210,12 +194,12 @@ fn query_for<A: Allocator + Copy>(
 fn join_or_open<A: Allocator + Copy>(
     pending: &mut Pending<A>,
     waiter: Waiter<A>,
-    arrival: Arrival,
+    datagram: Datagram<'_>,
     fresh: Option<u16>,
 ) -> Result<Asked, Unasked<A>>
     requires class { waiter.question.class ≡ IN }
-    requires fresh { IsQueryId pending.old waiter.question arrival.word fresh }
-    ensures asks { Asks pending.old waiter arrival.clock arrival.word
+    requires fresh { IsQueryId pending.old waiter.question datagram.word fresh }
+    ensures asks { Asks pending.old waiter datagram.now datagram.word
         (ask_result result) pending.new }
     ensures back { IfErr result (λ u. u.waiter ≡ waiter) }
     ensures unchanged { OnErr result (pending.new ≡ pending.old) }
@@ -223,8 +207,8 @@ fn join_or_open<A: Allocator + Copy>(
 {
     waiters_stay();
     match fresh {
-        Some(id) => pending.open(waiter, arrival.clock, arrival.word, id),
-        None => pending.ask(waiter, arrival.clock, arrival.word),
+        Some(id) => pending.open(waiter, datagram.now, datagram.word, id),
+        None => pending.ask(waiter, datagram.now, datagram.word),
     }
 }
 

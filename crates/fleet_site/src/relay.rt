@@ -92,7 +92,6 @@ fn make_relay<A: Allocator + Copy>(
 
 /// All that octets from an upstream make a site write.
 fn relay_of<A: Allocator + Copy>(
-    alloc: A,
     pending: &Pending<A>,
     upstream: u8,
     now: Moment,
@@ -107,7 +106,7 @@ fn relay_of<A: Allocator + Copy>(
         None => return Err(ReplyFault::Refused(Refusal::Dropped)),
     };
     if header.response {
-        relay_of_reply(alloc, pending, upstream, now, octets)
+        relay_of_reply(pending, upstream, now, octets)
     } else {
         Err(ReplyFault::Refused(Refusal::Dropped))
     }
@@ -115,7 +114,6 @@ fn relay_of<A: Allocator + Copy>(
 
 /// All that a reply from an upstream makes a site write.
 fn relay_of_reply<A: Allocator + Copy>(
-    alloc: A,
     pending: &Pending<A>,
     upstream: u8,
     now: Moment,
@@ -126,15 +124,14 @@ fn relay_of_reply<A: Allocator + Copy>(
     ensures refused { IfErr result (λ e. Unlearns (Replied pending.now now upstream octets.now)
         (IsReplying octets.now) pending.now e) }
 {
-    match message_in(alloc, octets) {
-        Ok(message) => relay_of_message(alloc, pending, upstream, now, &message),
+    match message_in(*pending.allocator(), octets) {
+        Ok(message) => relay_of_message(pending, upstream, now, &message),
         Err(fault) => Err(fault),
     }
 }
 
 /// All that a reply from an upstream makes a site write, whatever octets it was read of.
 fn relay_of_message<A: Allocator + Copy>(
-    alloc: A,
     pending: &Pending<A>,
     upstream: u8,
     now: Moment,
@@ -146,6 +143,7 @@ fn relay_of_message<A: Allocator + Copy>(
         → IfErr result (λ e. Unlearns (Replied pending.now now upstream octets)
         (IsReplying octets) pending.now e) }
 {
+    let alloc = *pending.allocator();
     let id = message.header().id;
     let question = message.question();
     let entry = match pending.find(upstream, id, question) {
@@ -166,7 +164,6 @@ fn relay_of_message<A: Allocator + Copy>(
 /// Does what a reply from an upstream calls for: it is relayed to every waiter of its entry in order of
 /// joining, its observations go out and are taken, and the entry is settled.
 pub(crate) fn take_reply<A: Allocator + Copy>(
-    alloc: A,
     cache: &mut Cache<A>,
     pending: &mut Pending<A>,
     upstream: u8,
@@ -180,9 +177,9 @@ pub(crate) fn take_reply<A: Allocator + Copy>(
     ensures floor { cache.new.floor ≡ cache.old.floor }
     ensures table { KeepsTable pending.old pending.new }
 {
-    match relay_of(alloc, pending, upstream, now, octets) {
+    match relay_of(pending, upstream, now, octets) {
         Ok(relay) => carry_out(cache, pending, relay),
-        Err(fault) => refuse(alloc, fault),
+        Err(fault) => refuse(*cache.allocator(), fault),
     }
 }
 
@@ -260,7 +257,6 @@ fn observe<A: Allocator + Copy>(
 
 /// Takes the observations of a reply that is handed in.
 pub(crate) fn learn_reply<A: Allocator + Copy>(
-    alloc: A,
     cache: &mut Cache<A>,
     now: Moment,
     octets: &[u8],
@@ -272,8 +268,9 @@ pub(crate) fn learn_reply<A: Allocator + Copy>(
         (record { cache = cache.new; asking = o }) }
     ensures floor { cache.new.floor ≡ cache.old.floor }
 {
+    let alloc = *cache.allocator();
     match read_observations(alloc, now, octets) {
-        Ok(observed) => take_all(alloc, cache, observed),
+        Ok(observed) => take_all(cache, observed),
         Err(fault) => refuse(alloc, fault),
     }
 }

@@ -15,12 +15,13 @@ ghost use Rattle.fleet_site.specs.declared.site.Sender.TheVariants.{Other};
 ghost use Rattle.fleet_site.specs.declared.outcome.SiteFault.TheVariants.{OutOfMemory};
 
 use crate::config::{Config, place_of};
+use crate::datagram::Datagram;
 use crate::flush::flush_name;
 use crate::frame::take_frame;
 use crate::handled::Handled;
 use crate::looked::Looked;
 use crate::outcome::{Outcome, SiteFault};
-use crate::question::{Arrival, take_question, take_question_into, whole};
+use crate::question::{take_question, take_question_into, whole};
 use crate::relay::{learn_reply, take_reply};
 use crate::tick::serve_due;
 use crate::verdict::{Decision, decide};
@@ -51,7 +52,6 @@ use std::marker::Model;
 /// of memory.
 #[derive(Drop)]
 pub struct Site<A: Allocator = Global> {
-    alloc: A,
     config: Config<A>,
     cache: Cache<A>,
     pending: Pending<A>,
@@ -112,7 +112,6 @@ impl<A: Allocator + Copy> Site<A> {
         let pending = Pending::new(alloc, config.upstreams().len() as u8);
         let clock = cache.floor();
         Site {
-            alloc,
             config,
             cache,
             pending,
@@ -190,7 +189,13 @@ impl<A: Allocator + Copy> Site<A> {
         ensures config { self.new.config ≡ self.old.config }
     {
         let sender = sender_of(&self.config, from);
-        self.dispatch(sender, now, from, bytes, word)
+        let datagram = Datagram {
+            now,
+            from,
+            word,
+            octets: bytes,
+        };
+        self.dispatch(sender, datagram)
     }
 
     // Lets through: a hit that takes memory where `out` has room: no clause says that it takes none.
@@ -220,63 +225,60 @@ impl<A: Allocator + Copy> Site<A> {
         ensures config { self.new.config ≡ self.old.config }
     {
         let sender = sender_of(&self.config, from);
+        let datagram = Datagram {
+            now,
+            from,
+            word,
+            octets: bytes,
+        };
         if !is_asker(sender) {
-            return whole(self.dispatch(sender, now, from, bytes, word));
+            return whole(self.dispatch(sender, datagram));
         }
         let clock = self.clock.later(now);
         self.clock = clock;
-        let arrival = Arrival { clock, from, word };
+        let datagram = Datagram {
+            now: clock,
+            ..datagram
+        };
         take_question_into(
-            self.alloc,
             &self.cache,
             &mut self.pending,
             self.config.upstreams(),
-            arrival,
-            bytes,
+            datagram,
             out,
         )
     }
 
     /// Does with a datagram what its sender calls for.
-    fn dispatch(
-        &mut self,
-        sender: Sender,
-        now: Moment,
-        from: Addr,
-        bytes: &[u8],
-        word: u16,
-    ) -> Result<Outcome<A>, SiteFault>
-        requires { IsSender self.old.config.upstreams self.old.config.peers from sender }
+    fn dispatch(&mut self, sender: Sender, datagram: Datagram<'_>) -> Result<Outcome<A>, SiteFault>
+        requires { IsSender self.old.config.upstreams self.old.config.peers datagram.from sender }
         ensures follows { (m : SiteModel) → StandsFor self.old m
-            → Follows m (a_datagram now from bytes.now word) result self.new }
+            → Follows m (a_datagram datagram.now datagram.from datagram.octets.now datagram.word)
+            result self.new }
         ensures config { self.new.config ≡ self.old.config }
     {
-        self.clock = self.clock.later(now);
+        self.clock = self.clock.later(datagram.now);
         match sender {
             Sender::Upstream(place) => {
                 take_reply(
-                    self.alloc,
                     &mut self.cache,
                     &mut self.pending,
                     place,
                     self.clock,
-                    bytes,
+                    datagram.octets,
                 )
             }
-            Sender::Peer => take_frame(self.alloc, &mut self.cache, bytes),
+            Sender::Peer => take_frame(&mut self.cache, datagram.octets),
             Sender::Other => {
-                let arrival = Arrival {
-                    clock: self.clock,
-                    from,
-                    word,
+                let datagram = Datagram {
+                    now: self.clock,
+                    ..datagram
                 };
                 take_question(
-                    self.alloc,
                     &self.cache,
                     &mut self.pending,
                     self.config.upstreams(),
-                    arrival,
-                    bytes,
+                    datagram,
                 )
             }
         }
@@ -287,9 +289,10 @@ impl<A: Allocator + Copy> Site<A> {
     /// A vector for the replies of `datagram_into`, with room for a whole one where there is memory for
     /// that. Else it is empty, and each hit tries to make room anew.
     pub(crate) fn reply_buffer(&self) -> Vec<u8, A> {
-        let mut out = Vec::new(self.alloc);
+        let alloc = *self.cache.allocator();
+        let mut out = Vec::new(alloc);
         if let Err(_) = out.reserve(LONGEST_MESSAGE) {
-            return Vec::new(self.alloc);
+            return Vec::new(alloc);
         }
         out
     }
@@ -308,12 +311,7 @@ impl<A: Allocator + Copy> Site<A> {
     {
         self.clock = self.clock.later(now);
         self.cache.purge(self.clock);
-        serve_due(
-            self.alloc,
-            &mut self.pending,
-            self.config.upstreams(),
-            self.clock,
-        )
+        serve_due(&mut self.pending, self.config.upstreams(), self.clock)
     }
 
     /// Takes the observations of a frame in, in their order; `Frame` where it is none.
@@ -323,7 +321,7 @@ impl<A: Allocator + Copy> Site<A> {
         ensures config { self.new.config ≡ self.old.config }
     {
         self.clock = self.clock.later(now);
-        take_frame(self.alloc, &mut self.cache, bytes)
+        take_frame(&mut self.cache, bytes)
     }
 
     /// Takes the observations of a reply in, whoever it is from; it may have none. `Read` where it
@@ -335,7 +333,7 @@ impl<A: Allocator + Copy> Site<A> {
         ensures config { self.new.config ≡ self.old.config }
     {
         self.clock = self.clock.later(now);
-        learn_reply(self.alloc, &mut self.cache, self.clock, bytes)
+        learn_reply(&mut self.cache, self.clock, bytes)
     }
 
     /// Withdraws what was stamped at the site's clock or before, at a name and below it: the flush is
@@ -348,7 +346,7 @@ impl<A: Allocator + Copy> Site<A> {
         ensures config { self.new.config ≡ self.old.config }
     {
         self.clock = self.clock.later(now);
-        flush_name(self.alloc, &mut self.cache, self.clock, name)
+        flush_name(&mut self.cache, self.clock, name)
     }
 
     /// What a site answers to a question, in the order of a datagram's, without the open questions:
@@ -362,7 +360,7 @@ impl<A: Allocator + Copy> Site<A> {
         ensures config { self.new.config ≡ self.old.config }
     {
         self.clock = self.clock.later(now);
-        match decide(self.alloc, &self.cache, self.clock, bytes)? {
+        match decide(&self.cache, self.clock, bytes)? {
             Decision::Dropped => Ok(Looked::Dropped),
             Decision::Reply(octets) => Ok(Looked::Reply(octets)),
             Decision::Unread(octets, _) => Ok(Looked::Reply(octets)),
@@ -377,7 +375,7 @@ impl<A: Allocator + Copy> Site<A> {
             → IfOk result (λ frames. IsSweep m frames.items) }
         ensures memory { OnErr result (self.now.cache.items ≢ []) }
     {
-        sweep(self.alloc, &self.cache)
+        sweep(*self.cache.allocator(), &self.cache)
     }
 
     /// Takes in all that another site holds, and purges to its floor, which the clock then reaches too;

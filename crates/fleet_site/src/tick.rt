@@ -70,7 +70,6 @@ fn failure_packets<A: Allocator + Copy>(
 
 /// What is written for the first due entry.
 fn make_plan<A: Allocator + Copy>(
-    alloc: A,
     pending: &Pending<A>,
     upstreams: &[Addr],
     now: Moment,
@@ -79,6 +78,7 @@ fn make_plan<A: Allocator + Copy>(
     ensures plan { IfOk result (λ p. IsPlan upstreams.now pending.now now p) }
     ensures memory { IfErr result (λ _. ¬ NoneDue pending.now.entries now) }
 {
+    let alloc = *pending.allocator();
     match pending.due(now) {
         None => Ok(Plan::Idle(Outcome::without_packets(alloc, 0, None))),
         Some(due) => match due {
@@ -105,7 +105,6 @@ fn make_plan<A: Allocator + Copy>(
 /// server failure. An entry that was served is due later, or gone: else the ticks of a turn would not
 /// end. Where none is due, the table looks ahead to its first deadline.
 pub(crate) fn serve_due<A: Allocator + Copy>(
-    alloc: A,
     pending: &mut Pending<A>,
     upstreams: &[Addr],
     now: Moment,
@@ -119,7 +118,7 @@ pub(crate) fn serve_due<A: Allocator + Copy>(
     waiters_stay();
     settling_gives_its_entry();
     serving_leaves_fewer_due();
-    let plan = match make_plan(alloc, pending, upstreams, now) {
+    let plan = match make_plan(pending, upstreams, now) {
         Ok(plan) => plan,
         Err(_) => return Err(SiteFault::OutOfMemory { taken: 0 }),
     };

@@ -37,7 +37,6 @@ pub(crate) enum Decision<A: Allocator> {
 /// implemented (4), what cannot be read is a format error (1), a question of another class or of a
 /// type that data cannot have is not implemented (4), and then the cache answers.
 pub(crate) fn decide<A: Allocator + Copy>(
-    alloc: A,
     cache: &Cache<A>,
     now: Moment,
     octets: &[u8],
@@ -49,6 +48,7 @@ pub(crate) fn decide<A: Allocator + Copy>(
     ensures answered { IfOk result (λ d. IsAnswered d → IsAsking octets.now) }
     ensures memory { IfErr result (λ _. IsAsking octets.now) }
 {
+    let alloc = *cache.allocator();
     let header = match read_header(octets) {
         Some(header) => header,
         None => return Ok(Decision::Dropped),
@@ -61,7 +61,7 @@ pub(crate) fn decide<A: Allocator + Copy>(
         return Ok(Decision::Reply(reply));
     }
     match read_query(alloc, octets) {
-        Ok((_, question)) => decide_question(alloc, cache, now, header, question),
+        Ok((_, question)) => decide_question(cache, now, header, question),
         Err(fault) => decide_unread(alloc, header, fault),
     }
 }
@@ -85,7 +85,6 @@ fn decide_unread<A: Allocator + Copy>(
 
 /// What is made of a question that was read.
 fn decide_question<A: Allocator + Copy>(
-    alloc: A,
     cache: &Cache<A>,
     now: Moment,
     header: Header,
@@ -97,6 +96,7 @@ fn decide_question<A: Allocator + Copy>(
         → IfOk result (λ d. DecidesQuestion s now header question (decision_data d)) }
     ensures askable { IfOk result (λ d. IsAskable d) }
 {
+    let alloc = *cache.allocator();
     if !is_served(&question.lend()) {
         let reply = reply_without(alloc, header, NOT_IMPLEMENTED, &question)?;
         return Ok(Decision::Reply(reply));
