@@ -2,7 +2,7 @@
 -- Serves `Cache::answer_at`, `Cache::is_past`, `Cache::is_past_lent`, `Cache::items`,
 -- `Cache::needs`, `Cache::purge`, `Cache::take`, `Held::may_deny`, `Held::may_deny_above`,
 -- `Held::may_flush`, `Held::may_flush_above`, `Held::may_flush_any`, `Held::take`, `trim`, and what
--- `Both`, `Dominance`, `LentItems`, `Past`, `Reclaiming` serve.
+-- `Both`, `DominanceLemmas`, `LentItems`, `Past`, `Reclaiming` serve.
 use Rattle.std.proofs.Common.{ℕ, ◌≡◌, ◌≤◌, get_or, Result, Ok, Err, IfOk, OnErr, Bool, true, false, not, ◌&&◌, nat_lt, List, [], ◌∷◌, ◌++◌, ◌↔◌, inl, inr, length, sym, ap, refl, ◌∙◌, subst, arith}
 use mathlib.Core.Bool.{false≢true}
 use Rattle.std.specs.List.{filter}

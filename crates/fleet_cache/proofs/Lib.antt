@@ -40,4 +40,4 @@ mod OneAnswer
 mod Existence
 mod TestsHold
 mod WorkedRows
-mod Dominance
+mod DominanceLemmas

@@ -1,5 +1,5 @@
 -- The lines of `EntryFails`: the first fault of an entry from each of its fields on.
--- Serves `read_head`, and what `Decode`, `Entries`, `Heads` serve.
+-- Serves `read_head`, and what `DecodeLemmas`, `Entries`, `Heads` serve.
 use Rattle.std.proofs.Common.{ℕ, List}
 use Rattle.fleet_wire.specs.Number.{u16_octets, u32_octets}
 use Rattle.fleet_observe.specs.declared.observation.kind.Kind.{Kind}

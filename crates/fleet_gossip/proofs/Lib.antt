@@ -13,7 +13,7 @@ pub mod Passing
 pub mod BodySteps
 pub mod Packing
 pub mod NameSteps
-pub mod Decode
+pub mod DecodeLemmas
 pub mod Making
 pub mod FrameSteps
 pub mod Taking

@@ -2,7 +2,7 @@ use Rattle.std.proofs.Common.{inr}
 use Rattle.std.proofs.lemmas.Result.{err_from_is_err_and}
 use Rattle.fleet_gossip.proofs.FrameSteps.{spells_frame, has_entries, if_err}
 use Rattle.fleet_gossip.proofs.Frames.{list_or_fault}
-use Rattle.fleet_gossip.proofs.Decode.{fault_other}
+use Rattle.fleet_gossip.proofs.DecodeLemmas.{fault_other}
 use Rattle.fleet_gossip.proofs.frame.decode.Goals as goal
 
 pub returns-in_err-entries-clause-fault : goal.returns-in_err-entries-clause-fault
