@@ -1,5 +1,5 @@
 -- What more records of a section change.
--- Serves `end_of`, `follow`, `find_rrset`, `step_at`, what `Sets` serves, and fleet_site,
+-- Serves `end_of`, `follow`, `find_rrset`, `hop_at`, what `Sets` serves, and fleet_site,
 -- fleet_world.
 use Rattle.std.proofs.Common.{◌≡◌, ℕ, ◌⊎◌, inl, inr, List, [], ◌∷◌, ◌++◌, take, drop, ap, sym, ◌∙◌, refl, subst}
 use Rattle.std.proofs.lemmas.List.{take-append-drop}

@@ -1,5 +1,5 @@
 -- Paths, and that there is one walk at most.
--- Serves `follow`, `found_at`, `has_walk`, `step_at`, law `one_walk`, what `EachOnce`,
+-- Serves `follow`, `found_at`, `has_walk`, `hop_at`, law `one_walk`, what `EachOnce`,
 -- `LawfulMeanings`, `OneDigest` serve, and fleet_site, fleet_world.
 use Rattle.std.proofs.Common.{◌≡◌, ℕ, suc, ◌+◌, ◌<◌, ◌≤◌, inl, inr, List, [], ◌∷◌, ◌++◌, length, ap, sym, ◌∙◌, refl, arith, subst, append-nil, Bor}
 use Rattle.std.proofs.lemmas.List.{length-append}

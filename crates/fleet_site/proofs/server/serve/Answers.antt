@@ -1,5 +1,5 @@
 use Rattle.std.proofs.Common.{refl, ◌≡◌, arith}
-use Rattle.fleet_site.proofs.Serve.{serves_none, serves_more, serves_run, serves_failures, serves_follows, past_none, past_more, is_moment, left_more}
+use Rattle.fleet_site.proofs.ServeLemmas.{serves_none, serves_more, serves_run, serves_failures, serves_follows, past_none, past_more, is_moment, left_more}
 use Rattle.fleet_site.proofs.server.serve.Goals as goal
 
 pub loop-init : goal.loop-init
