@@ -3,8 +3,8 @@
 use Rattle.std.proofs.Common.{◌≡◌, ℕ, List, [], ◌∷◌, ◌++◌, length, refl, sym, ap, ◌∙◌, subst, arith, length-append, append_assoc}
 use Rattle.std.proofs.lemmas.Grind.{flat_map-append}
 use Rattle.std.specs.List.{flat_map, AllByRecursion}
-use Rattle.fleet_name.specs.Name.{label_octets, wire, IsLabel, IsName}
-use Rattle.fleet_gossip.specs.Faults.{OctetsFail, IsRoom, IsLengthOctet, IsLower, LabelFails, FrameNameFails, label_fails}
+use Rattle.fleet_name.specs.Name.{label_octets, wire, IsLower, IsLabel, IsName}
+use Rattle.fleet_gossip.specs.Faults.{OctetsFail, IsRoom, IsLengthOctet, LabelFails, FrameNameFails, label_fails}
 use Rattle.fleet_gossip.specs.declared.fault.FrameFault.{FrameFault}
 use Rattle.fleet_name.proofs.Lemmas.{split_same, length-wire-push, label_among}
 use Rattle.fleet_gossip.specs.Entry.{octet}

@@ -6,11 +6,10 @@ use Rattle.fleet_name.specs.Types.{Labels, OctetList}
 use Rattle.fleet_wire.specs.Types.{RType, Seconds}
 use Rattle.fleet_name.specs.Name.{wire}
 use Rattle.fleet_wire.specs.Number.{u16_octets, u32_octets}
-use Rattle.fleet_wire.specs.Shape.{IsPlain}
 use Rattle.fleet_observe.specs.Members.{Has, IsAscending}
-use Rattle.fleet_observe.specs.Body.{positive_body, IsPositiveBody, IsNegativeBody}
+use Rattle.fleet_observe.specs.Body.{IsPositiveBody, IsNegativeBody, AreAllPlain, HaveShortBody}
 use Rattle.fleet_observe.specs.Observation.{ObservationData, IsObservation, kind_number, Observations}
-use Rattle.fleet_observe.specs.declared.bounds.TheConstants.{LATEST, LONGEST_BODY}
+use Rattle.fleet_observe.specs.declared.bounds.TheConstants.{LATEST}
 use Rattle.fleet_observe.specs.declared.observation.kind.Kind.{Kind}
 use Rattle.fleet_observe.specs.declared.observation.kind.Kind.TheVariants.{NameError, NoData, Positive, Flush}
 use Rattle.fleet_gossip.specs.declared.frame.TheConstants.{OLDEST_VERSION, VERSION, FLUSH_VERSION}
@@ -66,8 +65,8 @@ IsMoment moment = moment ≤ LATEST
 -- RDATAs with which a lawful list of the type may begin
 pub record AreFirstRdatas (rtype : RType) (rdatas : List OctetList) : Type 0 where
   pub ascending : IsAscending rdatas
-  pub plain : (rdata : OctetList) → Has rdatas rdata → IsPlain rtype rdata
-  pub short : length (positive_body rdatas) ≤ LONGEST_BODY
+  pub plain : AreAllPlain rtype rdatas
+  pub short : HaveShortBody rdatas
 
 -- What follows, private contracts alone cite.
 

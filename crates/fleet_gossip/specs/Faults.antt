@@ -5,7 +5,7 @@ use Rattle.std.specs.Prelude.{◌≡◌, ℕ, ◌+◌, ◌<◌, ◌≤◌, ◌�
 use Rattle.std.specs.List.{flat_map}
 use Rattle.fleet_name.specs.Types.{Label, Labels, OctetList}
 use Rattle.fleet_wire.specs.Types.{RType}
-use Rattle.fleet_name.specs.Name.{label_octets, wire, lower, IsName, IsUnder}
+use Rattle.fleet_name.specs.Name.{label_octets, wire, IsLower, IsName, IsUnder}
 use Rattle.fleet_name.specs.declared.bounds.TheConstants.{LONGEST_LABEL, LONGEST_NAME}
 use Rattle.fleet_wire.specs.Number.{u16_octets, u32_octets}
 use Rattle.fleet_wire.specs.Shape.{IsPlain}
@@ -58,10 +58,6 @@ pub record IsRoom (before : Labels) (size : ℕ) : Type 0 where
 -- a length octet that may follow these labels: the zero octet, or that of a label with room
 abbrev pub IsLengthOctet : Labels → ℕ → Type 0
 IsLengthOctet before size = 0 < size → IsRoom before size
-
--- a label in lower case
-abbrev pub IsLower : Label → Type 0
-IsLower label = lower label ≡ label
 
 -- The first fault of the label that follows others, or of the zero octet: of its length octet,
 -- where it is too long, or the name is; or of its octets, where one is a capital letter.

@@ -2,7 +2,7 @@
 
 ghost use Rattle.std.specs.Prelude.{◌≡◌, ◌≢◌, ℕ, ◌+◌, ◌-◌, ◌<◌, ◌≤◌, List, [], ◌∷◌, ◌++◌, ◌↔◌, length, take, drop, IfOk, IfErr, OnOk, OnErr, IsTrue, MatchOption, MatchResult, None, vec_len, vec_capacity};
 ghost use Rattle.std.specs.String.{string_bytes};
-ghost use Rattle.fleet_name.specs.Name.{label_octets, wire, lower, lower_all, labels_of, IsName, IsUnder, IsSpelling, IsWire, IsSuffix};
+ghost use Rattle.fleet_name.specs.Name.{label_octets, wire, lower, lower_all, labels_of, IsLower, IsName, IsUnder, IsSpelling, IsWire, IsSuffix};
 ghost use Rattle.fleet_name.specs.Fault.{push_fault, IsFirst};
 ghost use Rattle.fleet_name.specs.declared.bounds.TheConstants.{LONGEST_LABEL};
 ghost use Rattle.fleet_name.specs.declared.fault.NameFault.TheVariants.{OutOfMemory};
@@ -305,7 +305,7 @@ fn push_labels<A: Allocator>(
 
 /// Whether octets are in lower case: none of them is a capital letter, `A` to `Z`.
 pub fn is_lower(octets: &[u8]) -> bool
-    ensures { IsTrue result ↔ (lower octets.now ≡ octets.now) }
+    ensures { IsTrue result ↔ IsLower octets.now }
 {
     for octet in octets {
         if octet.to_ascii_lowercase() != *octet {

@@ -25,15 +25,23 @@ positive_body rdatas = u16_octets (length rdatas) ++ flat_map octets_with_length
 abbrev pub negative_body : Labels → OctetList → OctetList
 negative_body owner rdata = wire owner ++ octets_with_length rdata
 
+-- RDATAs of the type's shape, with their names in full and in lower case
+abbrev pub AreAllPlain : RType → List OctetList → Type 0
+AreAllPlain rtype rdatas = (rdata : OctetList) → Has rdatas rdata → IsPlain rtype rdata
+
+-- RDATAs whose body has at most LONGEST_BODY octets
+abbrev pub HaveShortBody : List OctetList → Type 0
+HaveShortBody rdatas = length (positive_body rdatas) ≤ LONGEST_BODY
+
 -- RDATAs that an observation may hold: at least one, ascending, each of the type's shape with its
 -- names in full and in lower case, one alone for an alias (RFC 2181 10.1), in a body of at most
 -- LONGEST_BODY octets
 pub record AreRdatas (rtype : RType) (rdatas : List OctetList) : Type 0 where
   pub some : rdatas ≢ []
   pub ascending : IsAscending rdatas
-  pub plain : (rdata : OctetList) → Has rdatas rdata → IsPlain rtype rdata
+  pub plain : AreAllPlain rtype rdatas
   pub alone : rtype ≡ CNAME → length rdatas ≡ 1
-  pub short : length (positive_body rdatas) ≤ LONGEST_BODY
+  pub short : HaveShortBody rdatas
 
 -- an SOA record that can deny the name: its owner is the name or an ancestor (RFC 2308 5)
 pub record IsDenial (name owner : Labels) (rdata : OctetList) : Type 0 where

@@ -7,6 +7,7 @@ use Rattle.fleet_name.specs.Name.{labels_of, IsName, IsUnder}
 use Rattle.fleet_wire.specs.Shape.{IsPlain}
 use Rattle.fleet_wire.specs.declared.rtype.TheConstants.{CNAME, SOA}
 use Rattle.fleet_observe.specs.Members.{Has, IsAscending}
+use Rattle.fleet_observe.specs.Body.{AreAllPlain}
 use Rattle.fleet_observe.specs.Observation.{IsDataType}
 use Rattle.fleet_observe.specs.RrSet.{RrSetData}
 use Rattle.fleet_observe.specs.declared.bounds.TheConstants.{LONGEST_DENIAL, LONGEST_LIFE, MOST_LINKS}
@@ -58,7 +59,7 @@ pub record IsLawfulSet (x : RrSetData) : Type 0 where
   pub ttl : x.ttl ≤ LONGEST_LIFE
   pub some : x.rdatas ≢ []
   pub ascending : IsAscending x.rdatas
-  pub plain : (d : OctetList) → Has x.rdatas d → IsPlain x.rtype d
+  pub plain : AreAllPlain x.rtype x.rdatas
   pub alone : x.rtype ≡ CNAME → length x.rdatas ≡ 1
 
 -- a link as programs have it

@@ -8,7 +8,7 @@ use Rattle.std.specs.Ordering.{nat_cmp}
 use Rattle.std.specs.Cmp.Lexicographic.{slice_cmp}
 use Rattle.fleet_name.specs.Types.{Label, Labels, OctetList}
 use Rattle.fleet_wire.specs.Types.{RType}
-use Rattle.fleet_name.specs.Name.{label_octets as framed, wire, lower, IsName, IsUnder}
+use Rattle.fleet_name.specs.Name.{label_octets as framed, wire, IsLower, IsName, IsUnder}
 use Rattle.fleet_wire.specs.Number.{u16_octets, u32_octets}
 use Rattle.fleet_observe.specs.Body.{octets_with_length, positive_body, negative_body}
 use Rattle.fleet_observe.specs.Checks.{IsRankOf, IsLifeOf}
@@ -68,7 +68,7 @@ pub record IsHead (version : ℕ) (octets : OctetList) (head : Head) (rest : Oct
 pub record IsLabelAt (before : Labels) (octets : OctetList) (label : Label) (rest : OctetList) : Type 0 where
   pub whole : octets ≡ framed label ++ rest
   pub room : 0 < length label → IsRoom before (length label)
-  pub low : lower label ≡ label
+  pub low : IsLower label
 
 -- lawful octets are at the front, and the rest follows them
 pub record IsPart (Lawful : OctetList → Type 0) (octets part rest : OctetList) : Type 0 where

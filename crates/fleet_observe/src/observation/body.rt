@@ -2,7 +2,7 @@
 
 ghost use Rattle.std.specs.Prelude.{◌≡◌, ◌<◌, ◌≤◌, ◌++◌, length, IfOk, OnOk};
 ghost use Rattle.fleet_wire.specs.Number.{u16_octets};
-ghost use Rattle.fleet_observe.specs.Body.{positive_body, octets_with_length};
+ghost use Rattle.fleet_observe.specs.Body.{positive_body, octets_with_length, HaveShortBody};
 ghost use Rattle.fleet_observe.specs.declared.bounds.TheConstants.{LONGEST_BODY};
 
 use fleet_name::{Name, Octets};
@@ -72,7 +72,7 @@ impl<A: Allocator> Body<A> {
 
 /// How many octets the body of these RDATAs has.
 fn rdatas_len<A: Allocator>(rdatas: &[Octets<A>]) -> usize
-    requires { length (positive_body rdatas.now) ≤ LONGEST_BODY }
+    requires { HaveShortBody rdatas.now }
     ensures { result ≡ length (positive_body rdatas.now) }
 {
     let mut len = 2;
@@ -104,7 +104,7 @@ fn push_rdatas<A: Allocator, B: Allocator>(
     octets: &mut Vec<u8, B>,
     rdatas: &[Octets<A>],
 ) -> Result<(), AllocError>
-    requires { length (positive_body rdatas.now) ≤ LONGEST_BODY }
+    requires { HaveShortBody rdatas.now }
     ensures { OnOk result (octets.new.items ≡ octets.old.items ++ positive_body rdatas.now) }
 {
     push_u16(octets, rdatas.len())?;

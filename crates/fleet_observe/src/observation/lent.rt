@@ -3,7 +3,7 @@
 ghost use Rattle.std.specs.Prelude.{◌≡◌, ◌≢◌, ◌<◌, ◌≤◌, ◌++◌, ◌↔◌, length, IsTrue, MatchOption};
 ghost use Rattle.fleet_name.specs.Types.{OctetList};
 ghost use Rattle.fleet_wire.specs.Number.{u16_octets};
-ghost use Rattle.fleet_observe.specs.Body.{positive_body, negative_body, octets_with_length};
+ghost use Rattle.fleet_observe.specs.Body.{positive_body, negative_body, octets_with_length, HaveShortBody};
 ghost use Rattle.fleet_observe.specs.BodyParts.{body_octets};
 ghost use Rattle.fleet_observe.specs.declared.bounds.TheConstants.{LONGEST_BODY};
 
@@ -65,7 +65,7 @@ fn behind_sized<'a>(octets: &'a [u8], part: &[u8]) -> Option<&'a [u8]>
 
 /// Whether octets are the body of these RDATAs.
 fn is_positive_body<A: Allocator>(rdatas: &[Octets<A>], octets: &[u8]) -> bool
-    requires { length (positive_body rdatas.now) ≤ LONGEST_BODY }
+    requires { HaveShortBody rdatas.now }
     ensures { IsTrue result ↔ (octets.now ≡ positive_body rdatas.now) }
 {
     let Some(mut rest) = behind_u16(octets, rdatas.len()) else {

@@ -1,13 +1,10 @@
 //! Tests of the values of an observation.
 
-ghost use Rattle.std.specs.Prelude.{◌≡◌, ◌≢◌, ◌<◌, ◌≤◌, ◌↔◌, [], length, IsTrue, IsFalse};
-ghost use Rattle.fleet_name.specs.Types.{OctetList};
-ghost use Rattle.fleet_wire.specs.Shape.{IsPlain};
-ghost use Rattle.fleet_observe.specs.Members.{Has, IsAscending};
-ghost use Rattle.fleet_observe.specs.Body.{positive_body, AreRdatas, IsDenial};
+ghost use Rattle.std.specs.Prelude.{◌≡◌, ◌≢◌, ◌<◌, ◌↔◌, [], IsTrue, IsFalse};
+ghost use Rattle.fleet_observe.specs.Members.{IsAscending};
+ghost use Rattle.fleet_observe.specs.Body.{AreAllPlain, HaveShortBody, AreRdatas, IsDenial};
 ghost use Rattle.fleet_observe.specs.Observation.{IsRank, IsDenialRank, IsLife, IsDataType};
 ghost use Rattle.fleet_observe.specs.Checks.{IsDeniedType, IsRankOf, IsLifeOf, IsTypeOf, IsCountOf};
-ghost use Rattle.fleet_observe.specs.declared.bounds.TheConstants.{LONGEST_BODY};
 
 use crate::bounds::{LONGEST_BODY, LONGEST_DENIAL, LONGEST_LIFE};
 use crate::observation::kind::Kind;
@@ -59,7 +56,7 @@ fn are_ascending<A: Allocator>(rdatas: &[Octets<A>]) -> bool
 
 /// Whether each has its type's shape, with names in full and in lower case.
 fn are_plain<A: Allocator>(rtype: u16, rdatas: &[Octets<A>]) -> bool
-    ensures { IsTrue result ↔ ((rdata : OctetList) → Has rdatas.now rdata → IsPlain rtype rdata) }
+    ensures { IsTrue result ↔ AreAllPlain rtype rdatas.now }
 {
     for rdata in rdatas {
         if !plain_rdata(rtype, rdata.as_slice()) {
@@ -71,7 +68,7 @@ fn are_plain<A: Allocator>(rtype: u16, rdatas: &[Octets<A>]) -> bool
 
 /// Whether their body has at most `LONGEST_BODY` octets.
 pub(crate) fn are_short<A: Allocator>(rdatas: &[Octets<A>]) -> bool
-    ensures { IsTrue result ↔ (length (positive_body rdatas.now) ≤ LONGEST_BODY) }
+    ensures { IsTrue result ↔ HaveShortBody rdatas.now }
 {
     let mut room = LONGEST_BODY - 2;
     for rdata in rdatas {

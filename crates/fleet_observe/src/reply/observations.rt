@@ -1,15 +1,14 @@
 //! The observations of a digest.
 
-ghost use Rattle.std.specs.Prelude.{◌≡◌, ◌≢◌, ◌↔◌, ℕ, ◌≤◌, ◌++◌, List, [], length, IfOk, IfErr, OnOk, IsTrue, Option, Some};
+ghost use Rattle.std.specs.Prelude.{◌≡◌, ◌≢◌, ◌↔◌, ℕ, ◌≤◌, ◌++◌, List, [], IfOk, IfErr, OnOk, IsTrue, Option, Some};
 ghost use Rattle.fleet_name.specs.Name.{labels_of};
 ghost use Rattle.fleet_observe.specs.Members.{Has};
-ghost use Rattle.fleet_observe.specs.Body.{positive_body};
+ghost use Rattle.fleet_observe.specs.Body.{HaveShortBody};
 ghost use Rattle.fleet_observe.specs.Observation.{IsRank, IsDenialRank, AreObservations};
 ghost use Rattle.fleet_observe.specs.Checks.{IsDeniedType, denied_kind, denied_type};
 ghost use Rattle.fleet_observe.specs.RrSet.{RrSetData, SpellsName};
 ghost use Rattle.fleet_observe.specs.Digest.{end_data, denied_by, first_or, IsLawfulSet, IsLawfulLink, IsLawfulSoa, IsLawful};
 ghost use Rattle.fleet_observe.specs.Observations.{positive_observations, denial_observations, answer_rank, denial_rank, link_observations, end_observations, ns_observations, reply_observations};
-ghost use Rattle.fleet_observe.specs.declared.bounds.TheConstants.{LONGEST_BODY};
 
 use crate::bounds::LATEST;
 use crate::observation::Observation;
@@ -41,7 +40,7 @@ fn copies<A: Allocator + Copy>(
 /// Whether an RRset is observed: its TTL is not zero and its body not too long.
 fn is_observed<A: Allocator>(set: &RrSet<A>) -> bool
     ensures { IsTrue result
-        ↔ ((1 ≤ set.now.ttl) × (length (positive_body set.now.rdatas) ≤ LONGEST_BODY)) }
+        ↔ ((1 ≤ set.now.ttl) × HaveShortBody set.now.rdatas) }
 {
     if set.ttl == 0 {
         return false;
