@@ -7,7 +7,7 @@ use fleet_pending::Addr;
 #[derive(Clone, Copy)]
 pub(crate) struct Datagram<'a> {
     /// The moment that is handed in with it or, once the clock was raised to that, the clock.
-    pub now: Moment,
+    pub moment: Moment,
     /// Who sent it.
     pub from: Addr,
     /// Where the search for the identifier of a new query begins.

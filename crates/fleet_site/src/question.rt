@@ -37,17 +37,18 @@ pub(crate) fn take_question<A: Allocator + Copy>(
     cache: &Cache<A>,
     pending: &mut Pending<A>,
     upstreams: &[Addr],
-    datagram: Datagram<'_>,
+    datagram: &Datagram<'_>,
 ) -> Result<Outcome<A>, SiteFault>
-    requires reached { cache.now.floor ≤ datagram.now }
+    requires reached { cache.now.floor ≤ datagram.now.moment }
     requires table { IsTableOf upstreams.now pending.old }
     ensures questioned { (s : Observations) → IsCached s cache.now.floor cache.now.items
         → SaysOrStops
-        (Questioned s upstreams.now pending.old datagram.now datagram.from datagram.word
-        datagram.octets.now) (IsAsking datagram.octets.now) pending.old result pending.new }
+        (Questioned s upstreams.now pending.old datagram.now.moment datagram.now.from
+        datagram.now.word datagram.now.octets.now) (IsAsking datagram.now.octets.now) pending.old
+        result pending.new }
     ensures table { KeepsTable pending.old pending.new }
 {
-    match decide(cache, datagram.now, datagram.octets) {
+    match decide(cache, datagram.moment, datagram.octets) {
         Ok(decision) => respond(pending, upstreams, datagram, decision),
         Err(_) => Err(SiteFault::OutOfMemory { taken: 0 }),
     }
@@ -59,21 +60,21 @@ pub(crate) fn take_question_into<A: Allocator + Copy>(
     cache: &Cache<A>,
     pending: &mut Pending<A>,
     upstreams: &[Addr],
-    datagram: Datagram<'_>,
+    datagram: &Datagram<'_>,
     out: &mut Vec<u8, A>,
 ) -> Result<Handled<A>, SiteFault>
-    requires reached { cache.now.floor ≤ datagram.now }
+    requires reached { cache.now.floor ≤ datagram.now.moment }
     requires table { IsTableOf upstreams.now pending.old }
     ensures questioned { (s : Observations) → IsCached s cache.now.floor cache.now.items
         → SaysOrStops
-        (Questioned s upstreams.now pending.old datagram.now datagram.from datagram.word
-        datagram.octets.now) (IsAsking datagram.octets.now) pending.old
-        (handled_result datagram.from out.new.items result) pending.new }
+        (Questioned s upstreams.now pending.old datagram.now.moment datagram.now.from
+        datagram.now.word datagram.now.octets.now) (IsAsking datagram.now.octets.now) pending.old
+        (handled_result datagram.now.from out.new.items result) pending.new }
     ensures in_place { (s : Observations) → IsCached s cache.now.floor cache.now.items
-        → IsPlainHit s datagram.now datagram.octets.now → IfOk result (λ h. IsInPlace h) }
+        → IsPlainHit s datagram.now.moment datagram.now.octets.now → IfOk result (λ h. IsInPlace h) }
     ensures table { KeepsTable pending.old pending.new }
 {
-    match decide_plain(cache, datagram.now, datagram.octets, out) {
+    match decide_plain(cache, datagram.moment, datagram.octets, out) {
         Ok(Plain::Other) => whole(take_question(cache, pending, upstreams, datagram)),
         Ok(Plain::Hit) => Ok(Handled::Reply),
         Ok(Plain::Miss(header, question)) => {
@@ -101,14 +102,14 @@ pub(crate) fn whole<A: Allocator>(
 fn respond<A: Allocator + Copy>(
     pending: &mut Pending<A>,
     upstreams: &[Addr],
-    datagram: Datagram<'_>,
+    datagram: &Datagram<'_>,
     decision: Decision<A>,
 ) -> Result<Outcome<A>, SiteFault>
     requires askable { IsAskable decision }
     requires table { IsTableOf upstreams.now pending.old }
-    ensures reacts { SaysOrStops (Reacts upstreams.now pending.old datagram.now datagram.from
-        datagram.word (decision_data decision)) (IsAnswered decision) pending.old result
-        pending.new }
+    ensures reacts { SaysOrStops (Reacts upstreams.now pending.old datagram.now.moment
+        datagram.now.from datagram.now.word (decision_data decision)) (IsAnswered decision)
+        pending.old result pending.new }
     ensures table { KeepsTable pending.old pending.new }
 {
     let alloc = *pending.allocator();
@@ -135,15 +136,15 @@ fn respond<A: Allocator + Copy>(
 fn forward<A: Allocator + Copy>(
     pending: &mut Pending<A>,
     upstreams: &[Addr],
-    datagram: Datagram<'_>,
+    datagram: &Datagram<'_>,
     header: Header,
     question: Question<A>,
 ) -> Result<Outcome<A>, SiteFault>
     requires opcode { header.opcode < 16 }
     requires class { question.class ≡ IN }
     requires table { IsTableOf upstreams.now pending.old }
-    ensures forwards { SaysOrStops (Forwards upstreams.now pending.old datagram.now datagram.from
-        datagram.word header question) ⊤ pending.old result pending.new }
+    ensures forwards { SaysOrStops (Forwards upstreams.now pending.old datagram.now.moment
+        datagram.now.from datagram.now.word header question) ⊤ pending.old result pending.new }
     ensures table { KeepsTable pending.old pending.new }
 {
     asking_uses_query_id();
@@ -194,12 +195,12 @@ fn query_for<A: Allocator + Copy>(
 fn join_or_open<A: Allocator + Copy>(
     pending: &mut Pending<A>,
     waiter: Waiter<A>,
-    datagram: Datagram<'_>,
+    datagram: &Datagram<'_>,
     fresh: Option<u16>,
 ) -> Result<Asked, Unasked<A>>
     requires class { waiter.question.class ≡ IN }
-    requires fresh { IsQueryId pending.old waiter.question datagram.word fresh }
-    ensures asks { Asks pending.old waiter datagram.now datagram.word
+    requires fresh { IsQueryId pending.old waiter.question datagram.now.word fresh }
+    ensures asks { Asks pending.old waiter datagram.now.moment datagram.now.word
         (ask_result result) pending.new }
     ensures back { IfErr result (λ u. u.waiter ≡ waiter) }
     ensures unchanged { OnErr result (pending.new ≡ pending.old) }
@@ -207,8 +208,8 @@ fn join_or_open<A: Allocator + Copy>(
 {
     waiters_stay();
     match fresh {
-        Some(id) => pending.open(waiter, datagram.now, datagram.word, id),
-        None => pending.ask(waiter, datagram.now, datagram.word),
+        Some(id) => pending.open(waiter, datagram.moment, datagram.word, id),
+        None => pending.ask(waiter, datagram.moment, datagram.word),
     }
 }
 

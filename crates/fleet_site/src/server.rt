@@ -249,10 +249,11 @@ fn take_turn<P: Port, A: Allocator + Copy>(
         (loop_state (P.state port.new) site.new run.new.report)
         turn.now turn.word every run.old.swept run.new.swept }
 {
+    let now = turn.now;
     run.report.count_turns();
     receive(port, site, run, turn);
-    tick_all(port, site, turn.now, &mut run.report);
-    sweep_if_due(port, site, run, turn.now, every);
+    tick_all(port, site, now, &mut run.report);
+    sweep_if_due(port, site, run, now, every);
 }
 
 /// Serves a site over a port for exactly this number of turns, and returns what it counted.

@@ -190,12 +190,12 @@ impl<A: Allocator + Copy> Site<A> {
     {
         let sender = sender_of(&self.config, from);
         let datagram = Datagram {
-            now,
+            moment: now,
             from,
             word,
             octets: bytes,
         };
-        self.dispatch(sender, datagram)
+        self.dispatch(sender, &datagram)
     }
 
     // Lets through: a hit that takes memory where `out` has room: no clause says that it takes none.
@@ -226,38 +226,38 @@ impl<A: Allocator + Copy> Site<A> {
     {
         let sender = sender_of(&self.config, from);
         let datagram = Datagram {
-            now,
+            moment: now,
             from,
             word,
             octets: bytes,
         };
         if !is_asker(sender) {
-            return whole(self.dispatch(sender, datagram));
+            return whole(self.dispatch(sender, &datagram));
         }
         let clock = self.clock.later(now);
         self.clock = clock;
         let datagram = Datagram {
-            now: clock,
+            moment: clock,
             ..datagram
         };
         take_question_into(
             &self.cache,
             &mut self.pending,
             self.config.upstreams(),
-            datagram,
+            &datagram,
             out,
         )
     }
 
     /// Does with a datagram what its sender calls for.
-    fn dispatch(&mut self, sender: Sender, datagram: Datagram<'_>) -> Result<Outcome<A>, SiteFault>
-        requires { IsSender self.old.config.upstreams self.old.config.peers datagram.from sender }
+    fn dispatch(&mut self, sender: Sender, datagram: &Datagram<'_>) -> Result<Outcome<A>, SiteFault>
+        requires { IsSender self.old.config.upstreams self.old.config.peers datagram.now.from sender }
         ensures follows { (m : SiteModel) → StandsFor self.old m
-            → Follows m (a_datagram datagram.now datagram.from datagram.octets.now datagram.word)
-            result self.new }
+            → Follows m (a_datagram datagram.now.moment datagram.now.from datagram.now.octets.now
+            datagram.now.word) result self.new }
         ensures config { self.new.config ≡ self.old.config }
     {
-        self.clock = self.clock.later(datagram.now);
+        self.clock = self.clock.later(datagram.moment);
         match sender {
             Sender::Upstream(place) => {
                 take_reply(
@@ -271,14 +271,14 @@ impl<A: Allocator + Copy> Site<A> {
             Sender::Peer => take_frame(&mut self.cache, datagram.octets),
             Sender::Other => {
                 let datagram = Datagram {
-                    now: self.clock,
-                    ..datagram
+                    moment: self.clock,
+                    ..*datagram
                 };
                 take_question(
                     &self.cache,
                     &mut self.pending,
                     self.config.upstreams(),
-                    datagram,
+                    &datagram,
                 )
             }
         }

@@ -8,7 +8,7 @@ returns-in-Some-clause-table g c = λ us table.
     let n = c.open.new.self in
     let w = c.args.waiter in
     keeps_table_asked us o n w table c.requires.class c.open.ensures.lawful c.open.ensures.upstreams
-    (λ v. c.waiters_stay.ensures.asking o n w v c.args.datagram.now c.args.datagram.word
+    (λ v. c.waiters_stay.ensures.asking o n w v c.args.datagram.now.moment c.args.datagram.now.word
     (ask_result c.open.result) c.open.ensures.asks)
 
 pub returns-in-None-clause-table : goal.returns-in-None-clause-table
@@ -17,5 +17,5 @@ returns-in-None-clause-table g c = λ us table.
     let n = c.ask.new.self in
     let w = c.args.waiter in
     keeps_table_asked us o n w table c.requires.class c.ask.ensures.lawful c.ask.ensures.upstreams
-    (λ v. c.waiters_stay.ensures.asking o n w v c.args.datagram.now c.args.datagram.word
+    (λ v. c.waiters_stay.ensures.asking o n w v c.args.datagram.now.moment c.args.datagram.now.word
     (ask_result c.ask.result) c.ask.ensures.asks)
