@@ -1,6 +1,6 @@
 -- Lists of calls of a port, and of what is sent.
--- Serves `server::carry_out`, `carry_out_sweep`, `give`, `send_frames`, `send_packets`,
--- `send_to_each`, and what `ServeLemmas`, `ServerTurns` serve.
+-- Serves `carry_out`, `carry_out_sweep`, `give`, `send_frames`, `send_packets`, `send_to_each`, and
+-- what `ServeLemmas`, `ServerTurns` serve.
 use Rattle.std.proofs.Common.{◌≡◌, ℕ, ◌+◌, ◌<◌, List, [], ◌∷◌, ◌++◌, Option, Some, None, Ok, refl, sym, ap, subst, ◌∙◌, append_assoc, length, take, get_or, is_some}
 use Rattle.std.proofs.lemmas.List.{append-nil, take_more}
 use Rattle.fleet_pending.specs.declared.addr.Addr.{Addr}

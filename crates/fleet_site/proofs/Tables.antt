@@ -1,6 +1,6 @@
 -- The open questions of a site, as they change.
--- Serves `entry_query`, `join_or_open`, `relay::carry_out`, `make_plan`, `serve_due`, and what
--- `Hearing`, `Plans` serve.
+-- Serves `entry_query`, `join_or_open`, `settle_by`, `make_plan`, `serve_due`, and what `Hearing`,
+-- `Plans` serve.
 use Rattle.std.proofs.Common.{◌≡◌, ℕ, ◌⊎◌, inl, inr, Option, Some, List, ◌<◌, length, get_or, arith, refl, sym, ◌∙◌, ap, subst}
 use Rattle.std.proofs.lemmas.Option.{slice_get_read}
 use Rattle.fleet_wire.specs.declared.class.TheConstants.{IN}

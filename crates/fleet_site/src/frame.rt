@@ -5,13 +5,12 @@ ghost use Rattle.fleet_observe.specs.Observation.{Observations};
 ghost use Rattle.fleet_cache.specs.Cached.{IsCached};
 ghost use Rattle.fleet_gossip.specs.Frame.{HasEntries};
 ghost use Rattle.fleet_pending.specs.PendingData.{PendingData};
-ghost use Rattle.fleet_site.specs.steps.Carried.{DoesOrStops, TakesOrStops};
+ghost use Rattle.fleet_site.specs.steps.Carried.{DoesOrStops};
 ghost use Rattle.fleet_site.specs.gossip.Frame.{Framed};
 
 use crate::outcome::{Outcome, Refusal, SiteFault};
 use fleet_cache::Cache;
 use fleet_gossip::TakeFault;
-use fleet_observe::Observation;
 use std::alloc::Allocator;
 
 /// Takes a frame's observations. For a frame of nothing but what is past or held nothing is allocated.
@@ -35,24 +34,5 @@ pub(crate) fn take_frame<A: Allocator + Copy>(
             }
             TakeFault::OutOfMemory { taken } => Err(SiteFault::OutOfMemory { taken }),
         },
-    }
-}
-
-/// Takes observations, and sends nothing.
-pub(crate) fn take_all<A: Allocator + Copy>(
-    cache: &mut Cache<A>,
-    observations: Vec<Observation<A>, A>,
-) -> Result<Outcome<A>, SiteFault>
-    ensures taken { (s : Observations) → IsCached s cache.old.floor cache.old.items
-        → TakesOrStops s observations.items result cache.new }
-    ensures floor { cache.new.floor ≡ cache.old.floor }
-{
-    let alloc = *cache.allocator();
-    let taken = observations.len();
-    match cache.take_list(observations) {
-        Ok(()) => Ok(Outcome::without_packets(alloc, taken, None)),
-        Err(stopped) => Err(SiteFault::OutOfMemory {
-            taken: stopped.taken,
-        }),
     }
 }

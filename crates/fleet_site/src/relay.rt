@@ -1,29 +1,21 @@
-//! What a site does with a reply: one from an upstream is relayed to those who wait for it, one
-//! that it is handed is learnt.
+//! What a site does with a reply from an upstream: it is relayed to those who wait for it.
 
 ghost use Rattle.std.specs.Prelude.{◌≡◌, ◌<◌, IfOk, IfErr, map};
-ghost use Rattle.fleet_name.specs.Types.{OctetList};
-ghost use Rattle.fleet_wire.specs.Message.{HasReply, IsReply};
 ghost use Rattle.fleet_observe.specs.Observation.{Observations};
-ghost use Rattle.fleet_observe.specs.Observations.{reply_observations};
 ghost use Rattle.fleet_cache.specs.Cached.{IsCached};
-ghost use Rattle.fleet_pending.specs.PendingData.{PendingData};
 ghost use Rattle.fleet_site.specs.steps.Carried.{DoesOrStops};
-ghost use Rattle.fleet_site.specs.reply.Learn.{Learnt};
 ghost use Rattle.fleet_site.specs.steps.Relayed.{IsRelayOf, IsMade, IsRelayFor, SaysRefusal, Unlearns};
 ghost use Rattle.fleet_site.specs.reply.Reply.{IsAnswering, IsReplying, Replied, relay_to};
-ghost use Rattle.fleet_site.specs.SiteModel.{takes};
 ghost use Rattle.fleet_site.specs.Table.{KeepsTable};
 
 use crate::digested::{ReplyFault, digest_of, message_in};
-use crate::frame::take_all;
 use crate::outcome::{Frames, Outcome, Packet, Packets, Refusal, SiteFault};
 use fleet_cache::Cache;
 use fleet_gossip::pack;
 use fleet_name::Octets;
 use fleet_observe::{Digest, Moment, Observation, observations, relay};
 use fleet_pending::{Entry, Pending, Waiter, settling_gives_its_entry, waiters_stay};
-use fleet_wire::{Message, read_header};
+use fleet_wire::read_header;
 use std::alloc::{AllocError, Allocator};
 
 /// All that a reply makes a site write, before its cache or its table changes.
@@ -80,7 +72,7 @@ fn make_relay<A: Allocator + Copy>(
     ensures { IfOk result (λ r. IsMade digest.now now entry.now r) }
 {
     let packets = relay_packets(alloc, digest, entry.waiters.as_slice())?;
-    let observed = observe(alloc, digest, now)?;
+    let observed = observations(alloc, digest, now)?;
     let frames = Frames::new(pack(alloc, &observed)?);
     Ok(Relay {
         id: entry.id,
@@ -124,33 +116,18 @@ fn relay_of_reply<A: Allocator + Copy>(
     ensures refused { IfErr result (λ e. Unlearns (Replied pending.now now upstream octets.now)
         (IsReplying octets.now) pending.now e) }
 {
-    match message_in(*pending.allocator(), octets) {
-        Ok(message) => relay_of_message(pending, upstream, now, &message),
-        Err(fault) => Err(fault),
-    }
-}
-
-/// All that a reply from an upstream makes a site write, whatever octets it was read of.
-fn relay_of_message<A: Allocator + Copy>(
-    pending: &Pending<A>,
-    upstream: u8,
-    now: Moment,
-    message: &Message<A>,
-) -> Result<Relay<A>, ReplyFault>
-    ensures relayed { (octets : OctetList) → IsAnswering octets → IsReply octets message.now
-        → IfOk result (λ r. IsRelayOf pending.now now upstream octets r) }
-    ensures refused { (octets : OctetList) → IsAnswering octets → IsReply octets message.now
-        → IfErr result (λ e. Unlearns (Replied pending.now now upstream octets)
-        (IsReplying octets) pending.now e) }
-{
     let alloc = *pending.allocator();
+    let message = match message_in(alloc, octets) {
+        Ok(message) => message,
+        Err(fault) => return Err(fault),
+    };
     let id = message.header().id;
     let question = message.question();
     let entry = match pending.find(upstream, id, question) {
         Some(entry) => entry,
         None => return Err(ReplyFault::Refused(Refusal::Unmatched)),
     };
-    let digest = match digest_of(alloc, message) {
+    let digest = match digest_of(alloc, &message) {
         Ok(digest) => digest,
         Err(undigested) => return Err(undigested),
     };
@@ -178,13 +155,13 @@ pub(crate) fn take_reply<A: Allocator + Copy>(
     ensures table { KeepsTable pending.old pending.new }
 {
     match relay_of(pending, upstream, now, octets) {
-        Ok(relay) => carry_out(cache, pending, relay),
+        Ok(relay) => settle_by(cache, pending, relay),
         Err(fault) => refuse(*cache.allocator(), fault),
     }
 }
 
 /// The observations are taken, and the entry is settled.
-fn carry_out<A: Allocator + Copy>(
+fn settle_by<A: Allocator + Copy>(
     cache: &mut Cache<A>,
     pending: &mut Pending<A>,
     relay: Relay<A>,
@@ -219,64 +196,11 @@ fn carry_out<A: Allocator + Copy>(
     }
 }
 
-/// The observations that a reply holds.
-fn read_observations<A: Allocator + Copy>(
-    alloc: A,
-    now: Moment,
-    octets: &[u8],
-) -> Result<Vec<Observation<A>, A>, ReplyFault>
-    ensures learnt { IfOk result (λ v.
-        (o : PendingData) → Learnt o now octets.now (takes v.items o)) }
-    ensures refused { IfErr result (λ e.
-        (o : PendingData) → Unlearns (Learnt o now octets.now) (HasReply octets.now) o e) }
-{
-    let message = match message_in(alloc, octets) {
-        Ok(message) => message,
-        Err(fault) => return Err(fault),
-    };
-    let digest = match digest_of(alloc, &message) {
-        Ok(digest) => digest,
-        Err(undigested) => return Err(undigested),
-    };
-    match observe(alloc, &digest, now) {
-        Ok(observed) => Ok(observed),
-        Err(_) => Err(ReplyFault::NoMemory),
-    }
-}
-
-/// The observations of a digest.
-fn observe<A: Allocator + Copy>(
-    alloc: A,
-    digest: &Digest<A>,
-    now: Moment,
-) -> Result<Vec<Observation<A>, A>, AllocError>
-    ensures { IfOk result (λ v. v.items ≡ reply_observations digest.now now) }
-{
-    observations(alloc, digest, now)
-}
-
-/// Takes the observations of a reply that is handed in.
-pub(crate) fn learn_reply<A: Allocator + Copy>(
-    cache: &mut Cache<A>,
-    now: Moment,
-    octets: &[u8],
-) -> Result<Outcome<A>, SiteFault>
-    ensures learnt { (o : PendingData) (s : Observations)
-        → IsCached s cache.old.floor cache.old.items
-        → DoesOrStops (Learnt o now octets.now) (HasReply octets.now)
-        (record { taken = s; asking = o }) result
-        (record { cache = cache.new; asking = o }) }
-    ensures floor { cache.new.floor ≡ cache.old.floor }
-{
-    let alloc = *cache.allocator();
-    match read_observations(alloc, now, octets) {
-        Ok(observed) => take_all(cache, observed),
-        Err(fault) => refuse(alloc, fault),
-    }
-}
-
 /// A reply that is refused, or that there is no memory for.
-fn refuse<A: Allocator + Copy>(alloc: A, fault: ReplyFault) -> Result<Outcome<A>, SiteFault>
+pub(crate) fn refuse<A: Allocator + Copy>(
+    alloc: A,
+    fault: ReplyFault,
+) -> Result<Outcome<A>, SiteFault>
     ensures { SaysRefusal fault result }
 {
     match fault {
