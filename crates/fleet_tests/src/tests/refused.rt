@@ -64,27 +64,36 @@ struct Part<A: Allocator> {
     world: World<A>,
 }
 
-/// Checks a world after the last of these rows, which ran out of memory after these observations.
-/// The world that it is compared with is kept for the next such row.
+/// A row of an example, and those before it.
+#[derive(Drop)]
+struct Row<'a, A: Allocator> {
+    /// The row.
+    text: &'a str,
+    /// The rows before it.
+    others: &'a [&'a str],
+    /// With which a world was compared when the row last ran out of memory.
+    part: Option<Part<A>>,
+}
+
+/// Checks a world after a row that ran out of memory after these observations. The world that it is
+/// compared with is kept for the next time.
 fn check_part<A: Allocator + Copy>(
     rt: &impl Abort,
     trial: &Trial<'_, A>,
     world: &World<A>,
-    rows: &[&str],
+    row: &mut Row<'_, A>,
     taken: usize,
-    known: &mut Option<Part<A>>,
 ) {
-    let (row, others) = rows.split_last().expect(rt, "a row");
-    if !matches!(&*known, Some(part) if part.taken == taken) {
-        let mut wanted = world_after(rt, trial.ample, trial.sites, others);
-        do_part(rt, trial.ample, &mut wanted, row, taken);
-        *known = Some(Part {
+    if !matches!(&row.part, Some(part) if part.taken == taken) {
+        let mut wanted = world_after(rt, trial.ample, trial.sites, row.others);
+        do_part(rt, trial.ample, &mut wanted, row.text, taken);
+        row.part = Some(Part {
             taken,
             world: wanted,
         });
     }
-    let part = known.as_ref().expect(rt, "a part");
-    check_same(rt, world, &part.world, row)
+    let part = row.part.as_ref().expect(rt, "a part");
+    check_same(rt, world, &part.world, row.text)
 }
 
 /// Checks a world after an event that was done, and whose frames were not kept: it did what the same
@@ -103,27 +112,26 @@ fn check_lost<A: Allocator + Copy>(
     assert!(rt; has_same_sites(world, whole))
 }
 
-/// Checks a world after the last of these rows, an event that was done, and whose frames were not
-/// kept, and does the rows anew, where nothing is refused. It gives `wanted` in `whole`.
-fn check_last_lost<A: Allocator + Copy>(
+/// Checks a world after a row that was done, an event whose frames were not kept, and does the row
+/// with those before it anew, where nothing is refused. It gives `wanted` in `whole`.
+fn check_row_lost<A: Allocator + Copy>(
     rt: &impl Abort,
     trial: &Trial<'_, A>,
-    fleets: (&mut World<A>, &World<A>),
-    rows: &[&str],
+    (world, whole): (&mut World<A>, &World<A>),
+    row: &Row<'_, A>,
     stepped: &Stepped<A>,
     wanted: &Done<A>,
 ) {
-    let (world, whole) = fleets;
-    let (_, others) = rows.split_last().expect(rt, "a row");
-    let before = world_after(rt, trial.ample, trial.sites, others);
+    let before = world_after(rt, trial.ample, trial.sites, row.others);
     match wanted {
         Done::Stepped(wanted) => check_lost(rt, world, &before, whole, stepped, wanted),
         Done::Looked(_) => panic!(rt; "a question has no frames"),
     }
-    *world = world_after(rt, trial.alloc, trial.sites, rows)
+    *world = world_after(rt, trial.alloc, trial.sites, row.others);
+    do_again(rt, trial, world, row.text, wanted)
 }
 
-/// Does the last of these rows again, with ample memory. It does what `wanted` says.
+/// Does a row again, with ample memory. It does what `wanted` says.
 fn do_again<A: Allocator + Copy>(
     rt: &impl Abort,
     trial: &Trial<'_, A>,
@@ -135,94 +143,80 @@ fn do_again<A: Allocator + Copy>(
     assert!(rt; same_done(&again, wanted), "{row}")
 }
 
-/// Checks what became of the last of these rows, and does it again where it ran out of memory: in
-/// the end it did what `wanted` says, as it did in `whole`.
+/// Checks what became of a row in `world`, and does it again where it ran out of memory: in the end
+/// it did what `wanted` says, as it did in `whole`.
 fn check_done<A: Allocator + Copy>(
     rt: &impl Abort,
     trial: &Trial<'_, A>,
-    fleets: (&mut World<A>, &World<A>),
-    rows: &[&str],
-    ends: (&Result<Done<A>, WorldFault<A>>, &Done<A>),
-    known: &mut Option<Part<A>>,
+    (world, whole): (&mut World<A>, &World<A>),
+    row: &mut Row<'_, A>,
+    (done, wanted): (&Result<Done<A>, WorldFault<A>>, &Done<A>),
     met: &mut Met,
 ) {
-    let (world, whole) = fleets;
-    let (done, wanted) = ends;
-    let row = rows.last().expect(rt, "a row");
     match done {
-        Ok(done) => assert!(rt; same_done(done, wanted), "{row}"),
+        Ok(done) => assert!(rt; same_done(done, wanted), "{}", row.text),
         Err(WorldFault::Memory { taken }) => {
             met.short = met.short || *taken == 0;
             met.partly = met.partly || *taken > 0;
-            check_part(rt, trial, world, rows, *taken, known);
-            do_again(rt, trial, world, row, wanted)
+            check_part(rt, trial, world, row, *taken);
+            do_again(rt, trial, world, row.text, wanted)
         }
         Err(WorldFault::FramesLost(stepped)) => {
             met.lost = true;
-            check_last_lost(rt, trial, (world, whole), rows, stepped, wanted)
+            check_row_lost(rt, trial, (world, whole), row, stepped, wanted)
         }
         Err(fault) => panic!(rt; "{fault}"),
     }
 }
 
-/// Does the last of these rows in `whole`, with ample memory, and checks what became of it in `world`,
-/// which in the end is as `whole`.
-fn check_last<A: Allocator + Copy>(
+/// Does a row in `whole`, with ample memory, and checks what became of it in `world`, which in the
+/// end is as `whole`.
+fn check_row<A: Allocator + Copy>(
     rt: &impl Abort,
     trial: &Trial<'_, A>,
-    fleets: (&mut World<A>, &mut World<A>),
-    rows: &[&str],
+    (world, whole): (&mut World<A>, &mut World<A>),
+    row: &mut Row<'_, A>,
     done: &Result<Done<A>, WorldFault<A>>,
-    known: &mut Option<Part<A>>,
     met: &mut Met,
 ) {
-    let (world, whole) = fleets;
-    let row = rows.last().expect(rt, "a row");
-    let wanted = do_row(rt, trial.ample, whole, row).expect(rt, "a row");
-    let ends = (done, &wanted);
-    check_done(rt, trial, (&mut *world, &*whole), rows, ends, known, met);
-    check_same(rt, world, whole, row)
+    let wanted = do_row(rt, trial.ample, whole, row.text).expect(rt, "a row");
+    check_done(rt, trial, (&mut *world, &*whole), row, (done, &wanted), met);
+    check_same(rt, world, whole, row.text)
 }
 
-/// Does the last of these rows with the call of this number refused, where it makes as many, and
-/// says whether it does. Behind it the world is as `whole`, which did it with ample memory.
-fn run_last<A: Allocator + Copy>(
+/// Does a row in `world` with the call of this number refused, where it makes as many, and says
+/// whether it does. Behind it the world is as `whole`, which did it with ample memory.
+fn run_row<A: Allocator + Copy>(
     rt: &impl Abort,
     trial: &Trial<'_, A>,
-    fleets: (&mut World<A>, &mut World<A>),
-    rows: &[&str],
+    (world, whole): (&mut World<A>, &mut World<A>),
+    row: &mut Row<'_, A>,
     call: u64,
-    known: &mut Option<Part<A>>,
     met: &mut Met,
 ) -> bool {
-    let (world, whole) = fleets;
-    let row = rows.last().expect(rt, "a row");
     trial.refusing.refuse(call);
-    let done = do_row(rt, trial.ample, world, row);
+    let done = do_row(rt, trial.ample, world, row.text);
     let has_refused = trial.refusing.has_refused();
-    assert_eq!(rt; done.is_ok(), !has_refused, "{row}");
-    check_last(rt, trial, (world, whole), rows, &done, known, met);
+    assert_eq!(rt; done.is_ok(), !has_refused, "{}", row.text);
+    check_row(rt, trial, (world, whole), row, &done, met);
     has_refused
 }
 
 /// Does rows with the call of this number refused at each, where it makes as many, and says whether
-/// there was one. For each row, what it is compared with is in `parts`.
+/// there was one.
 fn run_rows<A: Allocator + Copy>(
     rt: &impl Abort,
     trial: &Trial<'_, A>,
-    rows: &[&str],
+    rows: &mut [Row<'_, A>],
     call: u64,
-    parts: &mut [Option<Part<A>>],
     met: &mut Met,
 ) -> bool {
     trial.refusing.refuse(call);
     let mut world = begin_refused(rt, trial);
     let mut whole = fleet(rt, trial.ample, trial.sites, &[]);
     let mut has_refused = trial.refusing.has_refused();
-    for place in 0..rows.len() {
-        let known = parts.get_mut(place).expect(rt, "a row");
-        let fleets = (&mut world, &mut whole);
-        let refused = run_last(rt, trial, fleets, &rows[..=place], call, known, met);
+    for row in rows.iter_mut() {
+        let refused = run_row(rt, trial, (&mut world, &mut whole), row, call, met);
         has_refused = has_refused || refused;
     }
     has_refused
@@ -233,15 +227,20 @@ fn run_rows<A: Allocator + Copy>(
 fn refuse_rows<A: Allocator + Copy>(
     rt: &impl Abort,
     trial: &Trial<'_, A>,
-    rows: &[&str],
+    texts: &[&str],
     met: &mut Met,
 ) {
-    let mut parts = Vec::new(trial.ample);
-    for _ in rows {
-        parts.push(None).expect(rt, "memory");
+    let mut rows = Vec::new(trial.ample);
+    for place in 0..texts.len() {
+        let row = Row {
+            text: texts[place],
+            others: &texts[..place],
+            part: None,
+        };
+        rows.push(row).expect(rt, "memory");
     }
     for call in 1..MANY {
-        if !run_rows(rt, trial, rows, call, &mut parts, met) {
+        if !run_rows(rt, trial, &mut rows, call, met) {
             return;
         }
     }

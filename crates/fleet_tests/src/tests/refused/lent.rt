@@ -59,7 +59,9 @@ fn look_at<A: Allocator + Copy>(
         Answer::NoData { chain, soa } | Answer::NxDomain { chain, soa } => {
             add_links(rt, &mut outline, chain.as_slice());
             let (owner, rdata) = soa.observation.soa().expect(rt, "an SOA");
-            outline.authority(owner, SOA, soa.ttl, rdata).expect(rt, "memory");
+            outline
+                .authority(owner, SOA, soa.ttl, rdata)
+                .expect(rt, "memory");
         }
         Answer::Miss => return Looked::Miss,
     }

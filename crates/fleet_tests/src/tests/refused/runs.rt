@@ -10,6 +10,17 @@ use fleet_world::{Event, Halted, Stepped, World, WorldFault};
 use std::alloc::{Allocator, Global};
 use std::process::Abort;
 
+/// What rows did that ran as events, with ample memory.
+#[derive(Clone, Copy)]
+struct Whole<'a, A: Allocator> {
+    /// The rows.
+    rows: &'a [&'a str],
+    /// What each of them did.
+    did: &'a [Stepped<A>],
+    /// The world that did them.
+    world: &'a World<A>,
+}
+
 /// The rows that are events, and no questions.
 fn steps_of<'a>(rt: &impl Abort, alloc: Global, rows: &[&'a str]) -> Vec<&'a str> {
     let mut steps = Vec::new(alloc);
@@ -78,51 +89,48 @@ fn run_left<A: Allocator + Copy>(
 }
 
 /// Checks a world whose run was halted, and runs the events that are left, but where frames were not
-/// kept: then what the event did is compared. With ample memory, `whole` did `did`.
+/// kept: then what the event did is compared.
 fn go_on<A: Allocator + Copy>(
     rt: &impl Abort,
     trial: &Trial<'_, A>,
     world: &mut World<A>,
-    steps: &[&str],
-    whole: &World<A>,
-    did: &[Stepped<A>],
+    whole: &Whole<'_, A>,
     halted: &Halted<A>,
 ) {
-    let (done, left) = steps.split_at_checked(halted.at).expect(rt, "a row");
-    let (_, wanted) = did.split_at_checked(halted.at).expect(rt, "a row");
+    let (done, left) = whole.rows.split_at_checked(halted.at).expect(rt, "a row");
+    let (_, wanted) = whole.did.split_at_checked(halted.at).expect(rt, "a row");
     match &halted.fault {
         WorldFault::Memory { taken } => {
             check_short(rt, trial, world, done, left, *taken);
             run_left(rt, trial, world, left, wanted);
-            check_same(rt, world, whole, "all rows")
+            check_same(rt, world, whole.world, "all rows")
         }
         WorldFault::FramesLost(stepped) => {
             let count = halted.at.saturating_add(1);
-            let (to, _) = steps.split_at_checked(count).expect(rt, "a row");
+            let (to, _) = whole.rows.split_at_checked(count).expect(rt, "a row");
             check_frames_lost(rt, trial, world, (done, to), stepped, wanted)
         }
         fault => panic!(rt; "{fault}"),
     }
 }
 
-/// Runs these events at once, as they ran in `whole`, which did `did` with ample memory.
+/// Runs these events at once, as they ran with ample memory.
 fn run_beside<A: Allocator + Copy>(
     rt: &impl Abort,
     trial: &Trial<'_, A>,
     world: &mut World<A>,
-    (steps, events): (&[&str], &[Event<A>]),
-    whole: &World<A>,
-    did: &[Stepped<A>],
+    events: &[Event<A>],
+    whole: &Whole<'_, A>,
 ) {
     let had_refused = trial.refusing.has_refused();
     let ran = world.run(events);
     assert_eq!(rt; ran.is_ok(), trial.refusing.has_refused() == had_refused);
     match &ran {
         Ok(all) => {
-            check_all(rt, all, did);
-            check_same(rt, world, whole, "all rows")
+            check_all(rt, all, whole.did);
+            check_same(rt, world, whole.world, "all rows")
         }
-        Err(halted) => go_on(rt, trial, world, steps, whole, did, halted),
+        Err(halted) => go_on(rt, trial, world, whole, halted),
     }
 }
 
@@ -131,18 +139,24 @@ fn run_events<A: Allocator + Copy>(
     rt: &impl Abort,
     trial: &Trial<'_, A>,
     world: &mut World<A>,
-    steps: (&[&str], &[Event<A>]),
+    rows: &[&str],
+    events: &[Event<A>],
 ) {
-    let mut whole = fleet(rt, trial.ample, trial.sites, &[]);
-    let did = whole.run(steps.1).expect(rt, "a run");
-    run_beside(rt, trial, world, steps, &whole, &did)
+    let mut ample = fleet(rt, trial.ample, trial.sites, &[]);
+    let did = ample.run(events).expect(rt, "a run");
+    let whole = Whole {
+        rows,
+        did: &did,
+        world: &ample,
+    };
+    run_beside(rt, trial, world, events, &whole)
 }
 
 /// Makes the sites of an example, and runs its events at once, as they run with ample memory.
 fn run_steps<A: Allocator + Copy>(rt: &impl Abort, trial: &Trial<'_, A>, steps: &[&str]) {
     let mut world = begin_refused(rt, trial);
     let events = events_of(rt, trial.ample, steps);
-    run_events(rt, trial, &mut world, (steps, &events))
+    run_events(rt, trial, &mut world, steps, &events)
 }
 
 /// Runs the events of rows at once with a call refused, and says whether that call was made.
