@@ -10,10 +10,7 @@ use fleet_site::{Frames, Looked, Outcome, Packets, SiteFault};
 use std::alloc::Allocator;
 
 /// Frames are sent, a number of observations was taken, and that is all.
-pub(crate) fn outcome_of<A: Allocator + Copy>(
-    frames: Vec<Octets<A>, A>,
-    taken: usize,
-) -> Outcome<A>
+pub(crate) fn outcome_of<A: Allocator + Copy>(frames: Vec<Octets<A>, A>, taken: usize) -> Outcome<A>
     ensures { result ≡ record nothing { frames = frames.items; taken = taken } }
 {
     Outcome {

@@ -124,10 +124,7 @@ fn insertion_index<A: Allocator>(rdatas: &[Octets<A>], rdata: &[u8]) -> usize
 }
 
 /// Inserts an RDATA at its place, unless it is there already. `Err` where an allocation fails.
-fn add<A: Allocator + Copy>(
-    rdatas: &mut Vec<Octets<A>, A>,
-    rdata: &[u8],
-) -> Result<(), AllocError>
+fn add<A: Allocator + Copy>(rdatas: &mut Vec<Octets<A>, A>, rdata: &[u8]) -> Result<(), AllocError>
     requires { IsAscending rdatas.old.items }
     ensures ascending { OnOk result (IsAscending rdatas.new.items) }
     ensures members { OnOk result ((d : OctetList)

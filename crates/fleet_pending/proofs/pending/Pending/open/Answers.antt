@@ -19,14 +19,14 @@ pub invariant_of-self : goal.invariant_of-self
 invariant_of-self g c =
     let free = subst (λ (o : PendingData). IsFirstFree c.args.word o.entries c.args.id)
     (sym c.self.view_is) c.requires.2 in (
-  asks_keeps _ _ _ _ _ _ (subst IsPendingData c.self.view_is c.self.invariant.0)
-      (returns-clause-asks g c),
-  soonest_opened c.self.inside.soonest c.min-self-inside.result c.args.now c.args.word
-      c.self.inside.entries.items c.enter.new.entries.items _ (ask_result c.enter.result)
-      c.self.invariant.1 (omega (arith, c.min-self-inside.ensures))
-      (omega (arith, c.min-self-inside.ensures, c.value.ensures.value))
-      (c.enter.ensures.opens c.args.word free),
-)
+      asks_keeps _ _ _ _ _ _ (subst IsPendingData c.self.view_is c.self.invariant.0)
+          (returns-clause-asks g c),
+      soonest_opened c.self.inside.soonest c.min-self-inside.result c.args.now c.args.word
+          c.self.inside.entries.items c.enter.new.entries.items _ (ask_result c.enter.result)
+          c.self.invariant.1 (omega (arith, c.min-self-inside.ensures))
+          (omega (arith, c.min-self-inside.ensures, c.value.ensures.value))
+          (c.enter.ensures.opens c.args.word free),
+    )
 
 pub returns-clause-unchanged : goal.returns-clause-unchanged
 returns-clause-unchanged g c =
