@@ -1,7 +1,7 @@
 -- An entry of a frame: one observation. All numbers are big-endian, all names in lower case and in
 -- full.
 -- Serves `encode`, `decode`, `take_frame`, `pack`, `sweep`, and every law of frames.
-use Rattle.std.specs.Prelude.{◌≡◌, ℕ, ◌/◌, ◌%◌, ◌≤◌, List, [], ◌∷◌, ◌++◌, length}
+use Rattle.std.specs.Prelude.{◌≡◌, ℕ, ◌/◌, ◌%◌, ◌≤◌, List, [], ◌∷◌, ◌++◌}
 use Rattle.fleet_name.specs.Types.{Labels, OctetList}
 use Rattle.fleet_wire.specs.Types.{RType, Seconds}
 use Rattle.fleet_name.specs.Name.{wire}

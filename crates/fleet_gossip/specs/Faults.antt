@@ -3,7 +3,7 @@
 -- Serves `encode`, `decode`, `take_frame`, the laws `one_fault`, `list_or_fault`.
 use Rattle.std.specs.Prelude.{◌≡◌, ℕ, ◌+◌, ◌<◌, ◌≤◌, ◌⊎◌, List, [], ◌∷◌, ◌++◌, length}
 use Rattle.std.specs.List.{flat_map}
-use Rattle.fleet_name.specs.Types.{Label, Labels, OctetList}
+use Rattle.fleet_name.specs.Types.{Labels, OctetList}
 use Rattle.fleet_wire.specs.Types.{RType}
 use Rattle.fleet_name.specs.Name.{label_octets, wire, IsLower, IsName, IsUnder}
 use Rattle.fleet_name.specs.declared.bounds.TheConstants.{LONGEST_LABEL, LONGEST_NAME}

@@ -1,6 +1,6 @@
 //! What a reply means: its digest, the observations that it makes, and how it is relayed.
 
-ghost use Rattle.std.specs.Prelude.{◌≡◌, ◌↔◌, ℕ, ◌⊎◌, IsTrue, MatchResult};
+ghost use Rattle.std.specs.Prelude.{◌↔◌, ℕ, IsTrue, MatchResult};
 ghost use Rattle.fleet_wire.specs.declared.rcode.TheConstants.{NAME_ERROR, NO_ERROR};
 ghost use Rattle.fleet_observe.specs.DigestOf.{IsServed, IsFault, IsDigest, IsWalkCode};
 

@@ -4,7 +4,7 @@ ghost use Rattle.std.specs.Prelude.{◌≡◌, ◌≤◌, ◌⊎◌, ◌↔◌, 
 ghost use Rattle.fleet_name.specs.Types.{OctetList};
 ghost use Rattle.fleet_name.specs.Name.{labels_of};
 ghost use Rattle.fleet_observe.specs.Members.{Has, IsAscending};
-ghost use Rattle.fleet_observe.specs.RrSet.{SpellsName, IsOfRrSet, InSet, IsTtl, IsRrSet, read_ttl, rrset_of_lent, count_below, HasSet};
+ghost use Rattle.fleet_observe.specs.RrSet.{SpellsName, IsOfRrSet, IsTtl, IsRrSet, read_ttl, rrset_of_lent, count_below, HasSet};
 
 use crate::bounds::LONGEST_LIFE;
 use crate::items::Items;
