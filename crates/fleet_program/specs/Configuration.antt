@@ -9,12 +9,13 @@ use Rattle.toml.specs.Parse.{parse_document}
 use Rattle.fleet_pending.specs.declared.addr.Addr.{Addr}
 use Rattle.fleet_site.specs.Config.{ConfigFails}
 use Rattle.fleet_site.specs.declared.config.ConfigFault.{ConfigFault}
+use Rattle.fleet_site.specs.declared.config.ConfigFault.TheVariants as pair
 use Rattle.fleet_program.specs.Words.{SpellsAddress}
 use Rattle.fleet_program.specs.declared.fleet.TheConstants.{LOOPBACK}
 use Rattle.fleet_program.specs.declared.settings.TheConstants.{LONGEST_CONFIGURATION, USUAL_SWEEP, LONGEST_SWEEP}
 use Rattle.fleet_program.specs.declared.settings.Settings.{Settings}
 use Rattle.fleet_program.specs.declared.settings.SettingsFault.{SettingsFault}
-use Rattle.fleet_program.specs.declared.settings.SettingsFault.TheVariants.{TooLong, NotToml, UnknownKey, MissingKey, WrongKind, BadAddress, NotLoopback, BadSweep, Config, OutOfMemory}
+use Rattle.fleet_program.specs.declared.settings.SettingsFault.TheVariants.{TooLong, NotToml, UnknownKey, MissingKey, WrongKind, BadAddress, NotLoopback, BadSweep, NoUpstream, TooManyUpstreams, TooManyPeers, AddressTwice, OutOfMemory}
 
 -- what a value is read as: what it says, or what is wrong with it
 abbrev pub Reading : Type 0 → Type 0
@@ -105,6 +106,13 @@ abbrev pub ReadsSweep : Option Data → Reading ℕ → Type 0
 ReadsSweep None reading = reading ≡ Ok USUAL_SWEEP
 ReadsSweep (Some value) reading = ReadsNumber (as_integer value) reading
 
+-- the fault of a configuration for that of its upstreams and peers together
+abbrev pub fault_of : ConfigFault → SettingsFault
+fault_of pair.NoUpstream = NoUpstream
+fault_of pair.TooManyUpstreams = TooManyUpstreams
+fault_of pair.TooManyPeers = TooManyPeers
+fault_of pair.SameAddress = AddressTwice
+
 -- the value of the key `listen`, if the table has it
 abbrev pub listen_in : Members → Option Data
 listen_in table = get_member (codes "listen") table
@@ -156,7 +164,7 @@ pub data FirstFault (table : Members) (fault : SettingsFault) : Type 0 where
   of_sweep : PeersAreRead table → ReadsSweep (sweep_in table) (Err fault) → FirstFault table fault
   together : (listen : Addr) → (upstreams peers : List Addr)
       → (sweep : Seconds) → TableSays table listen upstreams peers sweep
-      → (why : ConfigFault) → ConfigFails upstreams peers why → fault ≡ Config why
+      → (why : ConfigFault) → ConfigFails upstreams peers why → fault ≡ fault_of why
       → FirstFault table fault
 
 -- what a table is read as: settings, or its first fault

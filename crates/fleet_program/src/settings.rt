@@ -3,7 +3,7 @@
 ghost use Rattle.std.specs.Prelude.{◌↔◌, IsTrue, Ok, option_map};
 ghost use Rattle.toml.specs.Data.{as_array};
 ghost use Rattle.toml.specs.View.{view, table_view, items_view};
-ghost use Rattle.fleet_program.specs.Configuration.{ReadsSettings, ReadsTable, HasKeys, IsKey, ReadsListen, ReadsUpstreams, ReadsPeers, ReadsSweep, ReadsAddress, ReadsItems, ReadsTexts, AreTexts, vec_read};
+ghost use Rattle.fleet_program.specs.Configuration.{ReadsSettings, ReadsTable, HasKeys, IsKey, fault_of, ReadsListen, ReadsUpstreams, ReadsPeers, ReadsSweep, ReadsAddress, ReadsItems, ReadsTexts, AreTexts, vec_read};
 
 use crate::fleet::LOOPBACK;
 use crate::words::address;
@@ -49,9 +49,18 @@ pub enum SettingsFault {
     /// `sweep` is below 0 or over 3600.
     #[error("bad sweep")]
     BadSweep,
-    /// The upstreams and the peers together make no configuration of a site.
-    #[error("{0}")]
-    Config(ConfigFault),
+    /// There is no upstream.
+    #[error("no upstream")]
+    NoUpstream,
+    /// There are more than 4 upstreams.
+    #[error("too many upstreams")]
+    TooManyUpstreams,
+    /// There are more than 16 peers.
+    #[error("too many peers")]
+    TooManyPeers,
+    /// An address appears twice among the upstreams and the peers.
+    #[error("address twice")]
+    AddressTwice,
     /// An allocation failed.
     #[error("out of memory")]
     OutOfMemory,
@@ -115,7 +124,7 @@ fn settings_of(alloc: Global, table: &Table) -> Result<Settings, SettingsFault>
             config,
             sweep,
         }),
-        Err(fault) => Err(SettingsFault::Config(fault)),
+        Err(fault) => Err(config_fault(fault)),
     }
 }
 
@@ -136,6 +145,18 @@ fn is_known(key: &str) -> bool
     ensures { IsTrue result ↔ IsKey key.now }
 {
     key == "listen" || key == "upstreams" || key == "peers" || key == "sweep"
+}
+
+/// The fault of upstreams and peers.
+fn config_fault(fault: ConfigFault) -> SettingsFault
+    ensures { result ≡ fault_of fault }
+{
+    match fault {
+        ConfigFault::NoUpstream => SettingsFault::NoUpstream,
+        ConfigFault::TooManyUpstreams => SettingsFault::TooManyUpstreams,
+        ConfigFault::TooManyPeers => SettingsFault::TooManyPeers,
+        ConfigFault::SameAddress => SettingsFault::AddressTwice,
+    }
 }
 
 /// Where a site listens.

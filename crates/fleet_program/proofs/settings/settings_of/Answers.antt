@@ -105,4 +105,4 @@ returns-in-Err-new c =
       in_sweep = sweep_at c.args.table.now.entries (Ok c.in-Ok-sweep_of.sweep) c.get-4.result
           c.get-4.ensures.value c.in-Ok-sweep_of.ensures;
     })
-    c.in-Err-new.fault c.in-Err-new.ensures.value refl
+    c.in-Err-new.fault c.in-Err-new.ensures.value c.config_fault.ensures
