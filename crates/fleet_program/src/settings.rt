@@ -1,6 +1,6 @@
 //! What the configuration of a server says.
 
-ghost use Rattle.std.specs.Prelude.{◌↔◌, IsTrue, Ok, option_map};
+ghost use Rattle.std.specs.Prelude.{◌≡◌, ◌↔◌, IsTrue, Ok, option_map};
 ghost use Rattle.toml.specs.Data.{as_array};
 ghost use Rattle.toml.specs.View.{view, table_view, items_view};
 ghost use Rattle.fleet_program.specs.Configuration.{ReadsSettings, ReadsTable, HasKeys, IsKey, fault_of, ReadsListen, ReadsUpstreams, ReadsPeers, ReadsSweep, ReadsAddress, ReadsItems, ReadsTexts, AreTexts, vec_read};
