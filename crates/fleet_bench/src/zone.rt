@@ -53,7 +53,7 @@ enum Shape {
     Addresses(u8),
     /// So many addresses of sixteen octets.
     LongAddresses(u8),
-    /// So many aliases, one behind the other, and an address.
+    /// So many aliases, one after the other, and an address.
     Aliases(u8),
     /// Two mail servers.
     Mail,
@@ -223,7 +223,7 @@ impl Zone {
         Ok(())
     }
 
-    /// Adds aliases, one behind the other, and the address of the last.
+    /// Adds aliases, one after the other, and the address of the last.
     fn push_aliases(self, message: &mut Vec<u8>, number: u32, count: u8) -> Result<(), AllocError> {
         let mut owner = QUESTION;
         let syllables = if self.is_long(number / 3) { 9 } else { 4 };

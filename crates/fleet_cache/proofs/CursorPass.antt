@@ -271,7 +271,7 @@ module _ (items : List ObservationData) (from : List ℕ) (IsSuch : ObservationD
     looked = omega arith;
   }
 
-  -- behind the short ones come the others
+  -- after the short ones come the others
   pub looks_further : {K : Type 0} (words : K → List ℕ) (es : List (ShortKey × List ObservationData))
       (rs : List (K × List ObservationData)) (left rest : ℕ)
       → HasLooked short_words 0 items from IsShort IsNearShort left rest es

@@ -24,7 +24,7 @@ record Ranked (s : List ObservationData) : Type 0 where
   pub from : (z : ObservationData) → Has items z → Has s z
   pub to : (z : ObservationData) → Has s z → Has items z
 
--- behind the first
+-- after the first
 ranked_behind : (x y : ObservationData) (items : List ObservationData) → item_order y x ≡ Greater
     → IsDescending item_order (y ∷ items) → Ranked (x ∷ items) → Ranked (x ∷ y ∷ items)
 ranked_behind x y items over down rest = record {

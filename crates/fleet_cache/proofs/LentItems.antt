@@ -44,7 +44,7 @@ pub has_from : (xs : List ObservationData) (i : ℕ) (x z : ObservationData) →
     → x ≡ get_or xs i x → Has (drop i xs) z → (x ≡ z) ⊎ Has (drop (i + 1) xs) z
 has_from xs i x z h e has = subst (λ (v : List ObservationData). Has v z) (split_at xs i x h e) has
 
--- none is behind the last one
+-- none is after the last one
 pub none_behind : (xs : List ObservationData) (i : ℕ) (z : ObservationData) → length xs ≤ i
     → Has (drop i xs) z → ⊥
 none_behind xs i z past has =

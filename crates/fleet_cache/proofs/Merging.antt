@@ -136,7 +136,7 @@ abbrev pub AreApart : List ObservationData → List ObservationData → Type 0
 AreApart xs ys = (x : ObservationData) → Has xs x → (y : ObservationData) → Has ys y
     → words_of x ≡ words_of y → ⊥
 
--- what is not before a name that is another is behind it
+-- what is not before a name that is another is after it
 behind : (x y : ObservationData) → (x.name ≡ y.name → ⊥) → is_before x y ≡ false
     → name_cmp x.name y.name ≡ Greater
 behind x y apart e = elim (ordering_cases (name_cmp x.name y.name)) [

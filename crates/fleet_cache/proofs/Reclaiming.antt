@@ -181,7 +181,7 @@ module _ {K : Type 0} (octets : K → List ℕ) (words : List ℕ) (cut : CutDat
     ascending = ascends es new t laid.ascending;
   }
 
-  -- lists one behind the other
+  -- lists one after the other
   both_thinned : (lives : ObservationData → Bool) (a b c d : List ObservationData)
       → IsThinned lives a b → IsThinned lives c d → IsThinned lives (a ++ c) (b ++ d)
   both_thinned lives a b c d s t = record {

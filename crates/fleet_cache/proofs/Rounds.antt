@@ -209,7 +209,7 @@ unended_within soonest passed at items rest in_items u = record {
 }
 
 module _ (items new : List ObservationData) (x : ObservationData) where
-  -- one more at most is counted behind a take
+  -- one more at most is counted after a take
   pub taken_more : (kept : Bool) → IsTaken items new x kept → (p : ObservationData → Bool)
       → count p new ≤ count p items + 1
   taken_more kept t p =
@@ -365,7 +365,7 @@ module _ (floor : ℕ) (items new : List ObservationData) (at to : List ℕ) (wa
       subst (λ w. IsBounded most begun floor new w 0) (sym none)
       (round_begins most begun floor new 0 few (omega (arith, over, enough)) (omega arith))
 
--- a step behind others
+-- a step after others
 pub reclaimed_on : (m : ℕ) (first items new : List ObservationData) → IsReclaimed m first items
     → IsReclaimed m items new → IsReclaimed m first new
 reclaimed_on m first items new a b = record {
@@ -413,7 +413,7 @@ bounded_step m n most begun enough (inr (inr none)) few bounded = (
   λ e. inr (subst (λ v. 3 * length v.items ≤ 3 * most + begun + 34) (sym none) (omega arith)),
 )
 
--- behind each call of a list
+-- after each call of a list
 bounded_behind : (m : MemoryData) (ns : List MemoryData) (most begun : ℕ) → 3 * most + 34 ≤ 2 * begun
     → AreBehindCalls m ns
     → ((n : MemoryData) → Has ns n → count (lasts n.floor) n.items ≤ most)

@@ -11,8 +11,8 @@ use Rattle.fleet_observe.specs.Observation.{ObservationData, Observations}
 use Rattle.fleet_cache.specs.Relevant.{is_under}
 
 -- f withdraws o: f is a flush of the name of o or of one above it, o is no flush, and o was stamped no
--- later than f. Whether f has ended is not asked: a flush has the longest life, a day (`LONGEST_LIFE`), so
--- what it withdraws ends no later
+-- later than f. Whether f has ended is not asked: a flush has the longest life, a day
+-- (`LONGEST_LIFE`), so what it withdraws ends no later
 pub record Voids (f o : ObservationData) : Type 0 where
   pub flush : f.kind ≡ Flush
   pub other : o.kind ≢ Flush

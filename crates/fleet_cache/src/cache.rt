@@ -38,8 +38,9 @@ pub struct Stopped {
 /// others.
 ///
 /// What is in memory may have ended by the floor, or be withdrawn by a flush that is held. A purge that
-/// raises the floor drops some of it, and so does each observation that is kept. Public contracts speak of what is held,
-/// and not of this: the contracts of `Memory` and the laws `memory_follows` and `memory_falls` do.
+/// raises the floor drops some of it, and so does each observation that is kept. Public contracts
+/// speak of what is held, and not of this: the contracts of `Memory` and the laws `memory_follows`
+/// and `memory_falls` do.
 ///
 /// `most` counts the observations that were given to the maps since these were empty, kept or not. No
 /// more are held, so they can be counted: at the greatest number, which no machine reaches, nothing
@@ -91,8 +92,8 @@ impl<A: Allocator> Cache<A> {
     /// exactly where the observation had ended at the floor, is withdrawn by a flush, was there already
     /// or is dominated: then nothing changes. Else what it dominates goes. A flush withdraws what lies
     /// at its name or below and is stamped no later than the flush, whether that came before it or comes
-    /// after; this is hidden at once, and leaves the memory later. After an observation that is kept, some of what has
-    /// ended by the floor leaves the memory too.
+    /// after; this is hidden at once, and leaves the memory later. After an observation that is kept,
+    /// some of what has ended by the floor leaves the memory too.
     ///
     /// Memory is allocated only for an observation that is to be held. `Err` where the allocation
     /// fails, and nothing changes.
@@ -158,9 +159,9 @@ impl<A: Allocator> Cache<A> {
         is_past_lent(self.memory.held(), lent, self.memory.floor())
     }
 
-    /// Whether what is lent is in memory, so that it need not be taken in. It is `true` for each item, and
-    /// for what has ended at the floor or is withdrawn and has not left the memory. It is compared in place,
-    /// and nothing is allocated.
+    /// Whether what is lent is in memory, so that it need not be taken in. It is `true` for each item,
+    /// and for what has ended at the floor or is withdrawn and has not left the memory. It is compared
+    /// in place, and nothing is allocated.
     pub fn holds(&self, lent: &LentObservation<'_>) -> bool
         requires { IsWire lent.now.name.now }
         ensures needless { (o : ObservationData) → IsLent lent.now o → IsTrue result

@@ -1,4 +1,5 @@
-//! Dropping what has ended, after what is taken in: so the memory follows what has not ended, at any rate.
+//! Dropping what has ended, after what is taken in: so the memory follows what has not ended, at
+//! any rate.
 
 ghost use Rattle.std.specs.Prelude.{◌≡◌, ◌<◌, ◌≤◌, ◌+◌, ◌-◌, ◌*◌, ◌⊎◌, ℕ, [], vec_capacity, min, IfOk, OnOk, OnErr};
 ghost use Rattle.fleet_observe.specs.Observation.{Observations};

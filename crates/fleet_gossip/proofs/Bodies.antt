@@ -47,7 +47,7 @@ pub sized_exact : (a b r s : List ℕ) → octets_with_length a ++ r ≡ octets_
 sized_exact a b r s e =
     let h = u16_exact (length a) (length b) (a ++ r) (b ++ s) e in split_same a b r s h.0 h.1
 
--- RDATA behind its length
+-- RDATA after its length
 module _ (Lawful : List ℕ → Type 0) where
   pub sized_or_fault : (d rest octets : List ℕ) (f : FrameFault) → Lawful d
       → octets ≡ octets_with_length d ++ rest → SizedFails Lawful octets f → ⊥

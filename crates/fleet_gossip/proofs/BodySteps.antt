@@ -150,7 +150,7 @@ positive_found rtype count long octets middle rest is counted first =
       counted = first.size;
     }
 
--- the SOA of a negative body, behind its owner
+-- the SOA of a negative body, after its owner
 module _ (name : List (List ℕ)) (octets part left : List ℕ)
     (at : IsPart (IsOwnerOf name) octets part left) where
   owner_lies : octets ≡ wire at.lawful.owner ++ left

@@ -19,7 +19,7 @@ use Rattle.fleet_gossip.proofs.Entries.{entry_of, entry_or_fault, entry_exact}
 use Rattle.fleet_gossip.proofs.Frames.{all_pushed}
 use Rattle.fleet_gossip.proofs.Packing.{entries_push}
 
--- Behind a first number of two octets.
+-- After a first number of two octets.
 module _ (octets left : List ℕ) (n : ℕ) (is : octets ≡ u16_octets n ++ left) where
   pub bad_magic : (n ≡ MAGIC → ⊥) → FrameFieldsFail octets BadMagic
   bad_magic unlike = refused n left is unlike refl
@@ -76,7 +76,7 @@ entry_fault octets left version at count list f are few h = entry_fails list lef
     are.lawful
     (omega (arith, are.counted, few)) h
 
--- behind the last entry
+-- after the last entry
 module _ (octets left : List ℕ) (version at : ℕ) (list : List ObservationData)
     (are : BeginsWithEntries octets version at list left) (count : ℕ) (all : at ≡ count) where
   some_of : (xs : List ℕ) → (xs ≡ [] → ⊥) → 0 < length xs

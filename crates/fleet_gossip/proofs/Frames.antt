@@ -129,7 +129,7 @@ pub one_spelling : (list : List ObservationData) (a b : List ℕ) (x : SpellsFra
 one_spelling list a b x y e =
     x.spelled ∙ (ap (λ (v : ℕ). frame_octets v list) e ∙ sym y.spelled)
 
--- The lines of `FrameFieldsFail` behind the first.
+-- The lines of `FrameFieldsFail` after the first.
 abbrev CountFails : ℕ → List ℕ → FrameFault → Type 0
 CountFails version = FieldFails u16_octets 2 AnyNumber Truncated (EntriesFail version)
 

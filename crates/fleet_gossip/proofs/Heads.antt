@@ -1,4 +1,4 @@
--- What fails behind the first numbers of an entry.
+-- What fails after the first numbers of an entry.
 -- Serves `read_entry`, `read_head`, `known_negative_size`, `known_positive_size`,
 -- `read_known_entry`, `to_made`.
 use Rattle.std.proofs.Common.{◌≡◌, ℕ, List, ◌++◌, refl, sym, ap, ◌∙◌, Bor}

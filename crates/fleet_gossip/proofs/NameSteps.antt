@@ -14,7 +14,7 @@ use Rattle.fleet_gossip.specs.declared.fault.FrameFault.{FrameFault}
 use Rattle.fleet_name.proofs.Lemmas.{named_push}
 use Rattle.fleet_gossip.proofs.Names.{wire-append}
 
--- Behind the length octet of a label.
+-- After the length octet of a label.
 module _ (refusal : FrameFault) (before : List (List ℕ)) (octets left : List ℕ) (size count : ℕ)
     (is : octets ≡ size ∷ left) (same : count ≡ size) (some : count ≡ 0 → ⊥) where
   pub label_long : (LONGEST_LABEL < count) ⊎ (LONGEST_NAME < length (wire before) + count + 1)

@@ -1,4 +1,4 @@
--- Names in full determine their labels, whatever follows them, and have unlike fault.
+-- Names in full determine their labels, whatever follows them, and have no fault.
 -- Serves what `Bodies`, `Entries`, `Making`, `NameSteps`, `Passing` serve.
 use Rattle.std.proofs.Common.{◌≡◌, ℕ, List, [], ◌∷◌, ◌++◌, length, refl, sym, ap, ◌∙◌, subst, arith, length-append, append_assoc}
 use Rattle.std.proofs.lemmas.Grind.{flat_map-append}
@@ -49,7 +49,7 @@ label_exact : (before : List (List ℕ)) (x y r s : List ℕ) → IsName (before
     → IsName (before ++ y ∷ []) → label_octets x ++ r ≡ label_octets y ++ s → (x ≡ y) × (r ≡ s)
 label_exact before x y r s l l' e = frame_exact x y r s e
 
--- a label of a name has room behind the others, and is in lower case
+-- a label of a name has room after the others, and is in lower case
 pub label_room : (before : List (List ℕ)) (label : List ℕ) → IsName (before ++ label ∷ [])
     → IsRoom before (length label)
 label_room before label named =

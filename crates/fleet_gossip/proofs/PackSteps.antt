@@ -16,7 +16,7 @@ use Rattle.fleet_gossip.specs.declared.bounds.TheConstants.{LONGEST_ENTRY, LONGE
 use Rattle.fleet_gossip.proofs.Frames.{all_pushed, are_written}
 use Rattle.fleet_gossip.proofs.Packing.{entries_push, frame_push, frame_length}
 
--- kind, rank, stamp and life, one behind the other
+-- kind, rank, stamp and life, one after the other
 pub head_written : (out a b d new : List ℕ) {k kind r rank s stamp l life : ℕ} → k ≡ kind → r ≡ rank
     → s ≡ stamp → l ≡ life → a ≡ out ++ k ∷ [] → b ≡ a ++ r ∷ [] → d ≡ b ++ u64_octets s
     → new ≡ d ++ u32_octets l
@@ -152,7 +152,7 @@ pub take_item : (list : List ObservationData) (i : ℕ) (o : ObservationData) �
 take_item list i o within is = take_more list i o within
     ∙ ap (λ (x : ObservationData). take i list ++ x ∷ []) (sym is)
 
--- The i-th observation of a list is written behind those before it.
+-- The i-th observation of a list is written after those before it.
 module _ (list : List ObservationData) (i : ℕ) (o : ObservationData) (within : i < length list)
     (is : o ≡ get_or list i o) where
   pub frame_taken : length (frame_octets VERSION (take (i + 1) list))

@@ -31,7 +31,7 @@ next_there version [] octets lawful whole some = absurd (omega (arith, some))
 next_there version (o ∷ left) octets lawful whole some =
     (o, entries left, lawful o (inl refl), whole)
 
--- RDATAs that are left, with octets behind them
+-- RDATAs that are left, with octets after them
 pub record AreLeft (left : List (List ℕ)) (behind octets : List ℕ) : Type 0 where
   pub whole : octets ≡ flat_map octets_with_length left ++ behind
 

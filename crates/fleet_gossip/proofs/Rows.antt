@@ -5,7 +5,7 @@ use Rattle.std.proofs.Common.{◌≡◌, ℕ, ◌<◌, List, [], ◌∷◌, ◌+
 use Rattle.std.specs.List.{flat_map}
 use Rattle.fleet_gossip.specs.declared.fault.FrameFault.{FrameFault}
 
--- two rows and what is left behind them: they are the same, or one goes on where the other ends
+-- two rows and what is left after them: they are the same, or one goes on where the other ends
 pub data Aligned (X : Type 0) (spelled : X → List ℕ) (xs ys : List X) (r s : List ℕ) : Type 0 where
   same : xs ≡ ys → r ≡ s → Aligned X spelled xs ys r s
   longer : (y : X) (more : List X) → ys ≡ xs ++ y ∷ more

@@ -233,7 +233,7 @@ pub length-wire-push : (name : List (List ℕ)) (label : List ℕ)
     → length (wire (name ++ label ∷ [])) ≡ length (wire name) + length label + 1
 length-wire-push name label = rw wire-push (simp length-append (omega (arith)))
 
--- one more label behind labels
+-- one more label after labels
 pub all_push : (name : List (List ℕ)) (label : List ℕ) → AllByRecursion IsLabel name
     → IsLabel label → AllByRecursion IsLabel (name ++ label ∷ [])
 all_push [] label all one = (one, tt)

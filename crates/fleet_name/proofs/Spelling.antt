@@ -25,7 +25,7 @@ take-wire name =
     rw (length-append (flat_map label_octets name) (0 ∷ [])) (omega arith) in
     rw (n, take-append_seam (flat_map label_octets name) (0 ∷ [])) refl
 
--- the octets from the k-th label on: its length, and behind it those from the next label on
+-- the octets from the k-th label on: its length, and after it those from the next label on
 module _ (name : List (List ℕ)) (k : ℕ) (within : k < length name) where
   pub first_octet : get_or (wire (drop k name)) 0 0 ≡ length (get_or name k [])
   first_octet = rw (drop-cons name k [] within) refl

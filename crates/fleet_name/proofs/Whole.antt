@@ -18,7 +18,7 @@ pub record First (m : List (List ℕ)) (count : ℕ) (others : List ℕ) : Type 
   pub counted : count ≡ length label
   pub octets : others ≡ label ++ wire rest
 
--- behind a zero octet nothing follows
+-- after a zero octet nothing follows
 pub nothing_behind : (m : List (List ℕ)) (others : List ℕ) → AllByRecursion IsLabel m
     → 0 ∷ others ≡ wire m → others ≡ []
 nothing_behind [] others all e = cc
@@ -164,7 +164,7 @@ first_of label rest =
     take-append_seam label (wire rest) in
     rw (wire_cons label rest, add-one (length label)) behind
 
--- the octets of the k-th label, behind its length octet
+-- the octets of the k-th label, after its length octet
 pub label_octets : (name : List (List ℕ)) (k : ℕ) → k < length name
     → drop 1 (take (length (get_or name k []) + 1) (wire (drop k name))) ≡ get_or name k []
 label_octets name k within =

@@ -1,4 +1,4 @@
--- Octets that begin with a part, and what is behind it.
+-- Octets that begin with a part, and what follows it.
 -- Serves `behind_sized`, `behind_u16`, `is_negative_body`, `is_positive_body`.
 use Rattle.std.proofs.Common.{◌≡◌, ◌≢◌, ℕ, ◌+◌, ◌<◌, ◌/◌, ◌%◌, ◌↔◌, Bool, false, List, [], ◌∷◌, ◌++◌, length, get_or, drop, Option, Some, None, MatchOption, IsTrue, Bor, sym, ap, ◌∙◌, subst, arith, append_assoc, length-append, eqb}
 use mathlib.Core.Bool.{false≢true}
@@ -9,14 +9,14 @@ use Rattle.fleet_wire.specs.Number.{u16_octets}
 use Rattle.fleet_observe.specs.Body.{octets_with_length}
 use Rattle.fleet_observe.proofs.Lists.{split_at}
 
--- what is behind the part decides
+-- what is after the part decides
 pub behind_same : (s part rest y : List ℕ) → s ≡ part ++ rest → (s ≡ part ++ y) ↔ (rest ≡ y)
 behind_same s part rest y e = (
   λ whole. append_cancel_left part rest y (sym e ∙ whole),
   λ same. e ∙ ap (λ (v : List ℕ). part ++ v) same,
 )
 
--- a part behind a part
+-- a part after a part
 pub behind_both : (s mid a b : List ℕ) (r : Option (Bor (List ℕ))) → s ≡ a ++ mid
     → MatchOption r ((rest : List ℕ) → mid ≢ b ++ rest) (λ rest. mid ≡ b ++ rest.now)
     → MatchOption r ((rest : List ℕ) → s ≢ (a ++ b) ++ rest) (λ rest. s ≡ (a ++ b) ++ rest.now)
@@ -64,7 +64,7 @@ u16_behind s octets n r small e h =
     subst (λ (v : List ℕ). MatchOption r ((rest : List ℕ) → s ≢ v ++ rest)
     (λ rest. s ≡ v ++ rest.now)) same h
 
--- the next one and those behind it are no longer than all that is left
+-- the next one and those after it are no longer than all that is left
 pub next_short : (rdatas : List (List ℕ)) (i : ℕ) (x : List ℕ) → i < length rdatas
     → x ≡ get_or rdatas i x
     → length x + 2 + length (flat_map octets_with_length (drop (i + 1) rdatas))
@@ -87,7 +87,7 @@ told_empty rest y b e none same = (
   λ p. e ∙ eq-eqb _ _ (ap length (same.0 p ∙ none)),
 )
 
--- two parts, and what is behind both
+-- two parts, and what is after both
 pub two_same : (s a b mid left : List ℕ) → s ≡ a ++ mid → mid ≡ b ++ left
     → (s ≡ a ++ b) ↔ (left ≡ [])
 two_same s a b mid left e f =

@@ -524,7 +524,7 @@ soon_when_served first m n before ticks t opening lead serves i e there =
 
 -- tries
 
--- it waits at an upstream behind this one, or at this one until soon after this moment
+-- it waits at an upstream after this one, or at this one until soon after this moment
 pub record Phase (j c : ℕ) (o : PendingData) (w : WaiterData) : Type 0 where
   pub waits : IsWaiting o w
   pub far : (j < waits.entry.upstream)

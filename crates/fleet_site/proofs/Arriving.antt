@@ -11,7 +11,7 @@ use Rattle.fleet_site.specs.server.Turn.{Action, calls_of, AllSent, ServerState,
 use Rattle.fleet_site.specs.server.Clients.{no_turn, one_turn, IsGivenIn, ArrivalsAreGiven}
 use Rattle.fleet_site.proofs.Ledger.{no_send}
 
--- a place of two lists is one of the first, or one of the second behind it
+-- a place of two lists is one of the first, or one of the second after it
 pub at_parts : {X : Type 0} (xs ys : List X) (i : ℕ) (x : X) → At (xs ++ ys) i x
     → At xs i x ⊎ ((j : ℕ) × (i ≡ length xs + j) × At ys j x)
 at_parts [] ys i x h = inr (i, (omega arith), h)

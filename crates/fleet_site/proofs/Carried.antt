@@ -29,7 +29,7 @@ use Rattle.fleet_site.proofs.SocketCalls.{arrivals_of-append, departures_of-appe
 use Rattle.fleet_site.proofs.Working.{none_or}
 use Rattle.fleet_site.proofs.SocketLedger.{AsksRoom, handed_is, longer_kept}
 
--- A reply behind its question.
+-- A reply after its question.
 
 -- it waits to be handed on
 abbrev IsWaiting : Arrived → Datagram → Type 0

@@ -39,7 +39,7 @@ asked_short q l =
     length-append q.spelled (u16_octets q.rtype ++ u16_octets q.class) in
     omega (arith, l, b)
 
--- a question is short enough to stand behind a header
+-- a question is short enough to stand after a header
 question_short : (asked : List ℕ) (q : Option QuestionData) → Echoes asked q
     → length (question_octets_if_any q) + 12 ≤ LONGEST_MESSAGE
 question_short asked None h = omega arith

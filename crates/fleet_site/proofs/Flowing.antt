@@ -129,7 +129,7 @@ sifts_both (x ∷ xs) ys ks bs n m k (inl h) g =
     inl (h.0 ++ bs, ap (λ z. z ++ bs) h.1, sifts_both xs ys h.0 bs n m k h.2 g)
 sifts_both (x ∷ xs) ys ks bs n m k (inr h) g = inr (sifts_both xs ys ks bs (one_more n) m k h g)
 
--- of what came some was kept, and waits behind what waited; all else was counted
+-- of what came some was kept, and waits after what waited; all else was counted
 record Kept (ps : List Addr) (ds : List Datagram) (a b : Arrived) : Type 0 where
   pub kept : List Datagram
   pub sifts : Sifts ds kept a.dropped b.dropped

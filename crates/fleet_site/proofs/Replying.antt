@@ -92,7 +92,7 @@ all_pay c k f (w ∷ ws) (d ∷ a) before behind (x ∷ calls) r o h = (
   all_pay c (suc k) f ws a before behind calls r o.1 h.1,
 )
 
--- the calls of a step, and those who wait behind it, each with its datagram
+-- the calls of a step, and those who wait after it, each with its datagram
 record Paid (c : ConfigData) (k : ℕ) (calls : List PortCall) (ds : List Debt)
     (ws : List WaiterData) : Type 0 where
   left : List Debt
@@ -299,7 +299,7 @@ acts c k m n (a ∷ actions) ds same alone lead sent o =
       same = two.same;
     }
 
--- behind a call that sends nothing
+-- after a call that sends nothing
 silent : (c : ConfigData) (k : ℕ) (x : PortCall) (calls : List PortCall) (ds : List Debt)
     (n : SiteModel) → ((p : PacketData) → ¬ IsSend p x) → PaidTo c (suc k) calls ds n
     → PaidTo c k (x ∷ calls) ds n
@@ -320,7 +320,7 @@ no_fault_sends : (room : ℕ) (p : PacketData) → ¬ IsSend p (Fault room)
 no_fault_sends room p (inl e) = cc
 no_fault_sends room p (inr e) = cc
 
--- a receive, what it is given to, and the steps behind it
+-- a receive, what it is given to, and the steps after it
 given : (c : ConfigData) (k t word : ℕ) (m n : SiteModel) (arrival : PortCall)
     (first rest : List Action) (ds : List Debt) → m.upstreams ≡ c.upstreams
     → Given t word arrival first → NoArrivals rest → ActionsLead m (first ++ rest) n
@@ -366,7 +366,7 @@ given c k t word m n (Fault room) first rest ds same g alone lead sent o =
 given c k t word m n (PacketSent s) first rest ds same g alone lead sent o = absurd g
 given c k t word m n (PacketLost s) first rest ds same g alone lead sent o = absurd g
 
--- what some turns of a run have come to, behind the calls of earlier runs
+-- what some turns of a run have come to, after the calls of earlier runs
 record Kept (c : ConfigData) (earlier : List PortCall) (b : ServerState) : Type 0 where
   model : SiteModel
   stands : StandsFor b.site model

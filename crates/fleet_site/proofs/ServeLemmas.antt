@@ -67,7 +67,7 @@ serves_none old ms s every site =
       is_report = refl;
     }
 
--- a turn moved behind the calls so far
+-- a turn moved after the calls so far
 later_turn : (t w every : ℕ) (s u : SiteData) (before calls : List PortCall) (since last : Option ℕ)
     (r q : Report)
     → Turn t w every (record { site = s; calls = []; swept = since; report = r })

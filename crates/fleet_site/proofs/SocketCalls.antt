@@ -1,4 +1,4 @@
--- Lists of calls of a socket, one behind the other.
+-- Lists of calls of a socket, one after the other.
 -- Serves what `Busy`, `Carried`, `Flowing`, `Working` serve.
 use Rattle.std.proofs.Common.{◌≡◌, ℕ, Bool, true, false, cond, List, [], ◌∷◌, ◌++◌, Option, Some, None, refl, sym, ap, subst, ◌∙◌, append_assoc, ◌⊎◌, inl, inr}
 use Rattle.std.proofs.lemmas.List.{append-nil}

@@ -143,7 +143,7 @@ waits_first w asked (Ok None) buffer tail e only = (e, refl, only)
 waits_first w asked (Ok (Some p)) buffer tail e only = (e, refl, only)
 waits_first w asked (Err f) buffer tail e only = (e, refl, only)
 
--- the receive behind a switch waits, unless the system refused
+-- the receive after a switch waits, unless the system refused
 switch_waits : (done mode : Bool) (calls : List SocketCall) (asked : ℕ) (r : Result (Option (Addr × ℕ)) PortFault) (buffer : List ℕ)
     (tail : List SocketCall) → IsSwitch true calls done → mode ≡ cond done true (not true) → OnlyTakeIn asked tail
     → WaitsOnce asked (calls ++ arrival_of mode asked r buffer ∷ tail)
@@ -204,7 +204,7 @@ came_failed old new waits asked r buffer e mode called none k m n = record {
   failed = n ∙ ap (λ (x : Result (Option (Addr × ℕ)) PortFault). failures_after x old.failed) none;
 }
 
--- one waits behind those of its kind
+-- one waits after those of its kind
 joined_messages : (kind : Bool) (ms fs : List Datagram) (d : Datagram) (ns gs : List Datagram) → Joins kind ms fs d ns gs
     → ns ≡ ms ++ cond kind [] (d ∷ [])
 joined_messages true ms fs d ns gs j = j.1 ∙ sym (append-nil ms)

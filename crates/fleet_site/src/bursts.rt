@@ -146,8 +146,8 @@ impl<S: Socket + Drop, A: Allocator + Copy> Bursts<S, A> {
         }
     }
 
-    /// Sends a datagram now, and counts it where it fails. While frames wait the socket does not block, so
-    /// a send on it may find no room where it would have waited else.
+    /// Sends a datagram now, and counts it where it fails. While frames wait the socket does not block,
+    /// so a send on it may find no room where it would have waited else.
     fn send_now(&mut self, to: Addr, bytes: &[u8]) -> Result<(), PortFault>
         ensures called { Called (S.state self.old.socket) (S.state self.new.socket)
             (departure_of result (record { to = to; octets = bytes.now }) ∷ []) }
@@ -288,7 +288,8 @@ impl<S: Socket + Drop, A: Allocator + Copy> Bursts<S, A> {
         self.send_burst()
     }
 
-    /// Keeps a datagram that came, or drops and counts it where others of its kind wait; whether it is kept.
+    /// Keeps a datagram that came, or drops and counts it where others of its kind wait; whether it is
+    /// kept.
     fn keep(&mut self, from: Addr, octets: &[u8]) -> bool
         requires { HasRoom self.old.arrived (length octets.now) }
         ensures kept { KeepsOrDrops (from, octets.now) (data_of (S.state self.old.socket) self.old)
@@ -439,8 +440,8 @@ impl<S: Socket + Drop, A: Allocator + Copy> Bursts<S, A> {
 
     /// Begins a turn, and hands the next datagram on, messages first. Where nothing waits it waits for
     /// a datagram; while frames wait to be sent it sends of them too, and fails where the system
-    /// refuses one: a frame is counted as sent when it begins to wait, so its failure can only be reported
-    /// by a later receive.
+    /// refuses one: a frame is counted as sent when it begins to wait, so its failure can only be
+    /// reported by a later receive.
     pub fn recv(&mut self, buffer: &mut [u8]) -> Result<Option<(Addr, usize)>, PortFault>
         ensures within { IfOk result (λ got. IfSome got (λ p. p.1 ≤ length buffer.old)) }
         ensures failed { self.new.failed ≡ failures_after result self.old.failed }

@@ -6,7 +6,7 @@ use fleet_pending::Addr;
 /// A datagram, and what is handed in with it.
 #[derive(Clone, Copy)]
 pub(crate) struct Datagram<'a> {
-    /// The moment that is handed in with it or, once the clock was raised to that, the clock.
+    /// The moment that is handed in with it; once the clock of the site was raised to that, this clock.
     pub moment: Moment,
     /// Who sent it.
     pub from: Addr,

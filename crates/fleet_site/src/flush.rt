@@ -14,7 +14,7 @@ use fleet_name::Name;
 use fleet_observe::{Moment, Observation};
 use std::alloc::Allocator;
 
-/// Takes the flush of a name at the clock, and sends it as its frame, which is made first.
+/// Takes the flush of a name as of a moment, and sends it as its frame, which is made first.
 pub(crate) fn flush_name<A: Allocator + Copy>(
     cache: &mut Cache<A>,
     now: Moment,

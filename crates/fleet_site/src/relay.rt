@@ -160,7 +160,7 @@ pub(crate) fn take_reply<A: Allocator + Copy>(
     }
 }
 
-/// The observations are taken, and the entry is settled.
+/// Takes the observations of a relay, and settles its entry.
 fn settle_by<A: Allocator + Copy>(
     cache: &mut Cache<A>,
     pending: &mut Pending<A>,
@@ -196,7 +196,7 @@ fn settle_by<A: Allocator + Copy>(
     }
 }
 
-/// A reply that is refused, or that there is no memory for.
+/// The outcome of a reply that is refused, or that there is no memory for.
 pub(crate) fn refuse<A: Allocator + Copy>(
     alloc: A,
     fault: ReplyFault,

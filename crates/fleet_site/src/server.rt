@@ -27,9 +27,9 @@ const BUFFER: usize = LONGEST_FRAME + 1;
 /// What a run of the loop has of its own.
 #[derive(Drop)]
 struct Run<A: Allocator> {
-    /// What a turn receives.
+    /// Where a turn receives a datagram.
     buffer: [u8; BUFFER],
-    /// The reply of a hit.
+    /// Where the site writes the reply of a hit.
     reply: Vec<u8, A>,
     /// The moment that the next sweep is counted from: that of the last one, or of the first turn.
     swept: Option<Moment>,
@@ -37,10 +37,12 @@ struct Run<A: Allocator> {
     report: Report,
 }
 
-/// What a turn is given: the moment that it is, and a random number.
+/// What a turn is given.
 #[derive(Clone, Copy)]
 struct Turn {
+    /// The moment of the turn.
     now: Moment,
+    /// The low 16 bits of the word that was drawn for it.
     word: u16,
 }
 
@@ -140,8 +142,8 @@ fn carry_out_sweep<P: Port, A: Allocator>(
     }
 }
 
-/// Gives the datagram in the buffer, of this length, to the site, and sends what it gives: the reply
-/// of a hit out of the other buffer.
+/// Gives the datagram in the buffer, which has `len` octets, to the site, and sends what that gives: of
+/// a hit what `reply` holds.
 fn give<P: Port, A: Allocator + Copy>(
     port: &mut P,
     site: &mut Site<A>,

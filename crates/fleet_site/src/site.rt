@@ -339,8 +339,8 @@ impl<A: Allocator + Copy> Site<A> {
 
     /// Withdraws what was stamped at the site's clock or before, at a name and below it: the flush is
     /// taken, and its one frame goes out to every peer. Its stamp is the clock, also where an earlier
-    /// moment is handed in. What is stamped later in the same second is withdrawn too. Who waits for an upstream
-    /// goes on waiting.
+    /// moment is handed in. What is stamped later in the same second is withdrawn too. Who waits for an
+    /// upstream goes on waiting.
     pub fn flush(&mut self, now: Moment, name: &Name<A>) -> Result<Outcome<A>, SiteFault>
         ensures follows { (m : SiteModel) → StandsFor self.old m
             → Follows m (a_flush now name.now) result self.new }

@@ -78,7 +78,7 @@ IsClear : Bool → Type 0
 IsClear true = ⊥
 IsClear false = Unit {0}
 
--- A header, a question and the records that were read behind them.
+-- A header, a question and the records that were read after them.
 module _ (m : List ℕ) (h : Header) (q : QuestionData) (past : ℕ) (is : IsQuery m h q past) where
   pub cut_read : IsTrue h.tc → (a b : List RecordData) → a ≡ [] → b ≡ []
       → IsRead (message_data h q a b)

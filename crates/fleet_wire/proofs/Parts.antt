@@ -123,12 +123,12 @@ module _ (m : List ℕ) (parts rest more : List Part) (p at : ℕ) (items new : 
         (subst (λ (x : List Part). PartsAt m x at (wire n ++ o) e) (sym is)
         (n, past, o, named, r, refl)))
 
--- the k-th part, and those behind it
+-- the k-th part, and those after it
 pub part_at : (parts : List Part) (k : ℕ) (d x : Part) → k < length parts → get_or parts k d ≡ x
     → drop k parts ≡ x ∷ drop (k + 1) parts
 part_at parts k d x within is = rw (add-one, drop-cons parts k d within, is) refl
 
--- behind the last part nothing is left to read
+-- after the last part nothing is left to read
 pub no_more : (m : List ℕ) (parts : List Part) (p at : ℕ) (items : List ℕ) (k : ℕ)
     → ((o : List ℕ) (e : ℕ) → PartsAt m (drop k parts) at o e → PartsAt m parts p (items ++ o) e)
     → length parts ≤ k → PartsAt m parts p items at

@@ -48,7 +48,7 @@ lies_label m p s label t e at (goes_on l rest at' r is) =
     )
 lies_label m p s label t e at (points q past at' lt r is) = absurd (omega (arith, at, at'))
 
--- One more label in a row behind others, and the zero octet behind them.
+-- One more label in a row after others, and the zero octet after them.
 module _ (m front : List ℕ) (at : ℕ) (before : List (List ℕ))
     (whole : front ≡ flat_map label_octets before ++ drop at m) where
   pub behind_zero : EndAt m at → front ≡ wire before ++ drop (at + 1) m

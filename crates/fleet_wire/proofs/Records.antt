@@ -73,7 +73,7 @@ record_or_fault m p r e f at (inr h) =
     let same = one_reads m p h.0 r.name h.1 at.past h.2 at.name in
     fixed_or_fault m p r e f at (subst (λ (q : ℕ). FixedFails m q f) same.1 h.3)
 
--- what is behind the name of a record, wherever its name was read
+-- what is after the name of a record, wherever its name was read
 pub record_behind : (m : List ℕ) (p : ℕ) (n : List (List ℕ)) (past : ℕ) (r : RecordData) (e : ℕ)
     → ReadsName m p n past → RecordAt m p r e
     → (past + 10 + u16_at m (past + 8) ≤ length m)

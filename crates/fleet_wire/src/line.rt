@@ -3,8 +3,8 @@
 ghost use Rattle.std.specs.Prelude.{◌≡◌};
 ghost use Rattle.fleet_name.specs.Name.{wire, labels_of};
 
-/// A borrowed record of the class IN: its owner in full and in lower case, its type, its TTL in
-/// seconds and its RDATA.
+/// A line of an outline, a borrowed record of the class IN: its owner in full and in lower case, its
+/// type, its TTL in seconds and its RDATA.
 #[derive(Drop)]
 pub(crate) struct LentRecord<'a> {
     pub(crate) owner: &'a [u8],

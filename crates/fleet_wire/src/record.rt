@@ -89,7 +89,7 @@ fn record_at<A: Allocator + Copy>(
     ensures { IfOk result (λ r. RecordAt message.now offset r.0 r.1) }
 {
     let (name, past) = name_at(alloc, message, offset)?;
-    // Behind the name are ten octets, since the caller has read them.
+    // After the name are ten octets, since the caller has read them.
     prove!(past + 10 <= message.len());
     let rtype = read_u16(message, past);
     let count = read_u16(message, past + 8) as usize;

@@ -37,7 +37,7 @@ use Rattle.fleet_world.proofs.Lists.{contains_all_has}
 use Rattle.fleet_world.proofs.Reached.{contains_all_from}
 use Rattle.fleet_world.proofs.Worlds.{zip_at, zip_set}
 
--- lists one behind the other
+-- lists one after the other
 zip_both : {A B : Type 0} (R : A → B → Type 0) (xs us : List A) (ys vs : List B) → AllZip R xs ys
     → AllZip R us vs → AllZip R (xs ++ us) (ys ++ vs)
 zip_both R [] us [] vs h k = k

@@ -214,7 +214,7 @@ module _ (A : Type 0) (ends : ℕ → SiteModel) where
     ];
   }
 
-  -- what leads on behind an event
+  -- what leads on after an event
   leading_behind : (m : FleetModel) (e : Event A) (r : Result OutcomeData SiteFault) (n : SiteModel)
       (x : SiteAction) (xs : List SiteAction) (a : Replica) → At m.sites x.site a
       → (z : Stepping A m x.site e r n) → Leading m (x ∷ xs)
@@ -445,7 +445,7 @@ module _ (t word every : ℕ) (a mid b : ServerState) (h : Turn t word every mid
         ]
       ]
 
--- some turns, and the configuration behind them
+-- some turns, and the configuration after them
 turns_done : (input : RunInput) (count : ℕ) (a b : ServerState)
     → Turns input.moments input.words input.every count a b
     → (xs : List Action) × HasDone a b xs × (b.site.config ≡ a.site.config)

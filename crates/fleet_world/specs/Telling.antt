@@ -124,9 +124,9 @@ NoneIsNew P m e n =
     (a b : Replica) → At m.sites (site_of e) a → At n.sites (site_of e) b
     → (o : ObservationData) → Has b.site.taken o → P o → Has a.site.taken o
 
--- In this run, as its events arrive, no observation of this kind comes in that is new. Each event is quiet
--- (`first` is the number of the first frame that was kept since m), or it is no delivery and brings its
--- site none that is new to it.
+-- In this run, as its events arrive, no observation of this kind comes in that is new. Each event
+-- is quiet (`first` is the number of the first frame that was kept since m), or it is no delivery
+-- and brings its site none that is new to it.
 abbrev pub BringNoNewsOf : {A : Type 0} → (ObservationData → Type 0) → ℕ
     → (m : FleetModel) (es : List (Event A)) (rs : Results A) (n : FleetModel) → Run m es rs n
     → List (Event A) → Type 0

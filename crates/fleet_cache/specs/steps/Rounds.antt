@@ -40,7 +40,8 @@ pub record IsRound (most begun : ℕ) (floor : Seconds) (items : Observations) (
 abbrev pub IsBounded : ℕ → ℕ → Seconds → Observations → List ℕ → ℕ → Type 0
 IsBounded most begun floor items at owed = IsRound most begun floor items at owed × (owed < 32)
 
--- where a round that had left its start came back to it, `most` are left at most, a third of `begun`, and eleven
+-- where a round that had left its start came back to it, `most` are left at most, a third of
+-- `begun`, and eleven
 abbrev pub LeavesFew : ℕ → ℕ → List ℕ → Observations → List ℕ → Type 0
 LeavesFew most begun at items to = to ≡ []
     → (at ≡ []) ⊎ (3 * length items ≤ 3 * most + begun + 34)

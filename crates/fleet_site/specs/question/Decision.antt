@@ -17,8 +17,8 @@ use Rattle.fleet_site.specs.question.AnswerRecords.{bare_octets, Writes}
 use Rattle.fleet_site.specs.declared.verdict.Decision.{Decision}
 use Rattle.fleet_site.specs.declared.verdict.Decision.TheVariants.{Dropped as DecisionDropped, Reply as DecisionReply, Unread as DecisionUnread, Miss as DecisionMiss}
 
--- what is decided of octets: no reply; a reply; one that says that they can't be read, for this fault;
--- or nothing that is known answers the question
+-- what is decided of octets: they are dropped; a reply; one that says that they can't be read, for this
+-- fault; or a miss, where nothing that is known answers the question
 pub data DecisionData : Type 0 where
   Dropped : DecisionData
   Reply : OctetList → DecisionData
@@ -35,8 +35,7 @@ pub record IsAsking (octets : OctetList) : Type 0 where
   pub long : 12 ≤ length octets
   pub question : ¬ IsTrue (header_of octets).response
 
--- what is decided of a question by what the set answers: its reply, or nothing that is known where it
--- is missed
+-- what is decided of a question by what the set answers: its reply, or a miss
 abbrev pub DecidesAnswer : Header → QuestionData → AnswerData → DecisionData → Type 0
 DecidesAnswer h q Missed v = v ≡ Miss h q
 DecidesAnswer h q (Found chain set) v =

@@ -111,8 +111,8 @@ abbrev pub ROOM : ℕ
 ROOM = LONGEST_FRAME + 1
 
 -- One turn of a server, at a moment with a word: it receives at most one datagram, for which it asks for
--- ROOM octets, and gives it to the site; ticks, at most MOST_ENTRIES times; and sweeps if it is time. What
--- a step gives is sent before the next step.
+-- ROOM octets, and gives it to the site; ticks, at most MOST_ENTRIES times; and sweeps if it is
+-- time. What a step gives is sent before the next step.
 pub record Turn (t : Seconds) (word : ℕ) (every : Seconds) (a b : ServerState) : Type 0 where
   pub arrival : PortCall
   pub given : List Action

@@ -193,8 +193,8 @@ fn came(port: &Tested) -> usize {
     count
 }
 
-/// Of thousands of datagrams with one mark, behind a frame, how many had come after so many receives, and
-/// how many of them were dropped.
+/// Of thousands of datagrams with one mark, which follow a frame, how many had come after so many
+/// receives, and how many of them were dropped.
 fn taken_in(rt: &impl Abort, alloc: Global, mark: char, receives: u8) -> (usize, u64) {
     let mut marks = String::new(alloc);
     marks.push('1').expect(rt, "memory");
@@ -212,8 +212,8 @@ fn taken_in(rt: &impl Abort, alloc: Global, mark: char, receives: u8) -> (usize,
 #[test]
 fn what_has_no_room_is_dropped(rt: HostRuntime) {
     let alloc = rt.alloc();
-    // One frame waits. With each of four receives came 1,024 messages, and one was handed on: three more had
-    // room. A receive drops four messages at most.
+    // One frame waits. With each of four receives came 1,024 messages, and one was handed on: three
+    // more had room. A receive drops four messages at most.
     assert_eq!(rt; taken_in(&rt, alloc, 'a', 4), (1 + 4096, 0));
     assert_eq!(rt; taken_in(&rt, alloc, 'a', 5), (1 + 4096 + 3 + 4, 4));
     assert_eq!(rt; taken_in(&rt, alloc, 'a', 6), (1 + 4096 + 3 + 4 + 1 + 4, 8));
@@ -228,7 +228,7 @@ fn a_port_over_a_socket_works_in_bursts(rt: HostRuntime) {
     // A message is one receive, and a reply one send.
     check(&rt, alloc, "ab", "rmrm", "ab", "wa>mwb>m");
     check(&rt, alloc, "a.", "rrr", "a..", "waw.w.");
-    // Behind a frame the socket is emptied; messages are handed on first.
+    // After a frame the socket is emptied; messages are handed on first.
     check(&rt, alloc, "12a3b..", "rrrrrr", "ab123.", "w1-2a3b.....+w.");
     // What comes meanwhile is taken in too.
     check(&rt, alloc, "1a.2b.", "rrrrr", "ab12.", "w1-a.2b...+w.");

@@ -3,9 +3,9 @@
 //! `messages` has the octets that more than one row is about, by their names. `rows`, `tables`,
 //! `calls` and `observations` read rows, make their calls and compare their output. Each other file
 //! has tests: of names and octets; of lists of items; of messages that servers sent (`captures`) and
-//! that are read in place; of replies and queries; of observations that are made (`bodies` has those behind other octets);
-//! of fronts; of caches and the memory that purges give back; of frames that are taken; of open
-//! questions.
+//! that are read in place; of replies and queries; of observations that are made (`bodies` has
+//! those after other octets); of fronts; of caches and the memory that purges give back; of frames
+//! that are taken; of open questions.
 //!
 //! What a script shows of these is tried from outside, by `tests/run` at the top of the repository.
 

@@ -56,8 +56,8 @@ fn begin_refused<A: Allocator + Copy>(rt: &impl Abort, trial: &Trial<'_, A>) -> 
     }
 }
 
-/// A world that did rows with ample memory, and the first observations of the row behind them, a
-/// number of them.
+/// A world that did rows with ample memory, and took the first observations of the row after them, as
+/// many as `taken` says.
 #[derive(Drop)]
 struct Part<A: Allocator> {
     taken: usize,
@@ -71,7 +71,7 @@ struct Row<'a, A: Allocator> {
     text: &'a str,
     /// The rows before it.
     others: &'a [&'a str],
-    /// With which a world was compared when the row last ran out of memory.
+    /// What a world was compared with when the row last ran out of memory.
     part: Option<Part<A>>,
 }
 
@@ -112,8 +112,8 @@ fn check_lost<A: Allocator + Copy>(
     assert!(rt; has_same_sites(world, whole))
 }
 
-/// Checks a world after a row that was done, an event whose frames were not kept, and does the row
-/// with those before it anew, where nothing is refused. It gives `wanted` in `whole`.
+/// Checks a world after a row that was done, an event whose frames were not kept, and does those
+/// before it and the row anew, where nothing is refused. The row did what `wanted` says in `whole`.
 fn check_row_lost<A: Allocator + Copy>(
     rt: &impl Abort,
     trial: &Trial<'_, A>,
@@ -185,7 +185,7 @@ fn check_row<A: Allocator + Copy>(
 }
 
 /// Does a row in `world` with the call of this number refused, where it makes as many, and says
-/// whether it does. Behind it the world is as `whole`, which did it with ample memory.
+/// whether it does. Afterwards the world is as `whole`, which did the row with ample memory.
 fn run_row<A: Allocator + Copy>(
     rt: &impl Abort,
     trial: &Trial<'_, A>,

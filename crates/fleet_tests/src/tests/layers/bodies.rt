@@ -1,11 +1,11 @@
-//! Bodies behind other octets.
+//! Bodies after other octets.
 
 use crate::tests::layers::observations::record_in;
 use crate::tests::layers::rows::Words;
 use fleet_observe::Observation;
 use std::process::Abort;
 
-/// Adds the body of 192.0.2.1 behind two octets.
+/// Adds the body of 192.0.2.1 after two octets.
 fn check_added(rt: &impl Abort, address: &Observation, octets: &mut Vec<u8>) {
     address.append_body(octets).expect(rt, "memory");
     let wanted = b"\xff\xfe\x00\x01\x00\x04\xc0\x00\x02\x01";

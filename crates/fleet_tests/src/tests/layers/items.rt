@@ -1,4 +1,4 @@
-//! Items: one, and others behind it.
+//! Items: one, and others after it.
 
 use fleet_observe::Items;
 

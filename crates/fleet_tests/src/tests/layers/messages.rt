@@ -1,9 +1,9 @@
 //! The messages and frames that more than one row is about, each by a name.
 
-/// Each name, and behind it the octets as `spelled` reads them. The line above says what they are:
+/// Each name, and after it the octets as `spelled` reads them. The line above says what they are:
 /// of a message the id, the flags, the code, the question and the records of each section; of a
 /// frame its version, and of each observation the kind, the rank, the stamp, the life, the name, the type
-/// and the data. The lines above a row say the same, behind `=>` of its output.
+/// and the data. The lines above a row say the same, after `=>` of its output.
 pub(crate) const MESSAGES: &str = "\
 # id 9 rd ad: wWw. IN AAAA
 mixed-question 00090120000100000000000003'wWw'00001c0001

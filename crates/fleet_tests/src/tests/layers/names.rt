@@ -7,7 +7,7 @@ use fleet_name::{Name, NameFault, Octets, is_lower, suffix_in};
 use std::alloc::Global;
 use std::process::Abort;
 
-/// Adds a label to a name: its octets behind `%`, or else its letters.
+/// Adds a label to a name: its octets after `%`, or else its letters.
 fn push_label(
     rt: &impl Abort,
     alloc: Global,

@@ -173,7 +173,7 @@ pub(crate) fn flush_in<A: Allocator + Copy>(
     Observation::flush(name, stamp)
 }
 
-/// Adds numbers, each behind a space.
+/// Adds numbers, each after a space.
 fn push_numbers(rt: &impl Abort, output: &mut String, numbers: &[u64]) {
     for number in numbers {
         write!(output, " {number}").expect(rt, "memory");

@@ -69,7 +69,7 @@ fn go_round(rt: &impl Abort, global: Global, heap: &LocalHeap) -> ([usize; 2], [
 }
 
 /// A purge reclaims from 4096 fronts, so that the first one drops 2048 of the 2500 that ended, 81.92 of
-/// 100; the next goes on behind them to the end.
+/// 100; the next goes on after them to the end.
 #[test]
 fn purges_go_round(rt: HostRuntime) {
     let heap = LocalHeap::new(rt.alloc(), 1 << 23).expect(&rt, "memory");

@@ -293,7 +293,7 @@ due 102 => failed 1";
     check_calls(&rt, rt.alloc(), &mut table, rows);
 }
 
-/// Each look ahead comes behind the deadline that the table knew as its first one, at it, or before
+/// Each look ahead comes after the deadline that the table knew as its first one, at it, or before
 /// it.
 #[test]
 fn looking_ahead_changes_nothing(rt: HostRuntime) {

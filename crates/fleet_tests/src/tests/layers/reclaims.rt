@@ -3,7 +3,7 @@
 //! No public contract says what is in memory beside the items: a purge that drops nothing answers all
 //! questions alike. So here each observation that was ever taken is looked for in a cache
 //! (`Cache::holds`) and in a map whose purges and takes are spelled out: one front after the other is
-//! found behind the last one, and what is not live is dropped of it. The names are those around the
+//! found after the last one, and what is not live is dropped of it. The names are those around the
 //! longest that the cache's first map has, and two whose keys have the most words. The moments are those
 //! around the ends of what is held.
 
@@ -22,7 +22,7 @@ use std::process::Abort;
 /// How many fronts a purge looks at.
 const LEAST: u16 = 4096;
 
-/// How many fronts are to be looked at behind an observation that was kept.
+/// How many fronts are to be looked at after an observation that was kept.
 const PACE: u8 = 4;
 
 /// How many are looked at together.
@@ -77,7 +77,7 @@ impl Round {
     }
 }
 
-/// Goes on to the key behind a cursor, or back to the start where there is none. Returns whether it
+/// Goes on to the key after a cursor, or back to the start where there is none. Returns whether it
 /// went on.
 fn advance(rt: &impl Abort, fronts: &BTreeMap<Key, Vec<Observation>>, cursor: &mut Key) -> bool {
     let mut behind = fronts.range((Bound::Excluded(&*cursor), Bound::Unbounded));
@@ -174,7 +174,7 @@ impl Plain {
         added.expect(rt, "memory");
     }
 
-    /// Looks at some fronts behind observations that were taken.
+    /// Looks at some fronts after observations that were taken.
     fn go_on(&mut self, rt: &impl Abort, alloc: Global, looks: u8) {
         for _ in 0..looks {
             if !advance(rt, &self.fronts, &mut self.round.cursor) {
@@ -342,7 +342,7 @@ impl Pair {
 /// As many zeros as a label has octets at most.
 const ZEROS: &str = "000000000000000000000000000000000000000000000000000000000000000";
 
-/// Adds labels of these lengths, each a number of four digits behind zeros.
+/// Adds labels of these lengths, each a number of four digits after zeros.
 fn add_labels(rt: &impl Abort, name: &mut String, number: u16, lengths: &[usize]) {
     for length in lengths {
         let zeros = ZEROS.get(4..*length).expect(rt, "a length");
@@ -507,7 +507,7 @@ fn take_typed<'a>(
     cache.take(observation).expect(rt, "memory");
 }
 
-/// A name has many types for a second, and one for long: behind a purge it has little more room than
+/// A name has many types for a second, and one for long: after a purge it has little more room than
 /// before.
 fn check_room<'a>(
     rt: &impl Abort,

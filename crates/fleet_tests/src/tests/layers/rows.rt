@@ -4,7 +4,7 @@ use crate::tests::layers::messages::MESSAGES;
 use std::alloc::Global;
 use std::process::Abort;
 
-/// The first word of a text, and what comes behind it.
+/// The first word of a text, and what comes after it.
 fn first_of(text: &str) -> (&str, &str) {
     text.split_once(' ').unwrap_or((text, ""))
 }
@@ -39,7 +39,7 @@ impl<'a> Words<'a> {
     }
 }
 
-/// A row: a call, its words, and behind ` => ` its output.
+/// A row: a call, its words, and after ` => ` its output.
 #[derive(Clone, Copy)]
 pub(crate) struct Row<'a> {
     /// The call.
@@ -148,7 +148,7 @@ fn push_repeated(rt: &impl Abort, digits: &mut String, text: &str) {
     }
 }
 
-/// Adds digits as often as is said behind them.
+/// Adds digits as often as is said after them.
 fn push_times(rt: &impl Abort, digits: &mut String, repeated: &str) {
     let (octets, count) = repeated.split_once('*').expect(rt, "a count");
     for _ in 0..count.parse::<u16>().expect(rt, "a number") {

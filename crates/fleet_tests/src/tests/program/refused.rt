@@ -8,7 +8,7 @@ use fleet_program::{LineFault, ScriptFault, run_script};
 use std::alloc::Global;
 use std::process::Abort;
 
-/// Adds digits as often as is said behind them.
+/// Adds digits as often as is said after them.
 fn push_repeated(rt: &impl Abort, text: &mut String, repeated: &str) {
     let (digits, count) = repeated.split_once('*').expect(rt, "a count");
     for _ in 0..count.parse::<u16>().expect(rt, "a number") {

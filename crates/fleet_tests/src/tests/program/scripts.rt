@@ -1,7 +1,7 @@
 //! The scripts of the worked examples. `tests/test_examples.py` at the top of the repository sees that
 //! they are those of `tests/cases`, which has what each prints.
 
-/// Scripts, each behind what it shows; `{61*460}` is 460 times `61`.
+/// Scripts, each after what it shows; `{61*460}` is 460 times `61`.
 pub const SCRIPTS: &str = "\
 # a reply is learnt, and answers ten seconds later with a TTL that is ten less
 learn 0 100 000181800001000100000000076578616d706c6503636f6d0000010001c00c000100010000012c0004c0000201

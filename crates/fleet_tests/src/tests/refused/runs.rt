@@ -10,7 +10,7 @@ use fleet_world::{Event, Halted, Stepped, World, WorldFault};
 use std::alloc::{Allocator, Global};
 use std::process::Abort;
 
-/// What rows did that ran as events, with ample memory.
+/// What the events of rows did with ample memory.
 #[derive(Clone, Copy)]
 struct Whole<'a, A: Allocator> {
     /// The rows.
@@ -59,7 +59,7 @@ fn check_short<A: Allocator + Copy>(
     check_same(rt, world, &before, row)
 }
 
-/// Checks a world whose run was halted where frames were not kept: behind rows that were done, at the
+/// Checks a world whose run was halted where frames were not kept: after rows that were done, at the
 /// last of others. The event did the first of what is wanted.
 fn check_frames_lost<A: Allocator + Copy>(
     rt: &impl Abort,

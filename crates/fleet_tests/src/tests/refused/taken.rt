@@ -69,7 +69,7 @@ fn a_frame_is_made_before_it_is_taken(rt: HostRuntime) {
     panic!(rt; "refused each time");
 }
 
-/// The frame of each entry alone, and behind `:` that of the others.
+/// The frame of each entry alone, and after `:` that of the others.
 const SPLIT: &str = "\
 444702 0001 alias-entry : 444702 0002 target-entry denial-entry
 444702 0001 target-entry : 444702 0002 alias-entry denial-entry
@@ -107,8 +107,8 @@ fn take_short<A: Allocator + Copy>(
     }
 }
 
-/// How many observations a cache holds that held the one at this place, behind so many that were
-/// taken; behind the whole frame, if none was refused.
+/// How many observations a cache holds that held the one at this place, after so many that were
+/// taken; after the whole frame, if none was refused.
 fn held_behind(place: usize, taken: Option<usize>) -> usize {
     let first = taken.unwrap_or(COUNT);
     if place < first {

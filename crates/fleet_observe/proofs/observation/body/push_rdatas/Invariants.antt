@@ -4,7 +4,7 @@ use Rattle.fleet_observe.specs.Body.{positive_body, octets_with_length}
 use Rattle.fleet_observe.specs.declared.bounds.TheConstants.{LONGEST_BODY}
 use Rattle.fleet_observe.proofs.observation.body.push_rdatas.Given as goal
 
--- what is written and what is behind the index make the body
+-- what is written and what lies from the index on make the body
 abbrev pub invariant-loop-rdata : goal.invariant-loop-rdata
 invariant-loop-rdata g l = record {
   written : l.octets.items ++ flat_map octets_with_length (drop l.rdata-index l.rdatas)

@@ -4,7 +4,7 @@ use Rattle.fleet_observe.specs.Body.{positive_body, octets_with_length}
 use Rattle.fleet_observe.specs.Preference.{octets_cmp}
 use Rattle.fleet_observe.proofs.observation.order.rdatas_order.Given as goal
 
--- the bodies compare as what is behind the index does
+-- the bodies compare as what lies from the index on does
 abbrev pub invariant-loop-i : goal.invariant-loop-i
 invariant-loop-i g l = record {
   many : length l.rdatas ≡ length l.others;
