@@ -1,5 +1,5 @@
 -- The lines of a relayed reply.
--- Serves `outline_of`, `add_rrset`.
+-- Serves `add_rrset`, `outline_of`.
 use Rattle.std.proofs.Common.{◌≡◌, ◌<◌, arith, ℕ, Bool, List, [], ◌∷◌, ◌++◌, ap, sym, ◌∙◌, refl, append_assoc, append-nil, map, Option, Some}
 use Rattle.fleet_wire.specs.Question.{QuestionData}
 use Rattle.fleet_wire.specs.Record.{RecordData}

@@ -3,40 +3,10 @@
 use Rattle.std.proofs.Common.{ℕ, ◌≤◌, inl, inr, List, ap, refl, arith, Option, Some, None}
 use Rattle.fleet_name.specs.Name.{IsName}
 use Rattle.fleet_observe.proofs.Lemmas.{any_rank}
-use Rattle.fleet_observe.specs.Body.{positive_body, negative_body}
+use Rattle.fleet_observe.specs.Body.{negative_body}
 use Rattle.fleet_observe.specs.Observation.{IsObservation, IsNegativeKind, kind_number}
-use Rattle.fleet_observe.specs.Checks.{MakesPositive, MakesNegative, denied_kind, denied_type}
+use Rattle.fleet_observe.specs.Checks.{MakesNegative, denied_kind, denied_type}
 use Rattle.fleet_observe.specs.declared.bounds.TheConstants.{LATEST}
-use Rattle.fleet_observe.specs.declared.observation.kind.Kind.TheVariants.{Positive}
-
-pub positive_lawful : (name : List (List ℕ)) (rtype rank stamp life : ℕ) (rdatas : List (List ℕ))
-    → IsName name → stamp ≤ LATEST → MakesPositive rtype rank life rdatas
-    → IsObservation (record {
-      kind = Positive;
-      name = name;
-      rtype = rtype;
-      body = positive_body rdatas;
-      rank = rank;
-      stamp = stamp;
-      life = life;
-    })
-positive_lawful name rtype rank stamp life rdatas named early made = record {
-  named = named;
-  rank = made.ranked;
-  stamped = early;
-  life = made.lasts;
-  positive = λ k. record {
-    typed = made.typed;
-    body = record {
-      rdatas = rdatas;
-      lawful = made.body;
-      octets = refl;
-    };
-  };
-  no_data = λ k. absurd (omega (arith, ap kind_number k));
-  name_error = λ k. absurd (omega (arith, ap kind_number k));
-  flush = λ k. absurd (omega (arith, ap kind_number k));
-}
 
 pub negative_lawful : (name : List (List ℕ)) (rtype : Option ℕ) (rank stamp life : ℕ)
     (owner : List (List ℕ)) (rdata : List ℕ) → IsName name → stamp ≤ LATEST

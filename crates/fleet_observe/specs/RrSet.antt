@@ -11,7 +11,7 @@ use Rattle.fleet_wire.specs.declared.class.TheConstants.{IN}
 use Rattle.fleet_observe.specs.Members.{Has, IsAscending}
 use Rattle.fleet_observe.specs.Observation.{IsDataType}
 use Rattle.fleet_observe.specs.declared.bounds.TheConstants.{LONGEST_LIFE}
-use Rattle.fleet_observe.specs.declared.reply.rows.LentRrSet.{LentRrSet}
+use Rattle.fleet_observe.specs.declared.reply.lent_rrset.LentRrSet.{LentRrSet}
 
 -- the record is of the RRset at name n and type t
 pub record IsOfRrSet (n : Labels) (t : RType) (r : RecordData) : Type 0 where

@@ -24,6 +24,6 @@ pub use reply::digest;
 pub use reply::ending::{DigestFault, End};
 pub use reply::observations::observations;
 pub use reply::relay::relay;
-pub use reply::rows::{LentRrSet, add_rrset};
+pub use reply::lent_rrset::{LentRrSet, add_rrset};
 pub use reply::rrset::RrSet;
 pub use reply::summary::Digest;

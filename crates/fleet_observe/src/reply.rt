@@ -7,10 +7,10 @@ ghost use Rattle.fleet_observe.specs.DigestOf.{IsServed, IsFault, IsDigest, IsWa
 pub(crate) mod authority;
 pub(crate) mod denial;
 pub(crate) mod ending;
+pub(crate) mod lent_rrset;
 pub(crate) mod names;
 pub(crate) mod observations;
 pub(crate) mod relay;
-pub(crate) mod rows;
 pub(crate) mod rrset;
 pub(crate) mod summary;
 pub(crate) mod walk;
@@ -43,7 +43,7 @@ fn is_served<A: Allocator>(message: &Message<A>) -> bool
 }
 
 /// Whether the RCODE is 0 or 3, so that the walk decides what the reply means.
-fn is_answered(rcode: u8) -> bool
+fn is_walk_code(rcode: u8) -> bool
     ensures { IsTrue result ↔ IsWalkCode rcode }
 {
     if rcode == NO_ERROR {
@@ -77,7 +77,7 @@ pub fn digest<A: Allocator + Copy>(alloc: A, message: &Message<A>) -> Result<Dig
         let name = question.name.try_clone()?;
         return Ok(digest_without_walk(alloc, message, name, End::Truncated));
     }
-    if !is_answered(header.rcode) {
+    if !is_walk_code(header.rcode) {
         let name = question.name.try_clone()?;
         return Ok(digest_without_walk(alloc, message, name, End::Code(header.rcode)));
     }

@@ -107,24 +107,19 @@ impl<A: Allocator> Pending<A> {
     }
 
     /// Opens an entry for a waiter whose question is new and has room, under the id that `query_id`
-    /// returned for it and the same word. It answers and leaves what `ask` does, and searches nothing
+    /// returned for it. It answers and leaves what `ask` does with the same word, and searches nothing
     /// again.
     ///
     /// # Errors
     ///
     /// `OutOfMemory` where the allocation for the new entry fails. It changes nothing, and hands the
     /// waiter back.
-    pub fn open(
-        &mut self,
-        waiter: Waiter<A>,
-        now: Moment,
-        word: u16,
-        id: u16,
-    ) -> Result<Asked, Unasked<A>>
+    pub fn open(&mut self, waiter: Waiter<A>, now: Moment, id: u16) -> Result<Asked, Unasked<A>>
     where
         A: Copy,
-        requires { IsQueryId self.old waiter.question word (Some id) }
-        ensures asks { Asks self.old waiter now word (ask_result result) self.new }
+        requires { (word : ℕ) × IsQueryId self.old waiter.question word (Some id) }
+        ensures asks { (word : ℕ) → IsQueryId self.old waiter.question word (Some id)
+            → Asks self.old waiter now word (ask_result result) self.new }
         ensures back { IfErr result (λ u. u.waiter ≡ waiter) }
         ensures unchanged { OnErr result (self.new ≡ self.old) }
         ensures upstreams { self.new.upstreams ≡ self.old.upstreams }

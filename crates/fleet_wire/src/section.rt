@@ -6,7 +6,7 @@ ghost use Rattle.fleet_wire.specs.Outline.{line};
 ghost use Rattle.fleet_wire.specs.steps.LentRecord.{record_of_lent, records_of_lent};
 ghost use Rattle.fleet_wire.specs.declared.bounds.TheConstants.{LONGEST_MESSAGE};
 
-use crate::line::LentRecord;
+use crate::lent_record::LentRecord;
 use arrayvec::ArrayVec;
 use fleet_name::Name;
 use std::alloc::{AllocError, Allocator};

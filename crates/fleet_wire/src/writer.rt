@@ -12,7 +12,7 @@ ghost use Rattle.fleet_wire.specs.declared.bounds.TheConstants.{LONGEST_MESSAGE}
 use crate::bounds::LONGEST_MESSAGE;
 use crate::class::IN;
 use crate::lent::LentQuestion;
-use crate::line::LentRecord;
+use crate::lent_record::LentRecord;
 use crate::number::octets_of_u32;
 use crate::outline::Outline;
 use crate::section::Section;

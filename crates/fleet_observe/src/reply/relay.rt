@@ -7,7 +7,7 @@ ghost use Rattle.fleet_observe.specs.Relay.{code_of, is_cut, soa_lines, relay_ou
 
 use crate::observation::soa::Soa;
 use crate::reply::ending::End;
-use crate::reply::rows::add_rrset;
+use crate::reply::lent_rrset::add_rrset;
 use crate::reply::summary::Digest;
 use fleet_wire::rcode::{NAME_ERROR, NO_ERROR};
 use fleet_wire::rtype::SOA;

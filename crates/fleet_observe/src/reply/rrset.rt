@@ -9,7 +9,7 @@ ghost use Rattle.fleet_observe.specs.RrSet.{SpellsName, IsOfRrSet, IsTtl, IsRrSe
 use crate::bounds::LONGEST_LIFE;
 use crate::items::Items;
 use crate::observation::values::is_data_type;
-use crate::reply::rows::LentRrSet;
+use crate::reply::lent_rrset::LentRrSet;
 use fleet_name::{Name, Octets};
 use fleet_wire::Record;
 use fleet_wire::class::IN;

@@ -4,7 +4,7 @@ use Rattle.std.specs.Prelude.{List, map}
 use Rattle.fleet_name.specs.Name.{labels_of}
 use Rattle.fleet_wire.specs.Record.{RecordData}
 use Rattle.fleet_wire.specs.Outline.{line}
-use Rattle.fleet_wire.specs.declared.line.LentRecord.{LentRecord}
+use Rattle.fleet_wire.specs.declared.lent_record.LentRecord.{LentRecord}
 
 -- the record that is lent
 abbrev pub record_of_lent : LentRecord → RecordData

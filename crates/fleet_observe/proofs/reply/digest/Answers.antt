@@ -21,14 +21,14 @@ digest_without_walk-requires g c =
       idle = no_walk_cut _ cut;
     }
 
-pub digest_without_walk-requires-then-not-is_answered : goal.digest_without_walk-requires-then-not-is_answered
-digest_without_walk-requires-then-not-is_answered g c =
+pub digest_without_walk-requires-then-not-is_walk_code : goal.digest_without_walk-requires-then-not-is_walk_code
+digest_without_walk-requires-then-not-is_walk_code g c =
     let served = c.is_served.ensures.0 c.if-not-is_served.false in
     let whole = sym (ap (λ (x : Header). x.tc) c.header-header.ensures.header)
     ∙ c.if-header.false in
     let is = ap (λ (x : Header). x.rcode) c.header-header.ensures.header in
-    let asks = rw is at c.is_answered.ensures in
-    let none = not_so _ _ asks c.if-not-is_answered.true in
+    let asks = rw is at c.is_walk_code.ensures in
+    let none = not_so _ _ asks c.if-not-is_walk_code.true in
     record {
       served = served;
       named = c.in_ok-name-2.ensures ∙ ap (λ (x : QuestionData). x.name)
@@ -56,8 +56,8 @@ returns-then-not-has_walk g c =
     let whole = sym (ap (λ (x : Header). x.tc) c.header-header.ensures.header)
     ∙ c.if-header.false in
     let code = (rw (ap (λ (x : Header). x.rcode)
-    c.header-header.ensures.header) at c.is_answered.ensures).0
-    c.if-not-is_answered.false in
+    c.header-header.ensures.header) at c.is_walk_code.ensures).0
+    c.if-not-is_walk_code.false in
     bad_chain served (record { whole = whole; code = code })
     (λ h. false≢true (sym c.if-not-has_walk.true ∙ walk.1 h)) refl
 
@@ -72,8 +72,8 @@ digest_along_walk-requires g c =
     let whole = sym (ap (λ (x : Header). x.tc) c.header-header.ensures.header)
     ∙ c.if-header.false in
     let code = (rw (ap (λ (x : Header). x.rcode)
-    c.header-header.ensures.header) at c.is_answered.ensures).0
-    c.if-not-is_answered.false in
+    c.header-header.ensures.header) at c.is_walk_code.ensures).0
+    c.if-not-is_walk_code.false in
     record {
       served = served;
       asks = record { whole = whole; code = code };
@@ -92,8 +92,8 @@ returns-in_err-name-2 g c =
     let r = c.from_residual-in_err-name-2 in let p = err_from_is_err_and r.result r.ensures.1 in
     let served = c.is_served.ensures.0 c.if-not-is_served.false in
     let is = ap (λ (x : Header). x.rcode) c.header-header.ensures.header in
-    let asks = rw is at c.is_answered.ensures in
-    let none = not_so _ _ asks c.if-not-is_answered.true in
+    let asks = rw is at c.is_walk_code.ensures in
+    let none = not_so _ _ asks c.if-not-is_walk_code.true in
     rw (p.1, p.2) (no_memory (served, λ walks. absurd (no_walk_coded _ none walks)) refl)
 
 pub returns-in_err-digest_along_walk : goal.returns-in_err-digest_along_walk

@@ -71,7 +71,7 @@ fn open(
     let id = table
         .query_id(&waiter.question, word)
         .expect(rt, "a new question");
-    match table.open(waiter, moment, word, id) {
+    match table.open(waiter, moment, id) {
         Ok(asked) => Ok(asked),
         Err(unasked) => Err(unasked.fault),
     }

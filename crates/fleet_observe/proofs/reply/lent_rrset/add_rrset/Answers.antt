@@ -3,7 +3,7 @@ use Rattle.std.proofs.lemmas.List.{take_more, take-map, length-map}
 use Rattle.fleet_wire.specs.Outline.{line}
 use Rattle.fleet_observe.specs.Relay.{with_answer_lines, HasFirstOf}
 use Rattle.fleet_observe.proofs.Lines.{more_answers, lines-push}
-use Rattle.fleet_observe.proofs.reply.rows.add_rrset.Goals as goal
+use Rattle.fleet_observe.proofs.reply.lent_rrset.add_rrset.Goals as goal
 
 pub loop-rdata-preserved : goal.loop-rdata-preserved
 loop-rdata-preserved g c =
