@@ -231,9 +231,9 @@ fn refuse_rows<A: Allocator + Copy>(
     met: &mut Met,
 ) {
     let mut rows = Vec::new(trial.ample);
-    for place in 0..texts.len() {
+    for (place, text) in texts.iter().enumerate() {
         let row = Row {
-            text: texts[place],
+            text,
             others: &texts[..place],
             part: None,
         };
