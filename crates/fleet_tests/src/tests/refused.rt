@@ -233,7 +233,7 @@ fn refuse_rows<A: Allocator + Copy>(
     let mut rows = Vec::new(trial.ample);
     for (place, text) in texts.iter().enumerate() {
         let row = Row {
-            text,
+            text: *text,
             others: &texts[..place],
             part: None,
         };
