@@ -208,7 +208,7 @@ fn join_or_open<A: Allocator + Copy>(
 {
     waiters_stay();
     match fresh {
-        Some(id) => pending.open(waiter, datagram.moment, datagram.word, id),
+        Some(id) => pending.open(waiter, datagram.moment, id),
         None => pending.ask(waiter, datagram.moment, datagram.word),
     }
 }
