@@ -39,53 +39,11 @@ impl Report {
             short: 0,
         }
     }
+}
 
-    /// Counts a turn.
-    pub(crate) fn count_turns(&mut self)
-        ensures { self.new ≡ record self.old { turns = one_more self.old.turns } }
-    {
-        self.turns = self.turns.saturating_add(1);
-    }
-
-    /// Counts a datagram that was received.
-    pub(crate) fn count_received(&mut self)
-        ensures { self.new ≡ record self.old { received = one_more self.old.received } }
-    {
-        self.received = self.received.saturating_add(1);
-    }
-
-    /// Counts a packet that was sent.
-    pub(crate) fn count_sent(&mut self)
-        ensures { self.new ≡ record self.old { sent = one_more self.old.sent } }
-    {
-        self.sent = self.sent.saturating_add(1);
-    }
-
-    /// Counts a packet that was lost.
-    pub(crate) fn count_lost(&mut self)
-        ensures { self.new ≡ record self.old { lost = one_more self.old.lost } }
-    {
-        self.lost = self.lost.saturating_add(1);
-    }
-
-    /// Counts a receive that failed.
-    pub(crate) fn count_faults(&mut self)
-        ensures { self.new ≡ record self.old { faults = one_more self.old.faults } }
-    {
-        self.faults = self.faults.saturating_add(1);
-    }
-
-    /// Counts a refusal.
-    pub(crate) fn count_refused(&mut self)
-        ensures { self.new ≡ record self.old { refused = one_more self.old.refused } }
-    {
-        self.refused = self.refused.saturating_add(1);
-    }
-
-    /// Counts a step that ran out of memory.
-    pub(crate) fn count_short(&mut self)
-        ensures { self.new ≡ record self.old { short = one_more self.old.short } }
-    {
-        self.short = self.short.saturating_add(1);
-    }
+/// Counts one more, up to the greatest number.
+pub(crate) fn count_one(count: &mut u64)
+    ensures { count.new ≡ one_more count.old }
+{
+    *count = count.saturating_add(1);
 }

@@ -11,7 +11,7 @@ ghost use Rattle.fleet_site.specs.steps.Turned.{loop_state, Turned, GivenOne, Re
 use crate::handled::Handled;
 use crate::outcome::{Outcome, Packet, Refusal, SiteFault};
 use crate::port::{Clock, Port};
-use crate::report::Report;
+use crate::report::{Report, count_one};
 use crate::site::Site;
 use fleet_gossip::bounds::LONGEST_FRAME;
 use fleet_name::Octets;
@@ -52,8 +52,8 @@ fn send<P: Port>(port: &mut P, to: Addr, bytes: &[u8], report: &mut Report)
         (record { to = to; octets = bytes.now } ∷ []) report.old report.new }
 {
     match port.send(to, bytes) {
-        Ok(()) => report.count_sent(),
-        Err(_) => report.count_lost(),
+        Ok(()) => count_one(&mut report.sent),
+        Err(_) => count_one(&mut report.lost),
     }
 }
 
@@ -97,7 +97,7 @@ fn count_refusal(refused: Option<Refusal>, report: &mut Report)
     ensures { report.new ≡ count_refusal_in (is_some refused) report.old }
 {
     if refused.is_some() {
-        report.count_refused();
+        count_one(&mut report.refused);
     }
 }
 
@@ -120,7 +120,7 @@ fn carry_out<P: Port, A: Allocator>(
             outcome.more
         }
         Err(_) => {
-            report.count_short();
+            count_one(&mut report.short);
             false
         }
     }
@@ -138,7 +138,7 @@ fn carry_out_sweep<P: Port, A: Allocator>(
 {
     match frames {
         Ok(frames) => send_frames(port, &frames, peers, report),
-        Err(_) => report.count_short(),
+        Err(_) => count_one(&mut report.short),
     }
 }
 
@@ -164,7 +164,7 @@ fn give<P: Port, A: Allocator + Copy>(
         Ok(Handled::Outcome(outcome)) => {
             carry_out(port, site.peers(), Ok(outcome), &mut run.report);
         }
-        Err(_) => run.report.count_short(),
+        Err(_) => count_one(&mut run.report.short),
     }
 }
 
@@ -183,10 +183,10 @@ fn receive<P: Port, A: Allocator + Copy>(
     match port.recv(&mut run.buffer) {
         Ok(None) => {}
         Ok(Some((from, len))) => {
-            run.report.count_received();
+            count_one(&mut run.report.received);
             give(port, site, run, turn, from, len);
         }
-        Err(_) => run.report.count_faults(),
+        Err(_) => count_one(&mut run.report.faults),
     }
 }
 
@@ -252,7 +252,7 @@ fn take_turn<P: Port, A: Allocator + Copy>(
         turn.now turn.word every run.old.swept run.new.swept }
 {
     let now = turn.now;
-    run.report.count_turns();
+    count_one(&mut run.report.turns);
     receive(port, site, run, turn);
     tick_all(port, site, now, &mut run.report);
     sweep_if_due(port, site, run, now, every);

@@ -1,4 +1,4 @@
-use Rattle.std.proofs.Common.{Ok, Err, [], take}
+use Rattle.std.proofs.Common.{Ok, Err, [], take, refl}
 use Rattle.fleet_site.proofs.ServerLists.{made_none}
 use Rattle.fleet_site.proofs.ServerTurns.{given_one, given_reply, stepped_call}
 use Rattle.fleet_site.proofs.server.give.Goals as goal
@@ -24,7 +24,7 @@ returns-in-Ok-Outcome-clause-given g c =
 pub returns-in-Err-clause-given : goal.returns-in-Err-clause-given
 returns-in-Err-clause-given g c =
     given_one _ _ c.args.turn.now c.args.turn.word c.args.site.now c.datagram_into.new.self
-    c.args.run.now.report c.count_short.new.self c.args.from
+    c.args.run.now.report _ c.args.from
     (take c.args.len c.args.run.now.buffer) (Err c.in-Err.field-0)
     (stepped_call _ _ _ _ c.in-Err.ensures.follows c.in-Err.ensures.config)
-    (record { calls = []; made = made_none _; sent = tt; report = c.count_short.ensures })
+    (record { calls = []; made = made_none _; sent = tt; report = rw c.count_one.ensures refl })

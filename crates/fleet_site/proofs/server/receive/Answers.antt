@@ -5,11 +5,11 @@ use Rattle.fleet_site.proofs.server.receive.Goals as goal
 pub returns-in-Ok-Some-clause-received : goal.returns-in-Ok-Some-clause-received
 returns-in-Ok-Some-clause-received g c =
     heard_one _ _ _ (length c.args.run.now.buffer) c.args.turn.now c.args.turn.word
-    c.args.site.now c.give.new.site c.args.run.now.report c.count_received.new.self
+    c.args.site.now c.give.new.site c.args.run.now.report _
     c.give.new.run.report c.in-Ok-Some.from (take c.in-Ok-Some.len c.recv.new.buffer)
     c.told-run
     (rw c.in-Ok-Some.field-0-is at c.in-Ok-Some.ensures.noted) c.in-Ok-Some.ensures.failed
-    c.count_received.ensures c.give.ensures.given
+    (rw c.count_one.ensures refl) c.give.ensures.given
 
 pub returns-in-Ok-None-clause-received : goal.returns-in-Ok-None-clause-received
 returns-in-Ok-None-clause-received g c =
@@ -20,6 +20,6 @@ returns-in-Ok-None-clause-received g c =
 pub returns-in-Err-clause-received : goal.returns-in-Err-clause-received
 returns-in-Err-clause-received g c =
     heard_fault _ _ (length c.args.run.now.buffer) c.args.turn.now c.args.turn.word
-    c.args.site.now c.args.run.now.report c.count_faults.new.self
+    c.args.site.now c.args.run.now.report _
     c.told-run c.in-Err.ensures.noted
-    c.in-Err.ensures.failed c.count_faults.ensures
+    c.in-Err.ensures.failed (rw c.count_one-in-Err.ensures refl)

@@ -7,7 +7,7 @@ returns-in-Ok g c = record {
   calls = PacketSent (record { to = c.args.to; octets = c.args.bytes.now }) ∷ [];
   made = record { noted = c.in-Ok.ensures.noted; failed = c.in-Ok.ensures.failed };
   sent = (inl refl, tt);
-  report = c.count_sent.ensures;
+  report = rw c.count_one.ensures refl;
 }
 
 pub returns-in-Err : goal.returns-in-Err
@@ -15,5 +15,5 @@ returns-in-Err g c = record {
   calls = PacketLost (record { to = c.args.to; octets = c.args.bytes.now }) ∷ [];
   made = record { noted = c.in-Err.ensures.noted; failed = c.in-Err.ensures.failed };
   sent = (inr refl, tt);
-  report = c.count_lost.ensures;
+  report = rw c.count_one-in-Err.ensures refl;
 }
