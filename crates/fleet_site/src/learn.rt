@@ -10,9 +10,8 @@ ghost use Rattle.fleet_site.specs.steps.Relayed.{Unlearns};
 ghost use Rattle.fleet_site.specs.reply.Learn.{Learnt};
 ghost use Rattle.fleet_site.specs.SiteModel.{takes};
 
-use crate::digested::{ReplyFault, digest_of, message_in};
+use crate::digested::{ReplyFault, digest_of, message_in, refuse};
 use crate::outcome::{Outcome, SiteFault};
-use crate::relay::refuse;
 use fleet_cache::Cache;
 use fleet_observe::{Moment, Observation, observations};
 use std::alloc::Allocator;
@@ -28,14 +27,8 @@ fn read_observations<A: Allocator + Copy>(
     ensures refused { IfErr result (λ e.
         (o : PendingData) → Unlearns (Learnt o now octets.now) (HasReply octets.now) o e) }
 {
-    let message = match message_in(alloc, octets) {
-        Ok(message) => message,
-        Err(fault) => return Err(fault),
-    };
-    let digest = match digest_of(alloc, &message) {
-        Ok(digest) => digest,
-        Err(undigested) => return Err(undigested),
-    };
+    let message = message_in(alloc, octets)?;
+    let digest = digest_of(alloc, &message)?;
     match observations(alloc, &digest, now) {
         Ok(observed) => Ok(observed),
         Err(_) => Err(ReplyFault::NoMemory),

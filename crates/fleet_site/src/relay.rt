@@ -4,11 +4,11 @@ ghost use Rattle.std.specs.Prelude.{◌≡◌, ◌<◌, IfOk, IfErr, map};
 ghost use Rattle.fleet_observe.specs.Observation.{Observations};
 ghost use Rattle.fleet_cache.specs.Cached.{IsCached};
 ghost use Rattle.fleet_site.specs.steps.Carried.{DoesOrStops};
-ghost use Rattle.fleet_site.specs.steps.Relayed.{IsRelayOf, IsMade, IsRelayFor, SaysRefusal, Unlearns};
+ghost use Rattle.fleet_site.specs.steps.Relayed.{IsRelayOf, IsMade, IsRelayFor, Unlearns};
 ghost use Rattle.fleet_site.specs.reply.Reply.{IsAnswering, IsReplying, Replied, relay_to};
 ghost use Rattle.fleet_site.specs.Table.{KeepsTable};
 
-use crate::digested::{ReplyFault, digest_of, message_in};
+use crate::digested::{ReplyFault, digest_of, message_in, refuse};
 use crate::outcome::{Frames, Outcome, Packet, Packets, Refusal, SiteFault};
 use fleet_cache::Cache;
 use fleet_gossip::pack;
@@ -117,20 +117,14 @@ fn relay_of_reply<A: Allocator + Copy>(
         (IsReplying octets.now) pending.now e) }
 {
     let alloc = *pending.allocator();
-    let message = match message_in(alloc, octets) {
-        Ok(message) => message,
-        Err(fault) => return Err(fault),
-    };
+    let message = message_in(alloc, octets)?;
     let id = message.header().id;
     let question = message.question();
     let entry = match pending.find(upstream, id, question) {
         Some(entry) => entry,
         None => return Err(ReplyFault::Refused(Refusal::Unmatched)),
     };
-    let digest = match digest_of(alloc, &message) {
-        Ok(digest) => digest,
-        Err(undigested) => return Err(undigested),
-    };
+    let digest = digest_of(alloc, &message)?;
     settling_gives_its_entry();
     match make_relay(alloc, &digest, now, entry) {
         Ok(relay) => Ok(relay),
@@ -193,18 +187,5 @@ fn settle_by<A: Allocator + Copy>(
         Err(stopped) => Err(SiteFault::OutOfMemory {
             taken: stopped.taken,
         }),
-    }
-}
-
-/// The outcome of a reply that is refused, or that there is no memory for.
-pub(crate) fn refuse<A: Allocator + Copy>(
-    alloc: A,
-    fault: ReplyFault,
-) -> Result<Outcome<A>, SiteFault>
-    ensures { SaysRefusal fault result }
-{
-    match fault {
-        ReplyFault::Refused(refusal) => Ok(Outcome::without_packets(alloc, 0, Some(refusal))),
-        ReplyFault::NoMemory => Err(SiteFault::OutOfMemory { taken: 0 }),
     }
 }

@@ -4,12 +4,11 @@ use Rattle.std.specs.Prelude.{◌≡◌, ◌⊎◌, ℕ, zero, suc, ◌-◌, min
 use Rattle.fleet_name.specs.Types.{OctetList}
 use Rattle.fleet_wire.specs.Types.{Seconds}
 use Rattle.fleet_pending.specs.declared.addr.Addr.{Addr}
-use Rattle.fleet_site.specs.server.PortRecord.{PortCall, Received, NoDatagram, Fault, PacketSent, PacketLost}
+use Rattle.fleet_site.specs.server.PortRecord.{PortCall, Received, NoDatagram, Fault, PacketSent, PacketLost, Fills}
 use Rattle.fleet_site.specs.declared.port.PortFault.{PortFault}
 use Rattle.fleet_site.specs.declared.memory_port.Note.{Note}
 use Rattle.fleet_site.specs.declared.memory_port.Note.TheVariants as note
 use Rattle.fleet_site.specs.declared.memory_port.MemoryPort.{MemoryPort}
-use Rattle.fleet_site.specs.socket.Waiting.{Fills}
 
 -- the moment at a place of a list, and the last one from there on; 0 where the list is empty
 abbrev pub moment_of : List Seconds → ℕ → Seconds
@@ -39,8 +38,8 @@ Arrives asked (None ∷ behind) got buffer = got ≡ None
 Arrives asked (Some a ∷ behind) got buffer = Fills asked a got buffer
 
 -- a receive uses up the arrival whose turn it is, and one that failed uses up none
-abbrev pub Gives : ℕ → List (Option (Addr × OctetList)) → Result (Option (Addr × ℕ)) PortFault → OctetList
-    → List (Option (Addr × OctetList)) → Type 0
+abbrev pub Gives : ℕ → List (Option (Addr × OctetList))
+    → Result (Option (Addr × ℕ)) PortFault → OctetList → List (Option (Addr × OctetList)) → Type 0
 Gives asked before (Ok got) buffer left = Arrives asked before got buffer × (left ≡ drop 1 before)
 Gives asked before (Err e) buffer left = left ≡ before
 

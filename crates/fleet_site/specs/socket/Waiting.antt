@@ -1,11 +1,11 @@
 -- Datagrams that wait in a port, each with the address that it came from or goes to.
 -- Serves `BurstPort`.
-use Rattle.std.specs.Prelude.{◌≡◌, ◌≢◌, ◌⊎◌, ℕ, min, Bool, true, false, ◌&&◌, eqb, ltb, cond, List, [], ◌∷◌, ◌++◌, length, take, Option, Some, None}
+use Rattle.std.specs.Prelude.{◌≡◌, ◌≢◌, ◌⊎◌, ℕ, Bool, true, false, ◌&&◌, eqb, ltb, cond, List, [], ◌∷◌, ◌++◌, length, Option, Some, None}
 use Rattle.std.specs.List.{list_any}
 use Rattle.fleet_name.specs.Types.{OctetList}
 use Rattle.fleet_pending.specs.declared.addr.Addr.{Addr}
 use Rattle.fleet_wire.specs.declared.bounds.TheConstants.{LONGEST_MESSAGE}
-use Rattle.fleet_site.specs.server.PortRecord.{one_more}
+use Rattle.fleet_site.specs.server.PortRecord.{one_more, Fills}
 use Rattle.fleet_site.specs.socket.SocketRecord.{SocketCall, Came, NoneCame, Failed, Sent, Unsent, ClockRead, Paused, Switched}
 use Rattle.fleet_site.specs.declared.queue.TheConstants.{MOST_WAITING}
 
@@ -33,7 +33,8 @@ is_frame peers d = is_long d.1 && is_peer peers d.0
 -- of datagrams those that wait as messages, in their order
 abbrev pub messages_of : List Addr → List Datagram → List Datagram
 messages_of peers [] = []
-messages_of peers (d ∷ ds) = cond (is_frame peers d) (messages_of peers ds) (d ∷ messages_of peers ds)
+messages_of peers (d ∷ ds) =
+    cond (is_frame peers d) (messages_of peers ds) (d ∷ messages_of peers ds)
 
 -- of datagrams those that wait as frames, in their order
 abbrev pub frames_of : List Addr → List Datagram → List Datagram
@@ -72,7 +73,8 @@ Pushes old d true new = new ≡ old ++ d ∷ []
 Pushes old d false new = (length old ≡ MOST_WAITING) × (new ≡ old)
 
 -- a frame comes after the frames, and what is none after the messages
-abbrev pub Joins : Bool → List Datagram → List Datagram → Datagram → List Datagram → List Datagram → Type 0
+abbrev pub Joins : Bool → List Datagram → List Datagram → Datagram → List Datagram
+    → List Datagram → Type 0
 Joins true messages frames d new_messages new_frames =
     (new_frames ≡ frames ++ d ∷ []) × (new_messages ≡ messages)
 Joins false messages frames d new_messages new_frames =
@@ -115,19 +117,14 @@ Sifts [] kept n m = (kept ≡ []) × (m ≡ n)
 Sifts (d ∷ ds) kept n m =
     ((rest : List Datagram) × (kept ≡ d ∷ rest) × Sifts ds rest n m) ⊎ Sifts ds kept (one_more n) m
 
--- the datagram is handed on, cut to a length, at the front of the buffer
-abbrev pub Fills : ℕ → Datagram → Option (Addr × ℕ) → OctetList → Type 0
-Fills asked d got buffer =
-    (got ≡ Some (d.0, min (length d.1) asked))
-    × (take (min (length d.1) asked) buffer ≡ take asked d.1)
-
 -- a datagram that may be there, as a list
 abbrev pub at_most_one : Option Datagram → List Datagram
 at_most_one None = []
 at_most_one (Some d) = d ∷ []
 
 -- of what waits the first message was taken out, and where there is none the first frame
-abbrev pub TookOut : List Datagram → List Datagram → Option Datagram → List Datagram → List Datagram → Type 0
+abbrev pub TookOut : List Datagram → List Datagram → Option Datagram → List Datagram
+    → List Datagram → Type 0
 TookOut (d ∷ messages) frames taken new_messages new_frames =
     (taken ≡ Some d) × (new_messages ≡ messages) × (new_frames ≡ frames)
 TookOut [] (d ∷ frames) taken new_messages new_frames =

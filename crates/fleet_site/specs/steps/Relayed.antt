@@ -10,7 +10,7 @@ use Rattle.fleet_gossip.specs.Packed.{IsPacked}
 use Rattle.fleet_cache.specs.Cached.{IsCached, CacheData}
 use Rattle.fleet_pending.specs.Asking.{Settles}
 use Rattle.fleet_pending.specs.PendingData.{EntryData, PendingData}
-use Rattle.fleet_site.specs.OutcomeData.{OutcomeData, refusal}
+use Rattle.fleet_site.specs.OutcomeData.{OutcomeData}
 use Rattle.fleet_site.specs.reply.Reply.{relay_to, Replied}
 use Rattle.fleet_site.specs.SiteModel.{Effect, refuses}
 use Rattle.fleet_site.specs.declared.digested.ReplyFault.{ReplyFault}
@@ -20,7 +20,8 @@ use Rattle.fleet_site.specs.declared.outcome.SiteFault.TheVariants.{OutOfMemory}
 use Rattle.fleet_site.specs.declared.relay.Relay.{Relay}
 
 -- what a reply makes a site write for this entry
-pub record IsMade {A : Type 0} (g : DigestData) (t : Seconds) (e : EntryData) (r : Relay A) : Type 0 where
+pub record IsMade {A : Type 0} (g : DigestData) (t : Seconds) (e : EntryData) (r : Relay A)
+    : Type 0 where
   pub id : r.id ≡ e.id
   pub packets : r.packets ≡ map (relay_to g) e.waiters
   pub observed : r.observed.items ≡ reply_observations g t
@@ -37,8 +38,8 @@ relay_outcome r = record {
 }
 
 -- the entry of a relay is open, and with the entry settled the relay is what the octets are for
-pub record IsRelayOf {A : Type 0} (o : PendingData) (t : Seconds) (place : ℕ) (octets : OctetList) (r : Relay A)
-    : Type 0 where
+pub record IsRelayOf {A : Type 0} (o : PendingData) (t : Seconds) (place : ℕ) (octets : OctetList)
+    (r : Relay A) : Type 0 where
   pub opens : (e : Option EntryData) × ((n : PendingData) × Settles o r.id e n)
   pub told : (e : Option EntryData) (n : PendingData) → Settles o r.id e n
       → Replied o t place octets
@@ -59,10 +60,3 @@ IsRelayFor r s old (Ok o) cache new =
 IsRelayFor r s old (Err (OutOfMemory taken)) cache new =
     (taken < length r.observed.items) × (new ≡ old)
     × IsCached (take taken r.observed.items ++ s) cache.floor cache.items
-
--- the refusal is said, or there was no memory and nothing was taken
-abbrev pub SaysRefusal : ReplyFault → Result OutcomeData SiteFault → Type 0
-SaysRefusal (Refused r) (Ok o) = o ≡ refusal r
-SaysRefusal (Refused r) (Err f) = ⊥
-SaysRefusal NoMemory (Ok o) = ⊥
-SaysRefusal NoMemory (Err (OutOfMemory taken)) = taken ≡ 0
