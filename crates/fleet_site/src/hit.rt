@@ -6,7 +6,7 @@ ghost use Rattle.fleet_cache.specs.Cached.{IsCached};
 ghost use Rattle.fleet_site.specs.question.Decision.{IsAsking, IsStandardQuery};
 ghost use Rattle.fleet_site.specs.steps.Plain.{DecidesPlain, IsPlainMiss};
 
-use crate::verdict::is_served;
+use crate::decision::is_served;
 use crate::writing::{is_miss, write_answer_into};
 use fleet_cache::Cache;
 use fleet_observe::Moment;

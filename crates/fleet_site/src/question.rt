@@ -18,10 +18,10 @@ ghost use Rattle.fleet_site.specs.question.Decision.{IsAsking, IsPlainHit, decis
 
 use crate::config::addr_of;
 use crate::datagram::Datagram;
+use crate::decision::{Decision, decide};
 use crate::handled::Handled;
 use crate::hit::{Plain, decide_plain};
 use crate::outcome::{Outcome, Refusal, SiteFault};
-use crate::verdict::{Decision, decide};
 use crate::writing::reply_without;
 use fleet_cache::Cache;
 use fleet_name::Octets;

@@ -16,6 +16,7 @@ ghost use Rattle.fleet_site.specs.declared.outcome.SiteFault.TheVariants.{OutOfM
 
 use crate::config::{Config, place_of};
 use crate::datagram::Datagram;
+use crate::decision::{Decision, decide};
 use crate::flush::flush_name;
 use crate::frame::take_frame;
 use crate::handled::Handled;
@@ -25,7 +26,6 @@ use crate::outcome::{Outcome, SiteFault};
 use crate::question::{take_question, take_question_into, whole};
 use crate::relay::take_reply;
 use crate::tick::serve_due;
-use crate::verdict::{Decision, decide};
 use fleet_cache::Cache;
 use fleet_gossip::sweep;
 use fleet_name::{Name, Octets};

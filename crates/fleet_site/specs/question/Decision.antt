@@ -14,8 +14,8 @@ use Rattle.fleet_observe.specs.Observation.{IsDataType, Observations}
 use Rattle.fleet_cache.specs.Answer.{AnswerData, Missed, Found, NoData, NxDomain, answer_of}
 use Rattle.fleet_site.specs.Choice.{when◌then◌otherwise◌}
 use Rattle.fleet_site.specs.question.AnswerRecords.{bare_octets, Writes}
-use Rattle.fleet_site.specs.declared.verdict.Decision.{Decision}
-use Rattle.fleet_site.specs.declared.verdict.Decision.TheVariants.{Dropped as DecisionDropped, Reply as DecisionReply, Unread as DecisionUnread, Miss as DecisionMiss}
+use Rattle.fleet_site.specs.declared.decision.Decision.{Decision}
+use Rattle.fleet_site.specs.declared.decision.Decision.TheVariants.{Dropped as DecisionDropped, Reply as DecisionReply, Unread as DecisionUnread, Miss as DecisionMiss}
 
 -- what is decided of octets: they are dropped; a reply; one that says that they can't be read, for this
 -- fault; or a miss, where nothing that is known answers the question

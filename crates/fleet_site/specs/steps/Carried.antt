@@ -22,8 +22,8 @@ use Rattle.fleet_site.specs.SiteModel.{Effect, says_only}
 use Rattle.fleet_site.specs.question.Decision.{DecisionData, Unread as UnreadData}
 use Rattle.fleet_site.specs.declared.outcome.SiteFault.{SiteFault}
 use Rattle.fleet_site.specs.declared.outcome.SiteFault.TheVariants.{OutOfMemory}
-use Rattle.fleet_site.specs.declared.verdict.Decision.{Decision}
-use Rattle.fleet_site.specs.declared.verdict.Decision.TheVariants.{Dropped, Reply, Unread, Miss}
+use Rattle.fleet_site.specs.declared.decision.Decision.{Decision}
+use Rattle.fleet_site.specs.declared.decision.Decision.TheVariants.{Dropped, Reply, Unread, Miss}
 
 -- what a site took in and what it asks, before a deed
 pub record Before : Type 0 where
