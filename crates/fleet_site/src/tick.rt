@@ -81,23 +81,23 @@ fn make_plan<A: Allocator + Copy>(
     let alloc = *pending.allocator();
     match pending.due(now) {
         None => Ok(Plan::Idle(Outcome::without_packets(alloc, 0, None))),
-        Some(due) => match due {
+        Some(
             Due::Retry {
                 upstream,
                 id,
                 entry,
-            } => {
-                let octets = entry_query(alloc, id, entry)?;
-                let to = addr_of(upstreams, upstream);
-                let outcome = Outcome::with_packet(alloc, to, octets, None)?;
-                Ok(Plan::Retry(id, outcome))
-            }
-            Due::Failed { id, entry } => {
-                let packets = failure_packets(alloc, entry.waiters.as_slice())?;
-                let outcome = Outcome::with_packets(alloc, packets, 0, None);
-                Ok(Plan::Fail(id, outcome))
-            }
-        },
+            },
+        ) => {
+            let octets = entry_query(alloc, id, entry)?;
+            let to = addr_of(upstreams, upstream);
+            let outcome = Outcome::with_packet(alloc, to, octets, None)?;
+            Ok(Plan::Retry(id, outcome))
+        }
+        Some(Due::Failed { id, entry }) => {
+            let packets = failure_packets(alloc, entry.waiters.as_slice())?;
+            let outcome = Outcome::with_packets(alloc, packets, 0, None);
+            Ok(Plan::Fail(id, outcome))
+        }
     }
 }
 
