@@ -28,14 +28,8 @@ fn read_observations<A: Allocator + Copy>(
     ensures refused { IfErr result (λ e.
         (o : PendingData) → Unlearns (Learnt o now octets.now) (HasReply octets.now) o e) }
 {
-    let message = match message_in(alloc, octets) {
-        Ok(message) => message,
-        Err(fault) => return Err(fault),
-    };
-    let digest = match digest_of(alloc, &message) {
-        Ok(digest) => digest,
-        Err(undigested) => return Err(undigested),
-    };
+    let message = message_in(alloc, octets)?;
+    let digest = digest_of(alloc, &message)?;
     match observations(alloc, &digest, now) {
         Ok(observed) => Ok(observed),
         Err(_) => Err(ReplyFault::NoMemory),

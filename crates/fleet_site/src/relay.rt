@@ -117,20 +117,14 @@ fn relay_of_reply<A: Allocator + Copy>(
         (IsReplying octets.now) pending.now e) }
 {
     let alloc = *pending.allocator();
-    let message = match message_in(alloc, octets) {
-        Ok(message) => message,
-        Err(fault) => return Err(fault),
-    };
+    let message = message_in(alloc, octets)?;
     let id = message.header().id;
     let question = message.question();
     let entry = match pending.find(upstream, id, question) {
         Some(entry) => entry,
         None => return Err(ReplyFault::Refused(Refusal::Unmatched)),
     };
-    let digest = match digest_of(alloc, &message) {
-        Ok(digest) => digest,
-        Err(undigested) => return Err(undigested),
-    };
+    let digest = digest_of(alloc, &message)?;
     settling_gives_its_entry();
     match make_relay(alloc, &digest, now, entry) {
         Ok(relay) => Ok(relay),
