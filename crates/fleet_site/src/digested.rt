@@ -3,9 +3,9 @@
 ghost use Rattle.std.specs.Prelude.{◌≡◌, IfOk, IfErr};
 ghost use Rattle.fleet_wire.specs.Message.{IsReply};
 ghost use Rattle.fleet_observe.specs.DigestOf.{IsDigest, IsSound};
-ghost use Rattle.fleet_site.specs.steps.ReplyFault.{IsUnread, IsUndigested};
+ghost use Rattle.fleet_site.specs.steps.ReplyFault.{IsUnread, IsUndigested, SaysRefusal};
 
-use crate::outcome::Refusal;
+use crate::outcome::{Outcome, Refusal, SiteFault};
 use fleet_observe::{Digest, DigestFault, digest, digest_or_fault};
 use fleet_wire::{Message, ReadFault, read_reply};
 use std::alloc::Allocator;
@@ -55,5 +55,18 @@ pub(crate) fn digest_of<A: Allocator + Copy>(
             DigestFault::BadChain => Err(ReplyFault::Refused(Refusal::Digest(fault))),
             DigestFault::OutOfMemory => Err(ReplyFault::NoMemory),
         },
+    }
+}
+
+/// The outcome of a reply that is refused, or that there is no memory for.
+pub(crate) fn refuse<A: Allocator + Copy>(
+    alloc: A,
+    fault: ReplyFault,
+) -> Result<Outcome<A>, SiteFault>
+    ensures { SaysRefusal fault result }
+{
+    match fault {
+        ReplyFault::Refused(refusal) => Ok(Outcome::without_packets(alloc, 0, Some(refusal))),
+        ReplyFault::NoMemory => Err(SiteFault::OutOfMemory { taken: 0 }),
     }
 }

@@ -10,9 +10,8 @@ ghost use Rattle.fleet_site.specs.steps.Relayed.{Unlearns};
 ghost use Rattle.fleet_site.specs.reply.Learn.{Learnt};
 ghost use Rattle.fleet_site.specs.SiteModel.{takes};
 
-use crate::digested::{ReplyFault, digest_of, message_in};
+use crate::digested::{ReplyFault, digest_of, message_in, refuse};
 use crate::outcome::{Outcome, SiteFault};
-use crate::relay::refuse;
 use fleet_cache::Cache;
 use fleet_observe::{Moment, Observation, observations};
 use std::alloc::Allocator;

@@ -4,11 +4,11 @@ ghost use Rattle.std.specs.Prelude.{◌≡◌, ◌<◌, IfOk, IfErr, map};
 ghost use Rattle.fleet_observe.specs.Observation.{Observations};
 ghost use Rattle.fleet_cache.specs.Cached.{IsCached};
 ghost use Rattle.fleet_site.specs.steps.Carried.{DoesOrStops};
-ghost use Rattle.fleet_site.specs.steps.Relayed.{IsRelayOf, IsMade, IsRelayFor, SaysRefusal, Unlearns};
+ghost use Rattle.fleet_site.specs.steps.Relayed.{IsRelayOf, IsMade, IsRelayFor, Unlearns};
 ghost use Rattle.fleet_site.specs.reply.Reply.{IsAnswering, IsReplying, Replied, relay_to};
 ghost use Rattle.fleet_site.specs.Table.{KeepsTable};
 
-use crate::digested::{ReplyFault, digest_of, message_in};
+use crate::digested::{ReplyFault, digest_of, message_in, refuse};
 use crate::outcome::{Frames, Outcome, Packet, Packets, Refusal, SiteFault};
 use fleet_cache::Cache;
 use fleet_gossip::pack;
@@ -187,18 +187,5 @@ fn settle_by<A: Allocator + Copy>(
         Err(stopped) => Err(SiteFault::OutOfMemory {
             taken: stopped.taken,
         }),
-    }
-}
-
-/// The outcome of a reply that is refused, or that there is no memory for.
-pub(crate) fn refuse<A: Allocator + Copy>(
-    alloc: A,
-    fault: ReplyFault,
-) -> Result<Outcome<A>, SiteFault>
-    ensures { SaysRefusal fault result }
-{
-    match fault {
-        ReplyFault::Refused(refusal) => Ok(Outcome::without_packets(alloc, 0, Some(refusal))),
-        ReplyFault::NoMemory => Err(SiteFault::OutOfMemory { taken: 0 }),
     }
 }

@@ -10,7 +10,7 @@ use Rattle.fleet_gossip.specs.Packed.{IsPacked}
 use Rattle.fleet_cache.specs.Cached.{IsCached, CacheData}
 use Rattle.fleet_pending.specs.Asking.{Settles}
 use Rattle.fleet_pending.specs.PendingData.{EntryData, PendingData}
-use Rattle.fleet_site.specs.OutcomeData.{OutcomeData, refusal}
+use Rattle.fleet_site.specs.OutcomeData.{OutcomeData}
 use Rattle.fleet_site.specs.reply.Reply.{relay_to, Replied}
 use Rattle.fleet_site.specs.SiteModel.{Effect, refuses}
 use Rattle.fleet_site.specs.declared.digested.ReplyFault.{ReplyFault}
@@ -59,10 +59,3 @@ IsRelayFor r s old (Ok o) cache new =
 IsRelayFor r s old (Err (OutOfMemory taken)) cache new =
     (taken < length r.observed.items) × (new ≡ old)
     × IsCached (take taken r.observed.items ++ s) cache.floor cache.items
-
--- the refusal is said, or there was no memory and nothing was taken
-abbrev pub SaysRefusal : ReplyFault → Result OutcomeData SiteFault → Type 0
-SaysRefusal (Refused r) (Ok o) = o ≡ refusal r
-SaysRefusal (Refused r) (Err f) = ⊥
-SaysRefusal NoMemory (Ok o) = ⊥
-SaysRefusal NoMemory (Err (OutOfMemory taken)) = taken ≡ 0
