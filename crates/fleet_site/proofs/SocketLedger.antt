@@ -8,12 +8,12 @@ use Rattle.fleet_pending.specs.declared.addr.Addr.{Addr}
 use Rattle.fleet_site.specs.ConfigData.{ConfigData}
 use Rattle.fleet_site.specs.PacketData.{PacketData}
 use Rattle.fleet_site.specs.declared.port.PortFault.{PortFault}
-use Rattle.fleet_site.specs.server.PortRecord.{PortCall, Received, NoDatagram, Fault, PacketSent, PacketLost, receive_of, send_of}
+use Rattle.fleet_site.specs.server.PortRecord.{PortCall, Received, NoDatagram, Fault, PacketSent, PacketLost, receive_of, send_of, Fills}
 use Rattle.fleet_site.specs.server.Sending.{IsSend}
 use Rattle.fleet_site.specs.server.Turn.{ROOM}
 use Rattle.fleet_site.specs.server.Replies.{IsClient, RepliesTo, RepliesOnce}
 use Rattle.fleet_site.specs.socket.SocketRecord.{SocketCall, Came, NoneCame, Failed, Sent, Unsent, ClockRead, Paused, Switched, departure_of}
-use Rattle.fleet_site.specs.socket.Waiting.{Datagram, Arrived, with_one, without_one, Takes, is_long, is_frame, arrivals_of, departures_of, Fills, TookOut}
+use Rattle.fleet_site.specs.socket.Waiting.{Datagram, Arrived, with_one, without_one, Takes, is_long, is_frame, arrivals_of, departures_of, TookOut}
 use Rattle.fleet_site.specs.socket.Bursts.{BurstData, arrived_of, turn_begun, Worked, HandsNextOn, Waits, Passes}
 use Rattle.fleet_site.specs.socket.Flow.{PortStep, port_calls, socket_calls, Receiving, Sending, GoesOn, FlowsOn, Flows}
 use Rattle.fleet_site.specs.socket.Clients.{as_port_calls}

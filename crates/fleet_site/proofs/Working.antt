@@ -8,9 +8,9 @@ use Rattle.std.proofs.lemmas.List.{append-nil, length-take-le, take_all}
 use Rattle.fleet_pending.specs.declared.addr.Addr.{Addr}
 use Rattle.fleet_site.specs.PacketData.{PacketData}
 use Rattle.fleet_site.specs.declared.port.PortFault.{PortFault}
-use Rattle.fleet_site.specs.server.PortRecord.{failures_after, one_more}
+use Rattle.fleet_site.specs.server.PortRecord.{failures_after, one_more, Fills}
 use Rattle.fleet_site.specs.socket.SocketRecord.{SocketCall, Came, NoneCame, Failed, Sent, Unsent, ClockRead, Switched, SocketState, Called, mode_after, arrival_of, departure_of}
-use Rattle.fleet_site.specs.socket.Waiting.{Datagram, Arrived, with_one, without_one, OthersWait, Takes, Joins, TookOut, HandsOn, Fills, is_frame, messages_of, arrivals_of, departures_of}
+use Rattle.fleet_site.specs.socket.Waiting.{Datagram, Arrived, with_one, without_one, OthersWait, Takes, Joins, TookOut, HandsOn, is_frame, messages_of, arrivals_of, departures_of}
 use Rattle.fleet_site.specs.socket.Pace.{Burst, is_over, after, Paces}
 use Rattle.fleet_site.specs.declared.bursts.TheConstants.{BURST}
 use Rattle.fleet_site.specs.socket.Window.{next_turn}

@@ -4,12 +4,11 @@ use Rattle.std.specs.Prelude.{◌≡◌, ◌⊎◌, ℕ, zero, suc, ◌-◌, min
 use Rattle.fleet_name.specs.Types.{OctetList}
 use Rattle.fleet_wire.specs.Types.{Seconds}
 use Rattle.fleet_pending.specs.declared.addr.Addr.{Addr}
-use Rattle.fleet_site.specs.server.PortRecord.{PortCall, Received, NoDatagram, Fault, PacketSent, PacketLost}
+use Rattle.fleet_site.specs.server.PortRecord.{PortCall, Received, NoDatagram, Fault, PacketSent, PacketLost, Fills}
 use Rattle.fleet_site.specs.declared.port.PortFault.{PortFault}
 use Rattle.fleet_site.specs.declared.memory_port.Note.{Note}
 use Rattle.fleet_site.specs.declared.memory_port.Note.TheVariants as note
 use Rattle.fleet_site.specs.declared.memory_port.MemoryPort.{MemoryPort}
-use Rattle.fleet_site.specs.socket.Waiting.{Fills}
 
 -- the moment at a place of a list, and the last one from there on; 0 where the list is empty
 abbrev pub moment_of : List Seconds → ℕ → Seconds

@@ -1,6 +1,6 @@
 -- The record of a port: what it was asked, and how each call ended.
 -- Serves `Port`.
-use Rattle.std.specs.Prelude.{◌≡◌, ℕ, ◌+◌, min, List, [], ◌∷◌, ◌++◌, Option, Some, None, Result, Ok, Err, take}
+use Rattle.std.specs.Prelude.{◌≡◌, ℕ, ◌+◌, min, List, [], ◌∷◌, ◌++◌, Option, Some, None, Result, Ok, Err, length, take}
 use Rattle.fleet_name.specs.Types.{OctetList}
 use Rattle.fleet_pending.specs.declared.addr.Addr.{Addr}
 use Rattle.fleet_site.specs.declared.bounds.TheConstants.{MOST_COUNTED}
@@ -27,6 +27,12 @@ abbrev pub receive_of : ℕ → Result (Option (Addr × ℕ)) PortFault → Octe
 receive_of asked (Ok None) buffer = NoDatagram asked
 receive_of asked (Ok (Some p)) buffer = Received asked p.0 (take p.1 buffer)
 receive_of asked (Err e) buffer = Fault asked
+
+-- the datagram is handed on, cut to a length, at the front of the buffer
+abbrev pub Fills : ℕ → (Addr × OctetList) → Option (Addr × ℕ) → OctetList → Type 0
+Fills asked d got buffer =
+    (got ≡ Some (d.0, min (length d.1) asked))
+    × (take (min (length d.1) asked) buffer ≡ take asked d.1)
 
 -- the call is a receive that asked for this number of octets
 abbrev pub HasRoomFor : ℕ → PortCall → Type 0

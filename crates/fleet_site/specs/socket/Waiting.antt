@@ -1,11 +1,11 @@
 -- Datagrams that wait in a port, each with the address that it came from or goes to.
 -- Serves `BurstPort`.
-use Rattle.std.specs.Prelude.{◌≡◌, ◌≢◌, ◌⊎◌, ℕ, min, Bool, true, false, ◌&&◌, eqb, ltb, cond, List, [], ◌∷◌, ◌++◌, length, take, Option, Some, None}
+use Rattle.std.specs.Prelude.{◌≡◌, ◌≢◌, ◌⊎◌, ℕ, Bool, true, false, ◌&&◌, eqb, ltb, cond, List, [], ◌∷◌, ◌++◌, length, Option, Some, None}
 use Rattle.std.specs.List.{list_any}
 use Rattle.fleet_name.specs.Types.{OctetList}
 use Rattle.fleet_pending.specs.declared.addr.Addr.{Addr}
 use Rattle.fleet_wire.specs.declared.bounds.TheConstants.{LONGEST_MESSAGE}
-use Rattle.fleet_site.specs.server.PortRecord.{one_more}
+use Rattle.fleet_site.specs.server.PortRecord.{one_more, Fills}
 use Rattle.fleet_site.specs.socket.SocketRecord.{SocketCall, Came, NoneCame, Failed, Sent, Unsent, ClockRead, Paused, Switched}
 use Rattle.fleet_site.specs.declared.queue.TheConstants.{MOST_WAITING}
 
@@ -114,12 +114,6 @@ abbrev pub Sifts : List Datagram → List Datagram → ℕ → ℕ → Type 0
 Sifts [] kept n m = (kept ≡ []) × (m ≡ n)
 Sifts (d ∷ ds) kept n m =
     ((rest : List Datagram) × (kept ≡ d ∷ rest) × Sifts ds rest n m) ⊎ Sifts ds kept (one_more n) m
-
--- the datagram is handed on, cut to a length, at the front of the buffer
-abbrev pub Fills : ℕ → Datagram → Option (Addr × ℕ) → OctetList → Type 0
-Fills asked d got buffer =
-    (got ≡ Some (d.0, min (length d.1) asked))
-    × (take (min (length d.1) asked) buffer ≡ take asked d.1)
 
 -- a datagram that may be there, as a list
 abbrev pub at_most_one : Option Datagram → List Datagram
