@@ -71,7 +71,8 @@ pub(crate) fn take_question_into<A: Allocator + Copy>(
         datagram.now.word datagram.now.octets.now) (IsAsking datagram.now.octets.now) pending.old
         (handled_result datagram.now.from out.new.items result) pending.new }
     ensures in_place { (s : Observations) → IsCached s cache.now.floor cache.now.items
-        → IsPlainHit s datagram.now.moment datagram.now.octets.now → IfOk result (λ h. IsInPlace h) }
+        → IsPlainHit s datagram.now.moment datagram.now.octets.now
+        → IfOk result (λ h. IsInPlace h) }
     ensures table { KeepsTable pending.old pending.new }
 {
     match decide_plain(cache, datagram.moment, datagram.octets, out) {

@@ -252,7 +252,8 @@ impl<A: Allocator + Copy> Site<A> {
 
     /// Does with a datagram what its sender calls for.
     fn dispatch(&mut self, sender: Sender, datagram: &Datagram<'_>) -> Result<Outcome<A>, SiteFault>
-        requires { IsSender self.old.config.upstreams self.old.config.peers datagram.now.from sender }
+        requires { IsSender self.old.config.upstreams self.old.config.peers datagram.now.from
+            sender }
         ensures follows { (m : SiteModel) → StandsFor self.old m
             → Follows m (a_datagram datagram.now.moment datagram.now.from datagram.now.octets.now
             datagram.now.word) result self.new }
