@@ -28,8 +28,8 @@ pub const BURST: usize = 2;
 // Lets through: another number, since the clauses cite the constant by its name. The tested body
 // `pause_of_two_milliseconds` has 2; a case of `tests/run` (`test_bursts`) sees it.
 /// How many milliseconds lie between two bursts of a port. To sleep between sends would stop the site
-/// for the length of a sweep. The time-out of a receive is no pause either, since the system counts it in
-/// ticks: one of a millisecond took eight.
+/// for the length of a sweep. The time-out of a receive is no pause either, since the system counts it
+/// in ticks: one of a millisecond took eight.
 pub const PAUSE: u64 = 1;
 
 // Lets through: another number. A receive may look once, or without end while frames wait. The tested
@@ -46,8 +46,8 @@ const MOST_AT_ONCE: usize = 1024;
 
 // Lets through: another number. The tested body `port_drops_without_end` has 5; the test
 // `what_has_no_room_is_dropped` sees it.
-/// How many messages are dropped at a time at most. With more there is less time for answers; where only
-/// what has room is taken in, the system drops frames and questions alike (bench/hostile).
+/// How many messages are dropped at a time at most. With more there is less time for answers; where
+/// only what has room is taken in, the system drops frames and questions alike (bench/hostile).
 const MOST_DROPPED: u64 = 4;
 
 /// A socket, and what waits either way: what came in after a frame, and frames that are to be sent.
@@ -134,7 +134,8 @@ impl<S: Socket + Drop, A: Allocator + Copy> Bursts<S, A> {
     fn receive(&mut self, buffer: &mut [u8]) -> Result<Option<(Addr, usize)>, PortFault>
         ensures within { IfOk result (λ got. IfSome got (λ p. p.1 ≤ length buffer.old)) }
         ensures called { Called (S.state self.old.socket) (S.state self.new.socket)
-            (arrival_of (S.state self.old.socket).waits (length buffer.old) result buffer.new ∷ []) }
+            (arrival_of (S.state self.old.socket).waits (length buffer.old) result buffer.new
+            ∷ []) }
         ensures rest { self.new ≡ record self.old {
           socket = self.new.socket;
           failed = failures_after result self.old.failed;

@@ -61,7 +61,8 @@ impl<A: Allocator + Copy> MemoryLog<A> {
 
     /// The record of a log, while it keeps one.
     pub fn notes(&self) -> Option<&[Note<A>]>
-        ensures { MatchOption result (record_of_notes self.now.is_noting self.now.notes.items ≡ None)
+        ensures { MatchOption result
+            (record_of_notes self.now.is_noting self.now.notes.items ≡ None)
             (λ notes. record_of_notes self.now.is_noting self.now.notes.items
             ≡ Some (map call_of notes.now)) }
     {
@@ -76,8 +77,8 @@ impl<A: Allocator + Copy> MemoryLog<A> {
     // `a_port_over_a_socket_notes_its_calls`, which compares logs, fails.
     /// Keeps a note, or keeps no record from now on.
     fn note(&mut self, note: Note<A>)
-        ensures { NotesAll (record_of_notes self.old.is_noting self.old.notes.items) (call_of note ∷ [])
-            (record_of_notes self.new.is_noting self.new.notes.items) }
+        ensures { NotesAll (record_of_notes self.old.is_noting self.old.notes.items)
+            (call_of note ∷ []) (record_of_notes self.new.is_noting self.new.notes.items) }
     {
         if self.is_noting {
             self.is_noting = self.notes.push(note).is_ok();

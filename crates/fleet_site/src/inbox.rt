@@ -40,7 +40,8 @@ impl<A: Allocator + Copy> Inbox<A> {
 
     /// Whether all that came was handed on.
     pub fn is_empty(&self) -> bool
-        ensures { IsTrue result ↔ ((waiting_messages self.now ≡ []) × (waiting_frames self.now ≡ [])) }
+        ensures { IsTrue result
+            ↔ ((waiting_messages self.now ≡ []) × (waiting_frames self.now ≡ [])) }
     {
         self.messages.is_empty()
             && self.frames.is_empty()

@@ -15,8 +15,8 @@ const MOST_RESERVED: u64 = 2047;
 /// Which of the frames of a turn wait to be sent, where they do not all find room: those from one on,
 /// and of those before it as many as leave room for these. All else goes out at once, and so does what
 /// finds no room or no memory. The window of the next sweep begins with the first frame that this one
-/// missed, so that it is not the same frames each time that go out without a pause. Where sweeps of very
-/// different sizes alternate, the last frames of the larger one may never wait.
+/// missed, so that it is not the same frames each time that go out without a pause. Where sweeps of
+/// very different sizes alternate, the last frames of the larger one may never wait.
 #[derive(Clone, Copy, PartialEq, Eq, Debug)]
 pub struct Window {
     begins: u64,

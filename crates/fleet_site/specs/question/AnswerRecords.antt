@@ -60,7 +60,8 @@ WritesRecords h q chain set octets =
 
 -- the octets of a denial: the links in the answer section, and the SOA in the authority section
 -- (RFC 2308 6)
-abbrev pub WritesDenial : Header → ℕ → QuestionData → List ShownData → ShownData → OctetList → Type 0
+abbrev pub WritesDenial : Header → ℕ → QuestionData → List ShownData → ShownData
+    → OctetList → Type 0
 WritesDenial h rcode q chain soa octets =
     (links : List RecordData) × (r : RecordData) × AreChainRows chain links × IsSoaRow soa r
     × (octets ≡ octets_of_outline

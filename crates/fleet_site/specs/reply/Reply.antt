@@ -39,19 +39,19 @@ relay_to g w = record {
 
 -- every waiter gets the reply in order of joining, the observations go out packed and are taken, and
 -- the entry is settled. So it is whatever the reply's code: no further upstream is asked
-pub record Relays (o : PendingData) (t : Seconds) (e : EntryData) (g : DigestData) (d : Effect) : Type 0
-  where
-    pub brings : d.brings ≡ reply_observations g t
-    pub frames : IsPacked d.brings d.says.frames
-    pub says : d.says
-        ≡ record {
-          packets = map (relay_to g) e.waiters;
-          frames = d.says.frames;
-          taken = length d.brings;
-          refused = None;
-          more = false;
-        }
-    pub settles : Settles o e.id (Some e) d.asking
+pub record Relays (o : PendingData) (t : Seconds) (e : EntryData) (g : DigestData) (d : Effect)
+    : Type 0 where
+  pub brings : d.brings ≡ reply_observations g t
+  pub frames : IsPacked d.brings d.says.frames
+  pub says : d.says
+      ≡ record {
+        packets = map (relay_to g) e.waiters;
+        frames = d.says.frames;
+        taken = length d.brings;
+        refused = None;
+        more = false;
+      }
+  pub settles : Settles o e.id (Some e) d.asking
 
 -- what follows holds of the entry that the reply is for: by the upstream that was asked, the identifier
 -- and the question (RFC 1035 7.3)

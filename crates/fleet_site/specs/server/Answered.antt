@@ -44,8 +44,8 @@ pub record WantsRecursion (h : Header) (q : QuestionData) : Type 0 where
 
 -- who asked gets a reply at once, or waits: with this very question, unless it waited for the same name
 -- and type already, and then shares the reply to the question before
-pub data RepliesOrWaits (m : SiteModel) (from : Addr) (octets : OctetList) (o : OutcomeData) (n : SiteModel)
-    : Type 0 where
+pub data RepliesOrWaits (m : SiteModel) (from : Addr) (octets : OctetList) (o : OutcomeData)
+    (n : SiteModel) : Type 0 where
   gets_reply : (reply : OctetList) → o.packets ≡ packet_to from reply → RepliesTo octets reply
       → RepliesOrWaits m from octets o n
   is_waiting : (q : QuestionData) (past : Place) → IsQuery octets (header_of octets) q past
@@ -58,13 +58,15 @@ pub data RepliesOrWaits (m : SiteModel) (from : Addr) (octets : OctetList) (o : 
 -- is there
 abbrev pub AllReplyOrWait : Type 0
 AllReplyOrWait =
-    (m n : SiteModel) (now : Seconds) (from : Addr) (octets : OctetList) (word : ℕ) (o : OutcomeData)
+    (m n : SiteModel) (now : Seconds) (from : Addr) (octets : OctetList) (word : ℕ)
+    (o : OutcomeData)
     → IsClient (record { upstreams = m.upstreams; peers = m.peers }) from → IsAsking octets
     → Step m (datagram now from octets word) (Ok o) n → RepliesOrWaits m from octets o n
 
 -- a reply that an entry waits for: from the upstream that it asks then, under its identifier, for its
 -- name and type, with nothing wrong
-pub record IsAwaited (m : SiteModel) (e : EntryData) (from : Addr) (octets : OctetList) : Type 0 where
+pub record IsAwaited (m : SiteModel) (e : EntryData) (from : Addr) (octets : OctetList)
+    : Type 0 where
   pub upstream : At m.upstreams e.upstream from
   pub message : MessageData
   pub reads : IsReply octets message
@@ -76,8 +78,8 @@ pub record IsAwaited (m : SiteModel) (e : EntryData) (from : Addr) (octets : Oct
 -- there
 abbrev pub RelayedAtOnce : Type 0
 RelayedAtOnce =
-    (m n : SiteModel) (now : Seconds) (from : Addr) (octets : OctetList) (word : ℕ) (o : OutcomeData)
-    (w : WaiterData) → IsLawfulModel m → (h : IsWaiting m.pending w)
+    (m n : SiteModel) (now : Seconds) (from : Addr) (octets : OctetList) (word : ℕ)
+    (o : OutcomeData) (w : WaiterData) → IsLawfulModel m → (h : IsWaiting m.pending w)
     (r : IsAwaited m h.entry from octets) → Step m (datagram now from octets word) (Ok o) n
     → Has o.packets (relay_to r.digest w)
 

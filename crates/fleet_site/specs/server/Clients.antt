@@ -30,7 +30,8 @@ RunsAreTurns = (moments : Option (ℕ → ℕ)) (words : Stream) (every : Second
     (a b : ServerState) → Turns moments words every n a b → TurnsLead a b
 
 -- one of these turns received the datagram, by the call at this place, and gave it to the site
-pub record IsGivenIn (first last : ServerState) (k : ℕ) (from : Addr) (octets : OctetList) : Type 0 where
+pub record IsGivenIn (first last : ServerState) (k : ℕ) (from : Addr) (octets : OctetList)
+    : Type 0 where
   pub a : ServerState
   pub b : ServerState
   pub now : Seconds

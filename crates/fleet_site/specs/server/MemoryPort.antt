@@ -38,8 +38,8 @@ Arrives asked (None ∷ behind) got buffer = got ≡ None
 Arrives asked (Some a ∷ behind) got buffer = Fills asked a got buffer
 
 -- a receive uses up the arrival whose turn it is, and one that failed uses up none
-abbrev pub Gives : ℕ → List (Option (Addr × OctetList)) → Result (Option (Addr × ℕ)) PortFault → OctetList
-    → List (Option (Addr × OctetList)) → Type 0
+abbrev pub Gives : ℕ → List (Option (Addr × OctetList))
+    → Result (Option (Addr × ℕ)) PortFault → OctetList → List (Option (Addr × OctetList)) → Type 0
 Gives asked before (Ok got) buffer left = Arrives asked before got buffer × (left ≡ drop 1 before)
 Gives asked before (Err e) buffer left = left ≡ before
 

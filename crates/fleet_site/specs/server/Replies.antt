@@ -35,7 +35,8 @@ SentAt calls k p = (call : PortCall) × At calls k call × IsSend p call
 
 -- the question that is read of what was asked: the Opcode is 0, and it is a query without a fault
 abbrev pub IsReadAs : OctetList → QuestionData → Type 0
-IsReadAs asked q = ((header_of asked).opcode ≡ 0) × (past : Place) × IsQuery asked (header_of asked) q past
+IsReadAs asked q =
+    ((header_of asked).opcode ≡ 0) × (past : Place) × IsQuery asked (header_of asked) q past
 
 -- the question that was asked, octet for octet as it is spelled there; none where none is read
 abbrev pub Echoes : OctetList → Option QuestionData → Type 0
@@ -44,16 +45,16 @@ Echoes asked (Some q) = IsReadAs asked q
 
 -- octets that reply to a question, never to a reply: with its identifier, Opcode and RD
 -- (RFC 1035 4.1.1), a question that echoes it so, and at most LONGEST_MESSAGE octets (RFC 1035 2.3.4)
-pub record RepliesWith (Echo : OctetList → Option QuestionData → Type 0) (asked octets : OctetList) : Type 0
-  where
-    pub asks : IsAsking asked
-    pub outline : OutlineData
-    pub written : octets ≡ octets_of_outline outline
-    pub id : outline.id ≡ (header_of asked).id
-    pub opcode : outline.opcode ≡ (header_of asked).opcode
-    pub rd : outline.rd ≡ (header_of asked).rd
-    pub question : Echo asked outline.question
-    pub short : length octets ≤ LONGEST_MESSAGE
+pub record RepliesWith (Echo : OctetList → Option QuestionData → Type 0) (asked octets : OctetList)
+    : Type 0 where
+  pub asks : IsAsking asked
+  pub outline : OutlineData
+  pub written : octets ≡ octets_of_outline outline
+  pub id : outline.id ≡ (header_of asked).id
+  pub opcode : outline.opcode ≡ (header_of asked).opcode
+  pub rd : outline.rd ≡ (header_of asked).rd
+  pub question : Echo asked outline.question
+  pub short : length octets ≤ LONGEST_MESSAGE
 
 -- octets that reply to a question, with the question in its own spelling
 abbrev pub RepliesTo : OctetList → OctetList → Type 0

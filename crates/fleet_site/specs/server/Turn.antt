@@ -29,7 +29,8 @@ pub data TurnStep : Type 0 where
 -- a sweep gives the frames of all that is held, and changes nothing; it may run out of memory
 abbrev pub SweepSays : SiteModel → Result OutcomeData SiteFault → SiteModel → Type 0
 SweepSays m (Ok e) n =
-    (frames : List OctetList) × IsSweep m frames × (e ≡ record nothing { frames = frames }) × (n ≡ m)
+    (frames : List OctetList) × IsSweep m frames
+    × (e ≡ record nothing { frames = frames }) × (n ≡ m)
 SweepSays m (Err (OutOfMemory taken)) n = (taken ≡ 0) × (n ≡ m)
 
 -- from m the step says this and leads to n
@@ -61,11 +62,13 @@ AllSent peers (a ∷ actions) = AreSent (packets_of peers a.answer) a.calls × A
 -- the steps in a row lead from m to n
 abbrev pub ActionsLead : SiteModel → List Action → SiteModel → Type 0
 ActionsLead m [] n = n ≡ m
-ActionsLead m (a ∷ actions) n = (mid : SiteModel) × TurnStepSays m a.step a.answer mid × ActionsLead mid actions n
+ActionsLead m (a ∷ actions) n =
+    (mid : SiteModel) × TurnStepSays m a.step a.answer mid × ActionsLead mid actions n
 
 -- the site took these steps, and all that they gave was sent or lost
 pub record HasActed (old new : SiteData) (actions : List Action) : Type 0 where
-  pub steps : (m : SiteModel) → StandsFor old m → (n : SiteModel) × ActionsLead m actions n × StandsFor new n
+  pub steps : (m : SiteModel) → StandsFor old m
+      → (n : SiteModel) × ActionsLead m actions n × StandsFor new n
   pub config : new.config ≡ old.config
   pub sent : AllSent old.config.peers actions
 
@@ -78,12 +81,12 @@ Given t word (Fault asked) actions = actions ≡ []
 Given t word (PacketSent s) actions = ⊥
 Given t word (PacketLost s) actions = ⊥
 
--- ticks at a moment, each because the one before said that another question is due; and whether the last
--- one says so
+-- ticks at a moment, each because the one before said that another question is due; and whether the
+-- last one says so
 pub data Ticks (t : Seconds) : List Action → Bool → Type 0 where
   no_tick : Ticks t [] true
-  next_tick : {actions : List Action} (a : Action) → Ticks t actions true → a.step ≡ calling (tick t)
-      → Ticks t (actions ++ a ∷ []) (goes_on a.answer)
+  next_tick : {actions : List Action} (a : Action) → Ticks t actions true
+      → a.step ≡ calling (tick t) → Ticks t (actions ++ a ∷ []) (goes_on a.answer)
 
 -- it is time to sweep: this number of seconds has passed since a moment, and it is not 0
 pub record IsSweepDue (every since t : Seconds) : Type 0 where
@@ -110,8 +113,8 @@ pub record ServerState : Type 0 where
 abbrev pub ROOM : ℕ
 ROOM = LONGEST_FRAME + 1
 
--- One turn of a server, at a moment with a word: it receives at most one datagram, for which it asks for
--- ROOM octets, and gives it to the site; ticks, at most MOST_ENTRIES times; and sweeps if it is
+-- One turn of a server, at a moment with a word: it receives at most one datagram, for which it asks
+-- for ROOM octets, and gives it to the site; ticks, at most MOST_ENTRIES times; and sweeps if it is
 -- time. What a step gives is sent before the next step.
 pub record Turn (t : Seconds) (word : ℕ) (every : Seconds) (a b : ServerState) : Type 0 where
   pub arrival : PortCall
@@ -155,7 +158,8 @@ HasPassed (Some moments) n now =
 -- this number of turns in a row, each with its moment and its word
 abbrev pub Turns : Option (ℕ → ℕ) → Stream → Seconds → ℕ → ServerState → ServerState → Type 0
 Turns moments s every zero a b = b ≡ a
-Turns moments s every (suc n) a b = (mid : ServerState) × (t : Seconds) × Turns moments s every n a mid
+Turns moments s every (suc n) a b =
+    (mid : ServerState) × (t : Seconds) × Turns moments s every n a mid
     × IsMomentOfTurn moments n t × Turn t (word_of s n) every mid b
 
 -- a report that counted nothing yet

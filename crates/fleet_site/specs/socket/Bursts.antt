@@ -41,13 +41,17 @@ has_waiting (d ∷ messages) frames = true
 -- pause, or the system refused to have receives return at once
 abbrev pub Works : (asked : ℕ) → (waits listened : Bool) → List SocketCall → Type 0
 Works asked waits listened [] = Unit {0}
-Works asked waits listened (Came w n from octets ∷ calls) = (w ≡ false) × (n ≡ asked) × Works asked true true calls
-Works asked waits listened (NoneCame w n ∷ calls) = (w ≡ false) × (n ≡ asked) × Works asked waits true calls
-Works asked waits listened (Failed w n ∷ calls) = (w ≡ false) × (n ≡ asked) × Works asked waits true calls
+Works asked waits listened (Came w n from octets ∷ calls) =
+    (w ≡ false) × (n ≡ asked) × Works asked true true calls
+Works asked waits listened (NoneCame w n ∷ calls) =
+    (w ≡ false) × (n ≡ asked) × Works asked waits true calls
+Works asked waits listened (Failed w n ∷ calls) =
+    (w ≡ false) × (n ≡ asked) × Works asked waits true calls
 Works asked waits listened (Sent s ∷ calls) = Works asked waits listened calls
 Works asked waits listened (Unsent s ∷ calls) = Works asked waits listened calls
 Works asked waits listened (ClockRead t ∷ calls) = Works asked waits listened calls
-Works asked waits listened (Paused ∷ calls) = (waits ≡ false) × (listened ≡ true) × Works asked waits false calls
+Works asked waits listened (Paused ∷ calls) =
+    (waits ≡ false) × (listened ≡ true) × Works asked waits false calls
 Works asked waits listened (Switched false false ∷ calls) = Works asked waits true calls
 Works asked waits listened (Switched false true ∷ calls) = Works asked waits listened calls
 Works asked waits listened (Switched true done ∷ calls) = Works asked waits listened calls
@@ -82,8 +86,10 @@ OnlyTakeIn asked (Switched true done ∷ calls) = ⊥
 -- a receive, which waits for a datagram or does not, and then others, which do not
 abbrev pub ReceivesFirst : (asked : ℕ) → (waits : Bool) → List SocketCall → Type 0
 ReceivesFirst asked waits [] = ⊥
-ReceivesFirst asked waits (Came w n from octets ∷ calls) = (w ≡ waits) × (n ≡ asked) × OnlyTakeIn asked calls
-ReceivesFirst asked waits (NoneCame w n ∷ calls) = (w ≡ waits) × (n ≡ asked) × OnlyTakeIn asked calls
+ReceivesFirst asked waits (Came w n from octets ∷ calls) =
+    (w ≡ waits) × (n ≡ asked) × OnlyTakeIn asked calls
+ReceivesFirst asked waits (NoneCame w n ∷ calls) =
+    (w ≡ waits) × (n ≡ asked) × OnlyTakeIn asked calls
 ReceivesFirst asked waits (Failed w n ∷ calls) = (w ≡ waits) × (n ≡ asked) × OnlyTakeIn asked calls
 ReceivesFirst asked waits (Sent s ∷ calls) = ⊥
 ReceivesFirst asked waits (Unsent s ∷ calls) = ⊥
@@ -136,10 +142,12 @@ pub record Worked (old new : BurstData) (calls : List SocketCall) : Type 0 where
 
 -- the next datagram that waits was handed on, cut to the buffer; a receive that failed handed nothing
 -- on
-abbrev pub HandsNextOn : ℕ → BurstData → Result (Option (Addr × ℕ)) PortFault → OctetList → BurstData → Type 0
+abbrev pub HandsNextOn : ℕ → BurstData → Result (Option (Addr × ℕ)) PortFault
+    → OctetList → BurstData → Type 0
 HandsNextOn asked old (Ok got) buffer new =
     (taken : Option Datagram) × TookOut old.messages old.frames taken new.messages new.frames
-    × HandsOn asked taken got buffer × (new ≡ record old { messages = new.messages; frames = new.frames })
+    × HandsOn asked taken got buffer
+    × (new ≡ record old { messages = new.messages; frames = new.frames })
 HandsNextOn asked old (Err e) buffer new = new ≡ old
 
 -- by the clock the burst that goes on has no room yet, or the clock can't be read
@@ -178,7 +186,8 @@ turn_begun p = record p { window = next_turn p.window }
 -- due
 abbrev pub Waits : PacketData → BurstData → Result (Unit {0}) PortFault → BurstData → Type 0
 Waits s old (Ok u) new =
-    ((new.places ≡ old.places) ⊎ ((new.places ≡ old.places + 1) × (is_due old.window old.places ≡ true)))
+    ((new.places ≡ old.places)
+    ⊎ ((new.places ≡ old.places + 1) × (is_due old.window old.places ≡ true)))
     × (new ≡ record old {
       leaving = old.leaving ++ (s.to, s.octets) ∷ [];
       places = new.places;
@@ -231,7 +240,8 @@ joined d p = record p {
 abbrev pub KeepsOrDrops : Datagram → BurstData → BurstData → Type 0
 KeepsOrDrops d old new =
     (new ≡ joined d old)
-    ⊎ (OthersWait (is_frame old.peers d) old.messages old.frames × (new ≡ record old { dropped = one_more old.dropped }))
+    ⊎ (OthersWait (is_frame old.peers d) old.messages old.frames
+    × (new ≡ record old { dropped = one_more old.dropped }))
 
 -- some calls of the socket were made, and the port worked by them
 pub record HasWorked (old new : BurstData) : Type 0 where
@@ -268,7 +278,8 @@ ListenedOrFull (Ok false) old calls new =
 ListenedOrFull (Err e) old calls new = Unit {0}
 
 -- the port took in what there was, as far as there was room
-pub record TookAll (asked : ℕ) (old : BurstData) (r : Result Bool PortFault) (new : BurstData) : Type 0 where
+pub record TookAll (asked : ℕ) (old : BurstData) (r : Result Bool PortFault) (new : BurstData)
+    : Type 0 where
   pub took : TookIn asked old new
   pub listened : ListenedOrFull r old took.calls new
 

@@ -24,7 +24,8 @@ use Rattle.fleet_site.specs.socket.Serving.{WholeRun}
 -- sent, or refused by the system
 abbrev pub as_port_calls : List SocketCall → List PortCall
 as_port_calls [] = []
-as_port_calls (Came w asked from octets ∷ calls) = Received ROOM from (take ROOM octets) ∷ as_port_calls calls
+as_port_calls (Came w asked from octets ∷ calls) =
+    Received ROOM from (take ROOM octets) ∷ as_port_calls calls
 as_port_calls (NoneCame w asked ∷ calls) = as_port_calls calls
 as_port_calls (Failed w asked ∷ calls) = as_port_calls calls
 as_port_calls (Sent s ∷ calls) = PacketSent s ∷ as_port_calls calls
@@ -42,8 +43,8 @@ RepliesOnceOverSockets =
 
 -- after the port call that handed the question on, the last of these, the socket was given a reply to
 -- it
-pub record IsAnsweredOver (steps : List PortStep) (handed : List PortCall) (from : Addr) (asked : OctetList)
-    : Type 0 where
+pub record IsAnsweredOver (steps : List PortStep) (handed : List PortCall) (from : Addr)
+    (asked : OctetList) : Type 0 where
   pub before : List PortStep
   pub behind : List PortStep
   pub all : steps ≡ before ++ behind
@@ -59,7 +60,8 @@ pub record IsAnsweredOver (steps : List PortStep) (handed : List PortCall) (from
 -- in the run
 abbrev pub QuestionsAnsweredOverSockets : Type 0
 QuestionsAnsweredOverSockets =
-    (calls : List SocketCall) (p : BurstData) (site : SiteData) (i : RunInput) (run : WholeRun calls p site i)
+    (calls : List SocketCall) (p : BurstData) (site : SiteData) (i : RunInput)
+    (run : WholeRun calls p site i)
     (a b z : ServerState) (t : Seconds) (word : ℕ) (every : Seconds) (turn : Turn t word every a b)
     (room : ℕ) (from : Addr) (octets : OctetList)
     → OwesNothing site → TurnsLead (start_of site) a → turn.arrival ≡ Received room from octets

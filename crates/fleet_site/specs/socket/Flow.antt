@@ -40,7 +40,8 @@ socket_calls [] = []
 socket_calls ((call, calls) ∷ steps) = calls ++ socket_calls steps
 
 -- a receive of a port made these calls of its socket, and was noted so
-pub record Receiving (asked : ℕ) (call : PortCall) (calls : List SocketCall) (old new : BurstData) : Type 0 where
+pub record Receiving (asked : ℕ) (call : PortCall) (calls : List SocketCall) (old new : BurstData)
+    : Type 0 where
   pub result : Result (Option (Addr × ℕ)) PortFault
   pub buffer : OctetList
   pub receives : Receives asked (turn_begun old) result buffer new
@@ -49,7 +50,8 @@ pub record Receiving (asked : ℕ) (call : PortCall) (calls : List SocketCall) (
 
 -- a send of a port made these calls of its socket, one at most, and was noted so; what made none is
 -- longer than a message
-pub record Sending (s : PacketData) (call : PortCall) (calls : List SocketCall) (old new : BurstData) : Type 0 where
+pub record Sending (s : PacketData) (call : PortCall) (calls : List SocketCall)
+    (old new : BurstData) : Type 0 where
   pub result : Result (Unit {0}) PortFault
   pub sends : SendsOrKeeps s old result new
   pub noted : call ≡ send_of result s
@@ -67,7 +69,8 @@ pub record Finishing (calls : List SocketCall) (old new : BurstData) : Type 0 wh
 -- the step does what it has to do: a receive, a send, or the sending of all that waits
 abbrev pub StepsTo : PortStep → BurstData → BurstData → Type 0
 StepsTo (None, calls) old new = Finishing calls old new
-StepsTo (Some (Received asked from octets), calls) old new = Receiving asked (Received asked from octets) calls old new
+StepsTo (Some (Received asked from octets), calls) old new =
+    Receiving asked (Received asked from octets) calls old new
 StepsTo (Some (NoDatagram asked), calls) old new = Receiving asked (NoDatagram asked) calls old new
 StepsTo (Some (Fault asked), calls) old new = Receiving asked (Fault asked) calls old new
 StepsTo (Some (PacketSent s), calls) old new = Sending s (PacketSent s) calls old new

@@ -21,7 +21,8 @@ HasRoom inbox octets = octets ≤ length inbox.spare.items
 -- a datagram was kept, after those of its kind; or others of its kind wait, and nothing changed
 abbrev pub Keeps : {A : Type 0} → Inbox A → Datagram → Bool → Bool → Inbox A → Type 0
 Keeps old d is_frame true new =
-    Joins is_frame (waiting_messages old) (waiting_frames old) d (waiting_messages new) (waiting_frames new)
+    Joins is_frame (waiting_messages old) (waiting_frames old) d
+    (waiting_messages new) (waiting_frames new)
 Keeps old d is_frame false new =
     OthersWait is_frame (waiting_messages old) (waiting_frames old)
     × (waiting_messages new ≡ waiting_messages old) × (waiting_frames new ≡ waiting_frames old)
@@ -29,9 +30,11 @@ Keeps old d is_frame false new =
 -- of what came in and waits the next one was taken out
 abbrev pub TakesNext : {A : Type 0} → Inbox A → Option Datagram → Inbox A → Type 0
 TakesNext old taken new =
-    TookOut (waiting_messages old) (waiting_frames old) taken (waiting_messages new) (waiting_frames new)
+    TookOut (waiting_messages old) (waiting_frames old) taken
+    (waiting_messages new) (waiting_frames new)
 
 -- of what came in and waits the next one was handed on, cut to the buffer
-abbrev pub HandsOnNext : {A : Type 0} → ℕ → Inbox A → Option (Addr × ℕ) → OctetList → Inbox A → Type 0
+abbrev pub HandsOnNext : {A : Type 0} → ℕ → Inbox A → Option (Addr × ℕ) → OctetList
+    → Inbox A → Type 0
 HandsOnNext asked old got buffer new =
     (taken : Option Datagram) × TakesNext old taken new × HandsOn asked taken got buffer

@@ -28,8 +28,13 @@ pub record OutboxData : Type 0 where
 -- that is not due, or finds no room or no memory, does not wait
 abbrev pub KeepsOrPasses : OutboxData → Datagram → Result Bool AllocError → OutboxData → Type 0
 KeepsOrPasses old d (Ok true) new =
-    ((new.places ≡ old.places) ⊎ ((new.places ≡ old.places + 1) × (is_due old.window old.places ≡ true)))
-    × (new ≡ record { waiting = old.waiting ++ d ∷ []; places = new.places; window = after_kept old.window })
+    ((new.places ≡ old.places)
+    ⊎ ((new.places ≡ old.places + 1) × (is_due old.window old.places ≡ true)))
+    × (new ≡ record {
+      waiting = old.waiting ++ d ∷ [];
+      places = new.places;
+      window = after_kept old.window;
+    })
 KeepsOrPasses old d (Ok false) new =
     ((is_due old.window old.places ≡ false) ⊎ (old.places ≡ MOST_PLACES))
     × (new ≡ record old { window = after_passed old.window })
@@ -38,7 +43,9 @@ KeepsOrPasses old d (Err e) new = new ≡ record old { window = after_passed old
 -- a frame waits or does not, as in `KeepsOrPasses`, and the window is as it was
 abbrev pub Puts : OutboxData → Datagram → Result Bool AllocError → OutboxData → Type 0
 Puts old d (Ok true) new =
-    ((new.places ≡ old.places) ⊎ ((new.places ≡ old.places + 1) × (is_due old.window old.places ≡ true)))
+    ((new.places ≡ old.places)
+    ⊎ ((new.places ≡ old.places + 1) × (is_due old.window old.places ≡ true)))
     × (new ≡ record { waiting = old.waiting ++ d ∷ []; places = new.places; window = old.window })
-Puts old d (Ok false) new = ((is_due old.window old.places ≡ false) ⊎ (old.places ≡ MOST_PLACES)) × (new ≡ old)
+Puts old d (Ok false) new =
+    ((is_due old.window old.places ≡ false) ⊎ (old.places ≡ MOST_PLACES)) × (new ≡ old)
 Puts old d (Err e) new = new ≡ old

@@ -28,7 +28,8 @@ after b (Failed w asked) = b
 after b (Sent s) = record { began = b.began; sent = b.sent + 1 }
 after b (Unsent s) = record { began = b.began; sent = b.sent + 1 }
 after b (ClockRead None) = b
-after b (ClockRead (Some now)) = cond (is_over b.began now) (record { began = Some now; sent = 0 }) b
+after b (ClockRead (Some now)) =
+    cond (is_over b.began now) (record { began = Some now; sent = 0 }) b
 after b Paused = fresh
 after b (Switched w done) = b
 

@@ -33,7 +33,8 @@ is_frame peers d = is_long d.1 && is_peer peers d.0
 -- of datagrams those that wait as messages, in their order
 abbrev pub messages_of : List Addr → List Datagram → List Datagram
 messages_of peers [] = []
-messages_of peers (d ∷ ds) = cond (is_frame peers d) (messages_of peers ds) (d ∷ messages_of peers ds)
+messages_of peers (d ∷ ds) =
+    cond (is_frame peers d) (messages_of peers ds) (d ∷ messages_of peers ds)
 
 -- of datagrams those that wait as frames, in their order
 abbrev pub frames_of : List Addr → List Datagram → List Datagram
@@ -72,7 +73,8 @@ Pushes old d true new = new ≡ old ++ d ∷ []
 Pushes old d false new = (length old ≡ MOST_WAITING) × (new ≡ old)
 
 -- a frame comes after the frames, and what is none after the messages
-abbrev pub Joins : Bool → List Datagram → List Datagram → Datagram → List Datagram → List Datagram → Type 0
+abbrev pub Joins : Bool → List Datagram → List Datagram → Datagram → List Datagram
+    → List Datagram → Type 0
 Joins true messages frames d new_messages new_frames =
     (new_frames ≡ frames ++ d ∷ []) × (new_messages ≡ messages)
 Joins false messages frames d new_messages new_frames =
@@ -121,7 +123,8 @@ at_most_one None = []
 at_most_one (Some d) = d ∷ []
 
 -- of what waits the first message was taken out, and where there is none the first frame
-abbrev pub TookOut : List Datagram → List Datagram → Option Datagram → List Datagram → List Datagram → Type 0
+abbrev pub TookOut : List Datagram → List Datagram → Option Datagram → List Datagram
+    → List Datagram → Type 0
 TookOut (d ∷ messages) frames taken new_messages new_frames =
     (taken ≡ Some d) × (new_messages ≡ messages) × (new_frames ≡ frames)
 TookOut [] (d ∷ frames) taken new_messages new_frames =

@@ -10,7 +10,14 @@ use Rattle.fleet_site.specs.declared.window.TheConstants.{FEW, MOST_RESERVED}
 
 -- the window at first: no frame came in this turn, and it begins with the first one
 abbrev pub whole_window : Window
-whole_window = record { begins = 0; reserved = 0; count = 0; missed = None; short = 0; has_passed = false }
+whole_window = record {
+  begins = 0;
+  reserved = 0;
+  count = 0;
+  missed = None;
+  short = 0;
+  has_passed = false;
+}
 
 -- whether the next frame of the turn is of the window
 abbrev pub is_inside : Window → Bool

@@ -13,15 +13,15 @@ use Rattle.fleet_site.specs.declared.tick.Plan.{Plan}
 use Rattle.fleet_site.specs.declared.tick.Plan.TheVariants.{Idle, Retry, Fail}
 
 -- the entry is the first due one, and its query goes to the next upstream
-pub record IsRetry (upstreams : List Addr) (o : PendingData) (t : Seconds) (id : ℕ) (e : OutcomeData) : Type 0
-  where
-    pub entry : EntryData
-    pub due : IsFirstDue o.entries t entry
-    pub id_is : id ≡ entry.id
-    pub there : Addr
-    pub next : At upstreams (entry.upstream + 1) there
-    pub further : entry.upstream + 1 < o.upstreams
-    pub says : e ≡ sends there (query_octets id (question_of entry))
+pub record IsRetry (upstreams : List Addr) (o : PendingData) (t : Seconds) (id : ℕ)
+    (e : OutcomeData) : Type 0 where
+  pub entry : EntryData
+  pub due : IsFirstDue o.entries t entry
+  pub id_is : id ≡ entry.id
+  pub there : Addr
+  pub next : At upstreams (entry.upstream + 1) there
+  pub further : entry.upstream + 1 < o.upstreams
+  pub says : e ≡ sends there (query_octets id (question_of entry))
 
 -- the entry is the first due one, and its waiters get a server failure
 pub record IsFailure (o : PendingData) (t : Seconds) (id : ℕ) (e : OutcomeData) : Type 0 where

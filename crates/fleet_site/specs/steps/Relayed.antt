@@ -20,7 +20,8 @@ use Rattle.fleet_site.specs.declared.outcome.SiteFault.TheVariants.{OutOfMemory}
 use Rattle.fleet_site.specs.declared.relay.Relay.{Relay}
 
 -- what a reply makes a site write for this entry
-pub record IsMade {A : Type 0} (g : DigestData) (t : Seconds) (e : EntryData) (r : Relay A) : Type 0 where
+pub record IsMade {A : Type 0} (g : DigestData) (t : Seconds) (e : EntryData) (r : Relay A)
+    : Type 0 where
   pub id : r.id ≡ e.id
   pub packets : r.packets ≡ map (relay_to g) e.waiters
   pub observed : r.observed.items ≡ reply_observations g t
@@ -37,8 +38,8 @@ relay_outcome r = record {
 }
 
 -- the entry of a relay is open, and with the entry settled the relay is what the octets are for
-pub record IsRelayOf {A : Type 0} (o : PendingData) (t : Seconds) (place : ℕ) (octets : OctetList) (r : Relay A)
-    : Type 0 where
+pub record IsRelayOf {A : Type 0} (o : PendingData) (t : Seconds) (place : ℕ) (octets : OctetList)
+    (r : Relay A) : Type 0 where
   pub opens : (e : Option EntryData) × ((n : PendingData) × Settles o r.id e n)
   pub told : (e : Option EntryData) (n : PendingData) → Settles o r.id e n
       → Replied o t place octets
