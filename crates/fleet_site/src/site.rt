@@ -226,20 +226,22 @@ impl<A: Allocator + Copy> Site<A> {
         ensures config { self.new.config ≡ self.old.config }
     {
         let sender = sender_of(&self.config, from);
-        let datagram = Datagram {
-            moment: now,
-            from,
-            word,
-            octets: bytes,
-        };
         if !is_asker(sender) {
+            let datagram = Datagram {
+                moment: now,
+                from,
+                word,
+                octets: bytes,
+            };
             return whole(self.dispatch(sender, &datagram));
         }
         let clock = self.clock.later(now);
         self.clock = clock;
         let datagram = Datagram {
             moment: clock,
-            ..datagram
+            from,
+            word,
+            octets: bytes,
         };
         take_question_into(
             &self.cache,
