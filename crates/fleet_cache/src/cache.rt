@@ -83,6 +83,8 @@ impl<A: Allocator> Cache<A> {
         }
     }
 
+    // Lets through: any allocator that the cache holds, since it has no clause. Each is a copy of that
+    // which `new` was given.
     /// The allocator that the cache was made with.
     pub fn allocator(&self) -> &A {
         &self.alloc

@@ -63,6 +63,8 @@ impl<A: Allocator> Pending<A> {
         }
     }
 
+    // Lets through: any allocator that the table holds, since it has no clause. Each is a copy of that
+    // which `new` was given.
     /// The allocator that the table was made with.
     pub fn allocator(&self) -> &A {
         self.entries.allocator()
