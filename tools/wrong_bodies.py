@@ -16,8 +16,9 @@ that a later run finds what the kit has built of it; runs of different crates ma
 
 crates/NAME/wrong-bodies/verdicts has a line for each: its verdict, a hash and its name. The hash is of what was judged: the
 body, how often each text that it replaces stands in its file, the src/, specs/ and proofs/ of its crate, what the crates
-below promise (promises.py says what that is), and the line of `rt version`. Comments and tests are no part of it. A line
-with any other hash is stale, those that an older form of this tool wrote among them.
+below promise (promises.py says what that is), and the kit's logic, the last word that `rt version` prints. Kits of one logic
+share their verdicts. Comments and tests are no part of the hash. A line with any other hash is stale, those that an older
+form of this tool wrote among them.
 
 With --only NAME (more than once, if need be) the bodies of that name alone; with --stale-only those alone whose verdict is
 stale; --jobs N shares the bodies of a crate out to N copies, each with a run of its own (FOLDER-2 is the second room). It ends
@@ -65,19 +66,20 @@ def bodies_of(name):
     return sorted((ROOT / "crates" / name / FOLDER).glob("*.edit"))
 
 
-def version():
-    """The line of `rt version`; empty where there is no kit, so that --stale says something there too."""
+def logic():
+    """The kit's logic, as `rt version` names it; empty where there is no kit, so that --stale says something there too."""
     try:
-        return subprocess.run(["rt", "version"], capture_output=True, text=True, check=False).stdout.strip()
+        line = subprocess.run(["rt", "version"], capture_output=True, text=True, check=False).stdout
     except OSError:
         return ""
+    return line.partition(" logic ")[2].strip()
 
 
 class States:
     """What the verdicts of each crate rest on, but the body itself. Each source file is read once."""
 
     def __init__(self, below):
-        self.below, self.version, self.promises, self.states = below, version(), {}, {}
+        self.below, self.logic, self.promises, self.states = below, logic(), {}, {}
 
     def promise(self, name):
         if name not in self.promises:
@@ -88,7 +90,7 @@ class States:
         if name not in self.states:
             parts = {name: promises.whole(ROOT / "crates" / name)}
             parts.update((it, self.promise(it)) for it in all_below(self.below, name) - {name})
-            state = hashlib.sha256(self.version.encode())
+            state = hashlib.sha256(self.logic.encode())
             for crate, told in sorted(parts.items()):
                 for place, text in sorted(told.items()):
                     octets = text.encode()
