@@ -189,7 +189,7 @@ def try_share(room, lines, below, name, bodies, note):
 
 def try_crate(rooms, lines, states, name, bodies):
     """Tries bodies of a crate, shared out to the rooms; says whether each was refused."""
-    verdicts, refused, lock = read_verdicts(name), set(), threading.Lock()
+    refused, lock = set(), threading.Lock()
     stamps = {it.stem: states.stamp(it) for it in bodies}
 
     def note(line, body, told):
@@ -197,8 +197,8 @@ def try_crate(rooms, lines, states, name, bodies):
         with lock:
             print(line.replace("must-fail", "wrong body", 1), flush=True)
             if told in KEPT:
-                verdicts[body] = (KEPT[told], stamps[body])
-                write_verdicts(name, verdicts)
+                # Read again, since another run may have tried other bodies of the crate meanwhile.
+                write_verdicts(name, {**read_verdicts(name), body: (KEPT[told], stamps[body])})
             if told == "refused":
                 refused.add(body)
 
