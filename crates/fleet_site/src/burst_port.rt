@@ -2,12 +2,14 @@
 
 ghost use Rattle.std.specs.Prelude.{◌≡◌, ◌≤◌, [], ◌∷◌, IfOk, IfSome, length, Some};
 ghost use Rattle.fleet_site.specs.server.PortRecord.{NotesAll, receive_of, send_of, failures_after};
+ghost use Rattle.fleet_site.specs.socket.Bursts.{queued_in};
 ghost use Rattle.fleet_site.specs.socket.Flow.{FlowsIfNoted};
 ghost use Rattle.fleet_site.specs.socket.Parts.{data_of};
 
 use crate::bursts::Bursts;
 use crate::call_log::CallLog;
 use crate::port::{Port, PortFault};
+use crate::queued::Queued;
 use crate::socket::Socket;
 use fleet_pending::Addr;
 use std::alloc::{Allocator, Global};
@@ -82,6 +84,13 @@ impl<S: Socket + Drop, L: CallLog + Drop, A: Allocator + Copy> BurstPort<S, L, A
         self.bursts.unpaced()
     }
 
+    /// How many datagrams wait in each queue of the port, and how many found no room.
+    pub fn queued(&self) -> Queued
+        ensures { result ≡ queued_in (data_of (S.state self.now.bursts.socket) self.now.bursts) }
+    {
+        self.bursts.queued()
+    }
+
     /// Sends all that waits to be sent; what the system refuses is lost, and is counted as failed. No
     /// log is told of it.
     pub fn finish(&mut self)
@@ -96,9 +105,12 @@ impl<S: Socket + Drop, L: CallLog + Drop, A: Allocator + Copy> Port for BurstPor
     /// It keeps the record that its log keeps.
     ghost state = { λ p. record { noted = L.noted p.log; failed = p.bursts.failed } };
 
+    // Lets through: other numbers of its queues than the log is told. The tested body
+    // `log_is_told_of_no_queue` tells of none; the test `a_log_is_told_what_waits` sees it.
     fn recv(&mut self, buffer: &mut [u8]) -> Result<Option<(Addr, usize)>, PortFault> {
         let got = self.bursts.recv(buffer);
-        self.log.note_receive(got, buffer);
+        let queued = self.bursts.queued();
+        self.log.note_receive(got, buffer, queued);
         got
     }
 

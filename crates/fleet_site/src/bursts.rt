@@ -6,7 +6,7 @@ ghost use Rattle.fleet_site.specs.socket.SocketRecord.{Called, Switched, ClockRe
 ghost use Rattle.fleet_site.specs.socket.Window.{whole_window};
 ghost use Rattle.fleet_site.specs.socket.Waiting.{is_frame};
 ghost use Rattle.fleet_site.specs.socket.Inbox.{HasRoom};
-ghost use Rattle.fleet_site.specs.socket.Bursts.{IsIdle, KeepsOrDrops, ReadsClock, Worked, HasWorked, Receives, SendsOrKeeps, SentSome, SentOn, Switches, TakesThenHandsOn, TookAll, WorksThenHandsOn, joined, turn_begun};
+ghost use Rattle.fleet_site.specs.socket.Bursts.{IsIdle, queued_in, KeepsOrDrops, ReadsClock, Worked, HasWorked, Receives, SendsOrKeeps, SentSome, SentOn, Switches, TakesThenHandsOn, TookAll, WorksThenHandsOn, joined, turn_begun};
 ghost use Rattle.std.specs.Duration.{as_nanos};
 ghost use Rattle.fleet_site.specs.socket.Pace.{is_over as pace_is_over};
 ghost use Rattle.fleet_site.specs.socket.Parts.{data_of};
@@ -14,6 +14,7 @@ ghost use Rattle.fleet_site.specs.socket.Parts.{data_of};
 use crate::inbox::Inbox;
 use crate::outbox::Outbox;
 use crate::port::PortFault;
+use crate::queued::Queued;
 use crate::socket::Socket;
 use fleet_pending::Addr;
 use fleet_wire::bounds::LONGEST_MESSAGE;
@@ -491,6 +492,19 @@ impl<S: Socket + Drop, A: Allocator + Copy> Bursts<S, A> {
         ensures { result ≡ self.now.unpaced }
     {
         self.unpaced
+    }
+
+    /// How many datagrams wait in each queue of the port, and how many found no room.
+    pub fn queued(&self) -> Queued
+        ensures { result ≡ queued_in (data_of (S.state self.now.socket) self.now) }
+    {
+        Queued {
+            messages: self.arrived.message_count(),
+            frames: self.arrived.frame_count(),
+            leaving: self.leaving.len(),
+            dropped: self.dropped,
+            unpaced: self.unpaced,
+        }
     }
 
     /// How many calls of a port failed, receives and sends.

@@ -6,6 +6,7 @@ ghost use Rattle.fleet_site.specs.server.MemoryPort.{call_of, record_of_notes};
 
 use crate::memory_port::Note;
 use crate::port::PortFault;
+use crate::queued::Queued;
 use fleet_name::Octets;
 use fleet_pending::Addr;
 use std::alloc::{Allocator, Global};
@@ -15,8 +16,14 @@ pub trait CallLog {
     /// The calls that it was told, while it keeps them all.
     ghost noted: { Self → Option (List PortCall) };
 
-    /// Notes that a receive ended, into a buffer that now holds these octets.
-    fn note_receive(&mut self, got: Result<Option<(Addr, usize)>, PortFault>, buffer: &[u8])
+    /// Notes that a receive ended, into a buffer that now holds these octets, and left the port's
+    /// queues so.
+    fn note_receive(
+        &mut self,
+        got: Result<Option<(Addr, usize)>, PortFault>,
+        buffer: &[u8],
+        queued: Queued,
+    )
         requires { IfOk got (λ got. IfSome got (λ p. p.1 ≤ length buffer.now)) }
         ensures { NotesAll (noted self.old) (receive_of (length buffer.now) got buffer.now ∷ [])
             (noted self.new) };
@@ -34,7 +41,12 @@ pub struct Unnoted;
 impl CallLog for Unnoted {
     ghost noted = { λ _. None };
 
-    fn note_receive(&mut self, _got: Result<Option<(Addr, usize)>, PortFault>, _buffer: &[u8]) {}
+    fn note_receive(
+        &mut self,
+        _got: Result<Option<(Addr, usize)>, PortFault>,
+        _buffer: &[u8],
+        _queued: Queued,
+    ) {}
 
     fn note_send(&mut self, _sent: Result<(), PortFault>, _to: Addr, _bytes: &[u8]) {}
 }
@@ -89,7 +101,12 @@ impl<A: Allocator + Copy> MemoryLog<A> {
 impl<A: Allocator + Copy> CallLog for MemoryLog<A> {
     ghost noted = { λ log. record_of_notes log.is_noting log.notes.items };
 
-    fn note_receive(&mut self, got: Result<Option<(Addr, usize)>, PortFault>, buffer: &[u8]) {
+    fn note_receive(
+        &mut self,
+        got: Result<Option<(Addr, usize)>, PortFault>,
+        buffer: &[u8],
+        _queued: Queued,
+    ) {
         let asked = buffer.len();
         match got {
             Err(_) => self.note(Note::Fault(asked)),

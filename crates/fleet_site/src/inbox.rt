@@ -2,6 +2,7 @@
 
 ghost use Rattle.std.specs.Prelude.{◌≡◌, ◌≢◌, ◌↔◌, ◌≤◌, [], ◌∷◌, ◌++◌, true, false, min, length, take, IsTrue, IfSome};
 ghost use Rattle.fleet_site.specs.socket.Inbox.{waiting_messages, waiting_frames, HasRoom, Keeps, TakesNext, HandsOnNext};
+ghost use Rattle.fleet_site.specs.socket.Waiting.{at_most_one};
 
 use crate::queue::Queue;
 use fleet_name::Octets;
@@ -47,6 +48,20 @@ impl<A: Allocator + Copy> Inbox<A> {
             && self.frames.is_empty()
             && self.late_message.is_none()
             && self.late_frame.is_none()
+    }
+
+    /// How many messages wait.
+    pub fn message_count(&self) -> usize
+        ensures { result ≡ length (waiting_messages self.now) }
+    {
+        count_of(&self.messages, &self.late_message)
+    }
+
+    /// How many frames wait.
+    pub fn frame_count(&self) -> usize
+        ensures { result ≡ length (waiting_frames self.now) }
+    {
+        count_of(&self.frames, &self.late_frame)
     }
 
     // Lets through: leaving what lies beside its queue there, so that others of its kind are dropped
@@ -211,6 +226,16 @@ impl<A: Allocator + Copy> Inbox<A> {
             Some((from, octets)) => Some((from, copy_to(&octets, buffer))),
             None => None,
         }
+    }
+}
+
+/// How many datagrams wait in a queue and beside it.
+fn count_of<A: Allocator + Copy>(queue: &Queue<A>, late: &Option<(Addr, Octets<A>)>) -> usize
+    ensures { result ≡ length (queue.now ++ at_most_one late.now) }
+{
+    match late {
+        Some(_) => queue.len() + 1,
+        None => queue.len(),
     }
 }
 

@@ -108,6 +108,13 @@ impl<A: Allocator + Copy> Outbox<A> {
         self.first().is_none()
     }
 
+    /// How many frames wait to be sent, each once for all that it goes to.
+    pub fn len(&self) -> usize
+        ensures { result ≡ self.now.places }
+    {
+        self.frames.len()
+    }
+
     /// Begins a turn, with the window of the next sweep where the last turn was one.
     pub fn begin_turn(&mut self)
         ensures { self.new ≡ record self.old { window = next_turn self.old.window } }

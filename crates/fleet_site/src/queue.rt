@@ -1,7 +1,8 @@
 //! Datagrams that wait in a port.
 
-ghost use Rattle.std.specs.Prelude.{◌≡◌, ◌↔◌, [], ◌∷◌, ◌++◌, IsTrue, IfOk, IfErr, OnErr, MatchOption, length, nat_le};
+ghost use Rattle.std.specs.Prelude.{◌≡◌, ◌≤◌, ◌↔◌, [], ◌∷◌, ◌++◌, IsTrue, IfOk, IfErr, OnErr, MatchOption, length, nat_le};
 ghost use Rattle.fleet_site.specs.socket.Waiting.{Pushes};
+ghost use Rattle.fleet_site.specs.declared.queue.TheConstants.{MOST_WAITING};
 
 use fleet_name::Octets;
 use fleet_pending::Addr;
@@ -48,6 +49,14 @@ impl<A: Allocator + Copy> Queue<A> {
         ensures { IsTrue result ↔ (self.now ≡ []) }
     {
         self.waiting.is_empty()
+    }
+
+    /// How many datagrams wait.
+    pub fn len(&self) -> usize
+        ensures len { result ≡ length self.now }
+        ensures few { result ≤ MOST_WAITING }
+    {
+        self.waiting.len()
     }
 
     /// Whether as many datagrams wait as may.

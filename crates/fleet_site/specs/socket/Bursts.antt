@@ -12,6 +12,7 @@ use Rattle.fleet_site.specs.socket.Window.{is_due, after_kept, after_passed, nex
 use Rattle.fleet_site.specs.socket.Pace.{Burst, after, Paces}
 use Rattle.fleet_site.specs.declared.bursts.TheConstants.{BURST}
 use Rattle.fleet_site.specs.declared.window.Window.{Window}
+use Rattle.fleet_site.specs.declared.queued.Queued.{Queued}
 
 -- what a port over a socket holds: the socket, the addresses of the peers, the messages and frames that
 -- came and were not handed on, how many were dropped, what is still to be sent and how many places that
@@ -214,6 +215,16 @@ pub record SendsOrKeeps (s : PacketData) (old : BurstData) (r : Result (Unit {0}
       → Called old.socket new.socket (departure_of r s ∷ [])
       × (new ≡ record old { socket = new.socket; failed = new.failed })
   pub longer : is_long s.octets ≡ true → Waits s old r new ⊎ Passes s old r new
+
+-- what waits in the queues of a port, and what found no room in them
+abbrev pub queued_in : BurstData → Queued
+queued_in p = record {
+  messages = length p.messages;
+  frames = length p.frames;
+  leaving = p.places;
+  dropped = p.dropped;
+  unpaced = p.unpaced;
+}
 
 -- What follows, private contracts alone cite.
 

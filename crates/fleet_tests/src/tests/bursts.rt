@@ -1,10 +1,14 @@
 //! A port over a socket in memory: what it asks of the socket, call by call, what it notes, and
 //! what it drops.
 
+ghost use Rattle.std.specs.Prelude.{◌≡◌, [], IfSome, None};
+
 use crate::tests::sites::addr;
 use fleet_name::Octets;
 use fleet_pending::Addr;
-use fleet_site::{BurstPort, MemoryLog, MemorySocket, Note, Port, SocketNote};
+use fleet_site::{
+    BurstPort, CallLog, MemoryLog, MemorySocket, Note, Port, PortFault, Queued, SocketNote,
+};
 use std::alloc::Global;
 use std::process::Abort;
 
@@ -30,8 +34,41 @@ fn marked(rt: &impl Abort, alloc: Global, mark: u8) -> (Addr, Octets) {
     (addr(from), Octets::new(octets))
 }
 
+/// A log that keeps what it was told last of the port's queues.
+#[derive(Drop)]
+struct LastQueued {
+    queued: Queued,
+}
+
+impl CallLog for LastQueued {
+    ghost noted = { λ _. None };
+
+    fn note_receive(
+        &mut self,
+        _got: Result<Option<(Addr, usize)>, PortFault>,
+        _buffer: &[u8],
+        queued: Queued,
+    ) {
+        self.queued = queued;
+    }
+
+    fn note_send(&mut self, _sent: Result<(), PortFault>, _to: Addr, _bytes: &[u8]) {}
+}
+
 /// A port to which what these marks say comes, and nothing at a dot.
 fn port_with(rt: &impl Abort, alloc: Global, marks: &str) -> Tested {
+    port_over(rt, alloc, marks, MemoryLog::new(alloc))
+}
+
+/// Such a port, which tells a log of its calls.
+fn port_over<L: CallLog + Drop>(
+    rt: &impl Abort,
+    alloc: Global,
+    marks: &str,
+    log: L,
+) -> BurstPort<MemorySocket, L>
+    requires { IfSome (L.noted log) (λ calls. calls ≡ []) }
+{
     let mut arrivals = Vec::new(alloc);
     for mark in marks.bytes() {
         let arrival = if mark == b'.' {
@@ -43,7 +80,7 @@ fn port_with(rt: &impl Abort, alloc: Global, marks: &str) -> Tested {
     }
     let socket = MemorySocket::new(alloc, arrivals, Some(addr(1)));
     let peers = vec![in alloc; addr(PEER)].expect(rt, "memory");
-    BurstPort::new(socket, MemoryLog::new(alloc), alloc, peers)
+    BurstPort::new(socket, log, alloc, peers)
 }
 
 /// The first octet.
@@ -122,7 +159,7 @@ fn show_log(rt: &impl Abort, alloc: Global, port: &Tested) -> String {
 }
 
 /// What a receive hands on: its mark, a dot for none, `?` where it fails.
-fn receive(port: &mut Tested) -> char {
+fn receive<L: CallLog + Drop>(port: &mut BurstPort<MemorySocket, L>) -> char {
     let mut buffer = [0u8; FRAME + 1];
     match port.recv(&mut buffer) {
         Ok(Some(_)) => mark_of(&buffer),
@@ -258,6 +295,33 @@ fn numbered(number: u16) -> [u8; 513] {
     let mut octets = [0u8; 513];
     octets[..2].copy_from_slice(&number.to_be_bytes());
     octets
+}
+
+/// A log is told how many datagrams wait in each queue once a receive ended.
+#[test]
+fn a_log_is_told_what_waits(rt: HostRuntime) {
+    let none = Queued {
+        messages: 0,
+        frames: 0,
+        leaving: 0,
+        dropped: 0,
+        unpaced: 0,
+    };
+    let log = LastQueued { queued: none };
+    let mut port = port_over(&rt, rt.alloc(), "12a3b4.", log);
+    for number in 0..5u16 {
+        let sent = port.send(addr(PEER), &numbered(number));
+        assert!(rt; sent.is_ok());
+    }
+    // Two of the five frames that wait go out, then all that came is taken in, and a message is handed on.
+    assert_eq!(rt; receive(&mut port), 'a');
+    let waiting = Queued {
+        messages: 1,
+        frames: 4,
+        leaving: 3,
+        ..none
+    };
+    assert_eq!(rt; port.log().queued, waiting);
 }
 
 /// Sends a frame to a peer. Whether it went out at once.
