@@ -73,6 +73,8 @@ add_cases(
         ("help of the version", ["--help"], b"  -V, --version  Print version\n"),
         ("help of the command script", ["script", "--help"], b"  learn 0 100 0001"),
         ("help of the command serve", ["serve", "--help"], b'  listen = "127.0.0.1:5400"'),
+        ("help of the command check", ["check", "--help"], b"  two sites at one address  "),
+        ("help of the command withdraw", ["withdraw", "--help"], b"  dnsfleet withdraw --from 127.0.0.1:5499 --to "),
         ("help by a word", ["help", "serve"], b'  listen = "127.0.0.1:5400"'),
     ],
 )

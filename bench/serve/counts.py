@@ -36,7 +36,8 @@ def fill_and_ask(data, passes):
 
 def site(servers, folder, options, before):
     """Starts a site behind other words, as those of valgrind."""
-    servers.start("dnsfleet", before + run.site_words(os.path.abspath(options.program), folder))
+    words = run.site_words(os.path.abspath(options.program), folder)
+    servers.start("dnsfleet", before + words + (["--report", "86400"] if options.report else []))
     time.sleep(3)
     servers.check("dnsfleet")
     return servers.running["dnsfleet"]
@@ -132,6 +133,7 @@ def options_of():
     words.add_argument("--names", type=int, default=1000, help="how many names (1000)")
     words.add_argument("--passes", type=int, default=10, help="how often each name is asked for, and twice that (10)")
     words.add_argument("--lines", type=int, default=30, help="how many functions are shown (30)")
+    words.add_argument("--report", action="store_true", help="the site counts what goes through its port (serve --report)")
     words.add_argument("--misses", action="store_true", help="count misses of the processor's caches as well")
     return words.parse_args()
 

@@ -121,12 +121,12 @@ def report_of(text):
 class Site:
     """A site that serves at a port, in a folder of its own."""
 
-    def __init__(self, port, text, turns, key):
+    def __init__(self, port, text, turns, key, more=()):
         self.port, self.turns, self.brought = port, turns, 0
         self._folder = tempfile.TemporaryDirectory()
         path = Path(self._folder.name) / "site.toml"
         path.write_text(text, encoding="utf-8")
-        words = [program.path(), "serve", "--config", path, "--turns", str(turns), "--key", key]
+        words = [program.path(), "serve", "--config", path, "--turns", str(turns), "--key", key, *more]
         pipes = {"stdin": subprocess.DEVNULL, "stdout": subprocess.PIPE, "stderr": subprocess.PIPE}
         self.child = subprocess.Popen(words, bufsize=0, **pipes)
         self._first = self._read_line()
@@ -198,15 +198,15 @@ class Site:
 
 
 @contextlib.contextmanager
-def serving(count, configure, turns=TURNS, key=KEY):
+def serving(count, configure, turns=TURNS, key=KEY, more=()):
     """Sites that listen. `configure` is given that number of ports, and gives their
-    configurations. Where another program took a port before the site could, others are asked
-    for."""
+    configurations; `more` are other words of `serve`. Where another program took a port before the
+    site could, others are asked for."""
     sites = []
     try:
         for _ in range(TRIES):
             ports = free_ports(count)
-            sites = [Site(port, text, turns, key) for port, text in zip(ports, configure(*ports))]
+            sites = [Site(port, text, turns, key, more) for port, text in zip(ports, configure(*ports))]
             if all(site.listens() for site in sites) or not any(site.has_no_port() for site in sites):
                 break
             for site in sites:
@@ -221,21 +221,21 @@ def serving(count, configure, turns=TURNS, key=KEY):
 
 
 @contextlib.contextmanager
-def serving_one(configure, turns=TURNS, key=KEY):
+def serving_one(configure, turns=TURNS, key=KEY, more=()):
     """A site that listens. `configure` is given its port, and gives its configuration."""
-    with serving(1, lambda port: [configure(port)], turns, key) as [site]:
+    with serving(1, lambda port: [configure(port)], turns, key, more) as [site]:
         yield site
 
 
 @contextlib.contextmanager
-def with_neighbours(sweep=0, room=None, stamped=False):
+def with_neighbours(sweep=0, room=None, stamped=False, more=()):
     """A site that listens, with a socket as its upstream, one as its peer, and one as a client."""
     with open_socket() as upstream, open_socket(room, stamped) as peer, open_socket(room, stamped) as client:
 
         def configure(port):
             return configuration(port, [port_of(upstream)], [port_of(peer)], sweep)
 
-        with serving_one(configure) as site:
+        with serving_one(configure, more=more) as site:
             yield site, upstream, peer, client
 
 

@@ -1,5 +1,5 @@
 -- Entries of a configuration, read one after the other.
--- Serves `read_addresses`, `settings_of`.
+-- Serves `findings_in`, `read_addresses`, `settings_of`.
 use Rattle.std.proofs.Common.{◌≡◌, ℕ, ◌+◌, ◌<◌, ◌≤◌, List, [], ◌∷◌, ◌++◌, drop, length, get_or, Option, Some, None, option_map, Ok, Err, Bor, nat_cmp, string_bytes, inr, sym, ap, ◌∙◌, subst, append_assoc}
 use Rattle.std.specs.Prelude.{codes, IsSome}
 use Rattle.std.specs.BTreeMap.{is_at}

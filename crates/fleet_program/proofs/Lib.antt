@@ -6,3 +6,7 @@ mod NewConfig
 mod Configurations
 mod SystemAddr
 mod FirstWords
+mod Counting
+mod ListedFaults
+mod FindTwice
+mod NameIn

@@ -9,3 +9,6 @@ pub mod Key
 pub mod Serving
 pub mod Moments
 pub mod Usage
+pub mod Counting
+pub mod Findings
+pub mod NameText

@@ -56,3 +56,28 @@ Example, a site that asks the server at port 5301; with nothing to do it ends af
 Whoever has the key can guess the identifiers of queries: draw one for each site, and keep it secret. A bad key ends
 with status 2; a bad configuration, an address that can't be bound, or output that fails with status 1, with a line on
 standard error.";
+
+/// What `dnsfleet check --help` says at its end.
+pub const CHECK: &str = "\
+For each good file it prints `FILE: listen ADDR upstreams ADDR.. peers ADDR.. sweep SECONDS`. For each other one it prints
+every fault to standard error, as `FILE: WHAT: KEY, PLACE: FOUND`, in the order in which `serve` looks for them, and the
+status is 1. A line with `warning` is lawful, and surely meant otherwise:
+  own address                              the site's own, as an upstream or a peer
+  no loopback address                      to another machine nothing can be sent
+  the upstream has this site as a peer     it reads each question as a frame
+  the peer does not have this site as one  it reads each frame as a question
+  two sites at one address                 only one of them can listen there
+The last three are seen where both files are given.";
+
+/// What `dnsfleet withdraw --help` says at its end.
+pub const WITHDRAW: &str = "\
+A flush of this moment is sent to each site. Then each is asked for the name with RD clear, from another port of the same
+host, and a line for it says `withdrawn` where it has no answer (code 5), `still answers: code C, records N`, `no answer`
+where none came within two seconds, or `not taken: ..` where it has no peer at that address. The status is 0 where all say
+`withdrawn`, 1 where one does not, and 2 for words that are not taken.
+
+A name has labels of visible ASCII with dots between them, and a dot at its end or none. In a label `\\.` is a dot, and
+`\\DDD` the octet of this number (RFC 1035 5.1). A type is a word such as MX, or TYPE and a number (RFC 3597 5).
+
+Example, from the place that the sites have among their peers:
+  dnsfleet withdraw --from 127.0.0.1:5499 --to 127.0.0.1:5400 127.0.0.1:5401 example.com";

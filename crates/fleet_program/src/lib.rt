@@ -6,17 +6,25 @@
 #![tactic(auto)]
 
 mod calls;
+mod check;
 mod command;
 mod fault;
+mod findings;
 mod fleet;
 mod help;
 mod lines;
+mod names;
+mod options;
 mod print;
 mod script;
 mod serve;
 mod settings;
 mod system_clock;
+mod tally;
 mod udp_port;
+mod warnings;
+mod watch;
+mod withdraw;
 mod words;
 
 ghost use Rattle.std.specs.Prelude.{◌≡◌, ◌≢◌, ◌⊎◌, IsOk, IsErr, IfOk, IsOkAnd, IsErrAnd};
@@ -26,6 +34,7 @@ ghost use Rattle.clap.specs.Values.{kind_of};
 ghost use Rattle.fleet_program.specs.Usage.{IsPage};
 ghost use Rattle.fleet_program.specs.declared.TheConstants.{BAD_WORDS};
 
+use check::run_check;
 use clap::error::ErrorKind as Mistake;
 use clap::{Command, Error};
 use fault::fail;
@@ -41,6 +50,7 @@ use std::rt::{Clock, Files};
 use std::{env, io};
 pub use system_clock::SystemClock;
 pub use udp_port::{SystemSocket, UdpPort, bind_port};
+use withdraw::run_withdraw;
 
 /// The status with which words end that the program does not take.
 const BAD_WORDS: u8 = 2;
@@ -67,13 +77,23 @@ fn program<'a>(alloc: Global, version: &'a str) -> Result<Command<'a>, AllocErro
         .about("Serves a site on loopback, for a number of turns")
         .after_help(help::SERVE);
     let serve = serve::options(alloc, serve)?;
+    let check = Command::new(alloc, "check")
+        .about("Says what configurations say, or every fault of theirs")
+        .after_help(help::CHECK);
+    let check = check::options(alloc, check)?;
+    let withdraw = Command::new(alloc, "withdraw")
+        .about("Withdraws a name and all below it at sites, and asks whether they still have it")
+        .after_help(help::WITHDRAW);
+    let withdraw = withdraw::options(alloc, withdraw)?;
     let program = Command::new(alloc, "dnsfleet")
         .about("A fleet of forwarding DNS caches that gossip")
         .version(version)
         .after_help(help::PROGRAM)
         .subcommand_required(true)
         .subcommand(script)?
-        .subcommand(serve)?;
+        .subcommand(serve)?
+        .subcommand(check)?
+        .subcommand(withdraw)?;
     Ok(program)
 }
 
@@ -132,6 +152,8 @@ fn run<R: Input + Files + Clock + Net + AllocGlobal, O: Print + Eprint>(
     match program(rt.alloc(), version.as_str())?.try_get_matches_from(words) {
         Ok(matches) => match matches.subcommand() {
             Some(("serve", matches)) => run_server(rt, out, Words::of(matches)),
+            Some(("check", matches)) => run_check(rt, out, matches),
+            Some(("withdraw", matches)) => run_withdraw(rt, out, matches),
             _ => Ok(run_input(rt, out)),
         },
         Err(error) => explain(out, &error),

@@ -9,7 +9,20 @@ use fleet_pending::Addr;
 use fleet_site::{Looked, Packet, Refusal, Site};
 use fleet_world::{Event, Stepped, World};
 use std::alloc::{AllocError, Allocator};
+use std::fmt;
 use std::net::Ipv4Addr;
+
+/// An address as a text: its host and its port.
+#[derive(Clone, Copy)]
+pub struct AddrText(pub Addr);
+
+impl fmt::Display for AddrText {
+    fn fmt<W: fmt::Write>(&self, f: &mut fmt::Formatter<W>) -> fmt::Result {
+        let Addr { host, port } = self.0;
+        let host = Ipv4Addr::from_bits(host);
+        write!(f, "{host}:{port}")
+    }
+}
 
 /// Prints octets in hexadecimal digits, `-` for none, and the end of the line.
 fn print_octets<A: Allocator + Copy>(out: &mut String<A>, octets: &[u8]) -> Result<(), AllocError> {
@@ -95,9 +108,8 @@ fn print_packet<A: Allocator + Copy>(
     out: &mut String<A>,
     packet: &Packet<A>,
 ) -> Result<(), AllocError> {
-    let Addr { host, port } = packet.to;
-    let host = Ipv4Addr::from_bits(host);
-    write!(out, "send {host}:{port} ")?;
+    let to = AddrText(packet.to);
+    write!(out, "send {to} ")?;
     print_octets(out, packet.bytes.as_slice())
 }
 

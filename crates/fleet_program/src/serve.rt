@@ -9,19 +9,26 @@ ghost use Rattle.fleet_program.specs.Serving.{ServesNew};
 ghost use Rattle.fleet_program.specs.declared.serve.TheConstants.{BAD_KEY};
 
 use crate::fault::fail;
+use crate::options::{optional, required};
+use crate::print::AddrText;
 use crate::settings::{LONGEST_CONFIGURATION, Settings, SettingsFault, read_settings};
 use crate::system_clock::SystemClock;
-use crate::udp_port::{UdpPort, bind_port};
-use clap::{Arg, ArgAction, ArgMatches, Command, value_parser};
+use crate::tally::Tally;
+use crate::udp_port::{SystemSocket, bind_logged};
+use crate::watch::{ServerLog, Watch};
+use clap::{ArgMatches, Command, value_parser};
 use fleet_pending::Addr;
-use fleet_site::{BurstPort, CallLog, Clock, Report, Site, Socket, serve_socket};
+use fleet_site::{
+    BurstPort, CallLog, Clock, Config, PortFault, Report, Site, Socket, Unnoted, serve_socket,
+};
 use rand_chacha::ChaCha20Rng;
 use rand_core::SeedableRng;
 use std::alloc::{AllocError, Global};
 use std::io::{ErrorKind, Read};
-use std::net::{Ipv4Addr, Net};
+use std::net::Net;
 use std::process::ExitCode;
 use std::rt::Files;
+use std::time::Duration;
 use std::{fs, io, time};
 use thiserror::Error;
 
@@ -40,6 +47,8 @@ pub struct Words<'a> {
     pub key: &'a str,
     /// How many turns to serve.
     pub turns: u32,
+    /// After how many seconds a line of counts is due, if any is.
+    pub report: Option<u32>,
 }
 
 impl<'a> Words<'a> {
@@ -51,21 +60,9 @@ impl<'a> Words<'a> {
             config: matches.get_str("config").unwrap_or(""),
             key: matches.get_str("key").unwrap_or(""),
             turns: matches.get_one::<u32>("turns").unwrap_or(1),
+            report: matches.get_one::<u32>("report"),
         }
     }
-}
-
-/// An option that takes one value.
-fn option<'a>(alloc: Global, name: &'a str, value: &'a str) -> Arg<'a> {
-    Arg::new(alloc, name).long(name).value_name(value)
-}
-
-/// An option that is required, and takes one value.
-fn required<'a>(alloc: Global, name: &'a str, value: &'a str, help: &'a str) -> Arg<'a> {
-    option(alloc, name, value)
-        .help(help)
-        .required(true)
-        .action(ArgAction::Set)
 }
 
 /// The options of `serve`.
@@ -80,7 +77,10 @@ pub fn options<'a>(alloc: Global, command: Command<'a>) -> Result<Command<'a>, A
         "How many turns to serve, 1 to 4294967295",
     )
     .value_parser(value_parser!(u32).range(1..));
-    command.arg(config)?.arg(key)?.arg(turns)
+    let help = "Print a line of counts after each so many seconds, 1 to 86400";
+    let seconds = value_parser!(u32).range(1..=86400);
+    let report = optional(alloc, "report", "SECONDS", help).value_parser(seconds);
+    command.arg(config)?.arg(key)?.arg(turns)?.arg(report)
 }
 
 /// Why a configuration gave no settings.
@@ -92,6 +92,49 @@ pub enum ConfigurationFault {
     /// What it says is no configuration.
     #[error("{0}")]
     Settings(SettingsFault),
+}
+
+/// How a site is served.
+#[derive(Clone, Copy)]
+pub struct Run {
+    /// The key, from which words are drawn.
+    key: [u8; KEY_LENGTH],
+    /// How many turns to serve.
+    turns: u32,
+    /// After how many seconds a line of counts is due, if any is.
+    report: Option<u32>,
+}
+
+/// Why a site was not served to its end.
+#[derive(Debug, Drop, Error)]
+enum StartFault {
+    /// There are no settings, or there is no memory for a copy.
+    #[error("config: {0}")]
+    Config(ConfigurationFault),
+    /// The address can't be bound.
+    #[error("socket")]
+    Socket,
+    /// Output failed.
+    #[error("write")]
+    Output(io::Error),
+}
+
+impl From<AllocError> for StartFault {
+    fn from(_error: AllocError) -> StartFault {
+        StartFault::Config(ConfigurationFault::Settings(SettingsFault::OutOfMemory))
+    }
+}
+
+impl From<PortFault> for StartFault {
+    fn from(_fault: PortFault) -> StartFault {
+        StartFault::Socket
+    }
+}
+
+impl From<io::Error> for StartFault {
+    fn from(error: io::Error) -> StartFault {
+        StartFault::Output(error)
+    }
 }
 
 /// The key that 64 hexadecimal digits of either case spell; no other text spells one.
@@ -107,7 +150,7 @@ fn key_of(text: &str) -> Option<[u8; KEY_LENGTH]>
 }
 
 /// The first octets of a file, at most one more than a configuration has.
-fn read_start<R: Files>(rt: &R, alloc: Global, path: &str) -> io::Result<Vec<u8>> {
+pub fn read_start<R: Files>(rt: &R, alloc: Global, path: &str) -> io::Result<Vec<u8>> {
     let mut octets = Vec::new(alloc);
     fs::open(rt, path)?
         .take(LONGEST_CONFIGURATION as u64 + 1)
@@ -175,35 +218,73 @@ fn serve_new<S: Socket + Drop, L: CallLog + Drop, C: Clock>(
 }
 
 // Lets through: another number of turns, other settings or another clock than it is given, and any
-// output. Four tested bodies are such, `server_reads_its_clock_once` and `failed_report_is_ignored`
-// among them; cases of `tests/run` see them.
-/// Serves a number of turns over a socket, and prints where it listens and what it counted.
-fn serve_port<R: time::Clock + AllocGlobal, O: Print>(
+// output. Three tested bodies are such, `server_reads_its_clock_once` among them; cases of `tests/run`
+// see them.
+/// Prints where a port listens, and serves a number of turns over it.
+fn serve_port<R: time::Clock + AllocGlobal, O: Print, L: CallLog + Drop>(
     rt: &R,
     out: &O,
-    port: &mut UdpPort<'_, R>,
+    port: &mut BurstPort<SystemSocket<'_, R>, L>,
     settings: Settings,
-    key: [u8; KEY_LENGTH],
-    turns: u32,
-) -> io::Result<()> {
-    let Addr { host, port: number } = port.socket().address();
-    let host = Ipv4Addr::from_bits(host);
-    println!(out; "listening {host}:{number}")?;
+    run: Run,
+) -> io::Result<Report> {
+    let address = AddrText(port.socket().address());
+    println!(out; "listening {address}")?;
     let mut clock = SystemClock::new(rt);
-    let report = serve_new(rt.alloc(), port, &mut clock, settings, key, turns);
-    print_report(out, &report)
+    let report = serve_new(rt.alloc(), port, &mut clock, settings, run.key, run.turns);
+    Ok(report)
+}
+
+// Lets through: any line of counts, and none. Sessions of `tests/run` see it.
+/// Serves over a socket of the system. Where a period is given, a line of counts is printed after each
+/// so many seconds, and one at the end.
+fn serve_site<R: time::Clock + Net + AllocGlobal, O: Print>(
+    rt: &R,
+    out: &O,
+    settings: Settings,
+    run: Run,
+) -> Result<Report, StartFault> {
+    let alloc = rt.alloc();
+    let log = log_of(rt, out, &settings.config, run.report)?;
+    let peers = copy_of(alloc, settings.config.peers())?;
+    let mut port = bind_logged(rt, rt, alloc, settings.listen, peers, log)?;
+    let report = serve_port(rt, out, &mut port, settings, run)?;
+    port.log().print_last(port.queued());
+    Ok(report)
+}
+
+/// The log of a server: it watches where a period is given, and is silent else.
+fn log_of<'a, R: time::Clock + AllocGlobal, O: Print>(
+    rt: &'a R,
+    out: &'a O,
+    config: &Config,
+    every: Option<u32>,
+) -> Result<ServerLog<'a, R, O>, AllocError> {
+    let Some(every) = every else {
+        return Ok(ServerLog::Silent);
+    };
+    let alloc = rt.alloc();
+    let upstreams = copy_of(alloc, config.upstreams())?;
+    let tally = Tally::new(upstreams, copy_of(alloc, config.peers())?);
+    let every = Duration::from_secs(u64::from(every));
+    let watch = Watch::new(Unnoted, tally, rt, out, every);
+    Ok(ServerLog::Watched(watch))
+}
+
+/// A copy of a list of addresses.
+fn copy_of(alloc: Global, addrs: &[Addr]) -> Result<Vec<Addr>, AllocError> {
+    Vec::from_slice(alloc, addrs)
 }
 
 // Lets through: serving nothing or another number of turns, and printing that always fails, where there
 // are settings: the clauses have the status alone. Sessions of `tests/run` see it.
-/// Serves with these settings, if there are any. A fault is printed to standard error, and ends with
-/// status 1; where output fails, its error is returned.
+/// Serves with these settings, if there are any, and prints what was counted. A fault is printed to
+/// standard error, and ends with status 1; where output fails, its error is returned.
 pub fn serve_settings<R: time::Clock + Net + AllocGlobal, O: Print + Eprint>(
     rt: &R,
     out: &O,
     settings: Result<Settings, ConfigurationFault>,
-    key: [u8; KEY_LENGTH],
-    turns: u32,
+    run: Run,
 ) -> io::Result<ExitCode>
     ensures served { IsOk settings
         → IfOk result (λ code. (code ≡ ExitCode.SUCCESS) ⊎ (code ≡ ExitCode.FAILURE)) }
@@ -211,16 +292,13 @@ pub fn serve_settings<R: time::Clock + Net + AllocGlobal, O: Print + Eprint>(
 {
     let settings = match settings {
         Ok(settings) => settings,
-        Err(fault) => return Ok(fail(out, format_args!("config: {fault}"))),
+        Err(fault) => return Ok(fail(out, StartFault::Config(fault))),
     };
-    let Ok(peers) = Vec::from_slice(rt.alloc(), settings.config.peers()) else {
-        let fault = SettingsFault::OutOfMemory;
-        return Ok(fail(out, format_args!("config: {fault}")));
-    };
-    let Ok(mut port) = bind_port(rt, rt, rt.alloc(), settings.listen, peers) else {
-        return Ok(fail(out, "socket"));
-    };
-    serve_port(rt, out, &mut port, settings, key, turns)?;
+    match serve_site(rt, out, settings, run) {
+        Ok(report) => print_report(out, &report)?,
+        Err(StartFault::Output(error)) => return Err(error),
+        Err(fault) => return Ok(fail(out, fault)),
+    }
     Ok(ExitCode::SUCCESS)
 }
 
@@ -238,10 +316,16 @@ pub fn run_server<R: Files + time::Clock + Net + AllocGlobal, O: Print + Eprint>
     ensures with_key { (key : OctetList) → SpellsKey words.entry.key.now key
         → IfOk result (λ code. (code ≡ ExitCode.SUCCESS) ⊎ (code ≡ ExitCode.FAILURE)) }
 {
+    let Words {
+        config,
+        turns,
+        report,
+        ..
+    } = words;
     match key_of(words.key) {
         Some(key) => {
-            let settings = settings_at(rt, rt.alloc(), words.config);
-            serve_settings(rt, out, settings, key, words.turns)
+            let settings = settings_at(rt, rt.alloc(), config);
+            serve_settings(rt, out, settings, Run { key, turns, report })
         }
         None => {
             let _ = eprintln!(out; "dnsfleet: key: 64 hexadecimal digits wanted");

@@ -23,7 +23,7 @@ const USUAL_SWEEP: u32 = 30;
 const LONGEST_SWEEP: u32 = 3600;
 
 /// Why octets are no configuration: of several faults the first.
-#[derive(Clone, Copy, Debug, Error)]
+#[derive(Clone, Copy, Debug, PartialEq, Eq, Error)]
 pub enum SettingsFault {
     /// It has more than 65536 octets.
     #[error("too long")]
@@ -141,7 +141,7 @@ fn has_only_known_keys(table: &Table) -> bool
 }
 
 /// Whether a key is one of a configuration.
-fn is_known(key: &str) -> bool
+pub fn is_known(key: &str) -> bool
     ensures { IsTrue result ↔ IsKey key.now }
 {
     key == "listen" || key == "upstreams" || key == "peers" || key == "sweep"
@@ -160,7 +160,7 @@ fn config_fault(fault: ConfigFault) -> SettingsFault
 }
 
 /// Where a site listens.
-fn listen_of(value: Option<&Value>) -> Result<Addr, SettingsFault>
+pub fn listen_of(value: Option<&Value>) -> Result<Addr, SettingsFault>
     ensures { ReadsListen (option_map (λ v. view v.now) value.entry) result }
 {
     let Some(value) = value else {
@@ -199,7 +199,7 @@ fn peers_of(alloc: Global, value: Option<&Value>) -> Result<Vec<Addr>, SettingsF
 }
 
 /// How many seconds lie between two sweeps.
-fn sweep_of(value: Option<&Value>) -> Result<u32, SettingsFault>
+pub fn sweep_of(value: Option<&Value>) -> Result<u32, SettingsFault>
     ensures { ReadsSweep (option_map (λ v. view v.now) value.entry) result }
 {
     let Some(value) = value else {
@@ -215,7 +215,7 @@ fn sweep_of(value: Option<&Value>) -> Result<u32, SettingsFault>
 }
 
 /// The address that a text spells.
-fn address_of(value: &Value) -> Result<Addr, SettingsFault>
+pub fn address_of(value: &Value) -> Result<Addr, SettingsFault>
     ensures { ReadsAddress (view value.now) result }
 {
     match value.as_str() {
@@ -225,7 +225,7 @@ fn address_of(value: &Value) -> Result<Addr, SettingsFault>
 }
 
 /// The addresses of a list of texts. That each entry is a text is looked at first.
-fn addresses_of(alloc: Global, value: &Value) -> Result<Vec<Addr>, SettingsFault>
+pub fn addresses_of(alloc: Global, value: &Value) -> Result<Vec<Addr>, SettingsFault>
     ensures { ReadsItems (as_array (view value.now)) (vec_read result) }
 {
     let Some(items) = value.as_array() else {

@@ -1,11 +1,11 @@
 //! The system's UDP socket, and a port over it.
 
-ghost use Rattle.std.specs.Prelude.{◌≡◌, ◌↔◌, ◌≤ℤ◌, pos, IsTrue, Some, None, IfOk};
+ghost use Rattle.std.specs.Prelude.{◌≡◌, ◌↔◌, ◌≤ℤ◌, [], pos, IsTrue, Some, None, IfOk, IfSome};
 ghost use Rattle.std.specs.Net.Udp.{udp_raw_fd};
 ghost use Rattle.fleet_program.specs.Socket.{IsAt, IsQuiet, address_in};
 
 use fleet_pending::Addr;
-use fleet_site::{BurstPort, PAUSE, PortFault, Socket, Unnoted};
+use fleet_site::{BurstPort, CallLog, PAUSE, PortFault, Socket, Unnoted};
 use std::alloc::{Allocator, Global};
 use std::io::ErrorKind;
 use std::net::{Ipv4Addr, Net, SocketAddr, SocketAddrV4, UdpSocket};
@@ -127,7 +127,7 @@ impl<C: time::Clock> Socket for SystemSocket<'_, C> {
 
 // Lets through: failing at each call, as `SystemSocket::bind`. Sessions of `tests/run` see it.
 /// Makes a port at an address, as [`SystemSocket::bind`] binds it, whose frames come from these peers;
-/// no call has failed.
+/// no call has failed. It keeps no record.
 pub fn bind_port<'a, N: Net, C: time::Clock, A: Allocator + Copy>(
     net: &N,
     clock: &'a C,
@@ -139,8 +139,27 @@ pub fn bind_port<'a, N: Net, C: time::Clock, A: Allocator + Copy>(
     ensures peers { IfOk result (λ port. port.bursts.peers.items ≡ peers.items) }
     ensures failed { IfOk result (λ port. port.bursts.failed ≡ 0) }
 {
+    bind_logged(net, clock, alloc, addr, peers, Unnoted)
+}
+
+// Lets through: failing at each call, as `SystemSocket::bind`.
+/// Makes a port as `bind_port` does, which tells a log each of its calls.
+pub fn bind_logged<'a, N: Net, C: time::Clock, A: Allocator + Copy, L: CallLog + Drop>(
+    net: &N,
+    clock: &'a C,
+    alloc: A,
+    addr: Addr,
+    peers: Vec<Addr, A>,
+    log: L,
+) -> Result<BurstPort<SystemSocket<'a, C>, L, A>, PortFault>
+    requires log { IfSome (L.noted log) (λ calls. calls ≡ []) }
+    ensures address { IfOk result (λ port. IsAt addr port.bursts.socket.address) }
+    ensures peers { IfOk result (λ port. port.bursts.peers.items ≡ peers.items) }
+    ensures failed { IfOk result (λ port. port.bursts.failed ≡ 0) }
+    ensures log { IfOk result (λ port. port.log ≡ log) }
+{
     match SystemSocket::bind(net, clock, addr) {
-        Ok(socket) => Ok(BurstPort::new(socket, Unnoted, alloc, peers)),
+        Ok(socket) => Ok(BurstPort::new(socket, log, alloc, peers)),
         Err(fault) => Err(fault),
     }
 }

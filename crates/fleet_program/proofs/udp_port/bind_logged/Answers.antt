@@ -1,6 +1,6 @@
-use Rattle.std.proofs.Common.{rules, ◌≡◌, sym, subst}
+use Rattle.std.proofs.Common.{sym, subst}
 use Rattle.fleet_program.specs.Socket.{IsAt}
-use Rattle.fleet_program.proofs.udp_port.bind_port.Goals as goal
+use Rattle.fleet_program.proofs.udp_port.bind_logged.Goals as goal
 
 -- the port has the socket that was bound
 pub returns-in-Ok-clause-address : goal.returns-in-Ok-clause-address

@@ -1,0 +1,156 @@
+"""The command `withdraw`: the flush that sites are sent, and what they say then."""
+
+import struct
+import subprocess
+import time
+
+from support import program
+from support.checks import Case, add_cases
+from support.messages import AAAA, HEADER_LENGTH, NAME_ERROR, REFUSED, RESPONSE, entry, frame, name_of, question, record
+from support.program import Ended, failed, run
+from support.sessions import HOST, LONGEST_DATAGRAM, ask_until_known, configuration, free_ports, open_socket, port_of
+from support.sessions import serving_one
+
+
+def address(one):
+    """The address of a socket."""
+    return f"{HOST}:{port_of(one)}"
+
+
+def flush(name, stamp):
+    """A frame that flushes a name (docs/FORMATS.md)."""
+    return frame([struct.pack("!2BQI", 4, 3, stamp, 86400) + name_of(name) + struct.pack("!H", 0)])
+
+
+class Flushes(Case):
+    """What the sites are sent."""
+
+    def check(self, word, name, more=(), rtype=1):
+        """Two sockets as sites are sent the flush of a name, and asked for it; each says that it has no answer."""
+        with open_socket() as one, open_socket() as other:
+            [place] = free_ports(1)
+            words = ["withdraw", "--from", f"{HOST}:{place}", "--to", address(one), address(other), word, *more]
+            before = int(time.time())
+            with subprocess.Popen([program.path(), *words], stdout=subprocess.PIPE, stderr=subprocess.PIPE) as child:
+                for site in (one, other):
+                    sent, source = site.recvfrom(LONGEST_DATAGRAM)
+                    self.check_equal(source, (HOST, place))
+                    stamp = struct.unpack("!Q", sent[7:15])[0]
+                    self.check_true(before <= stamp <= time.time(), "the moment of the flush", stamp)
+                    self.check_equal(sent, flush(name, stamp))
+                    asked, client = site.recvfrom(LONGEST_DATAGRAM)
+                    self.check_true(client != source, "another address", client)
+                    self.check_equal(asked[2:], question(0, name, rtype, flags=0)[2:])
+                    site.sendto(asked[:2] + struct.pack("!H", RESPONSE | REFUSED) + asked[4:], client)
+                output, errors = child.communicate(timeout=20)
+            wanted = f"{address(one)} withdrawn\n{address(other)} withdrawn\n".encode()
+            self.check_equal(Ended(child.returncode, output, errors), Ended(0, wanted))
+
+
+add_cases(
+    Flushes,
+    [
+        ("a name", "example.com", "example.com"),
+        ("a name with a dot at its end, in capitals", "Example.COM.", "example.com"),
+        ("everything", ".", b"\0"),
+        ("escapes", "a\\.b\\032c\\\\.example", b"\x06a.b c\\\x07example\0"),
+        ("another type", "example.com", "example.com", ["--type", "aaaa"], AAAA),
+        ("a type by its number", "example.com", "example.com", ["--type", "TYPE65280"], 65280),
+    ],
+)
+
+
+class Answers(Case):
+    """What sites say."""
+
+    def check(self, answer, says):
+        """A socket as a site answers so."""
+        with open_socket() as one:
+            [place] = free_ports(1)
+            words = ["withdraw", "--from", f"{HOST}:{place}", "--to", address(one), "example.com"]
+            with subprocess.Popen([program.path(), *words], stdout=subprocess.PIPE, stderr=subprocess.PIPE) as child:
+                one.recv(LONGEST_DATAGRAM)
+                asked, client = one.recvfrom(LONGEST_DATAGRAM)
+                for octets in answer(asked):
+                    one.sendto(octets, client)
+                output, errors = child.communicate(timeout=20)
+            wanted = Ended(1, f"{address(one)} {says}\n".encode())
+            self.check_equal(Ended(child.returncode, output, errors), wanted)
+
+    def test_site(self):
+        """a site answers what its peer's frame said, and after the flush it does not"""
+        with open_socket() as peer, open_socket() as client:
+            place = port_of(peer)
+            with serving_one(lambda port: configuration(port, [5301], [place], 0)) as site:
+                site.bring(peer, frame([entry("example.com", int(time.time()) - 100)]))
+                ask_until_known(site, client, "example.com")
+                words = ["--to", f"{HOST}:{site.port}", "example.com"]
+                [other] = free_ports(1)
+                said = run(["withdraw", "--from", f"{HOST}:{other}", *words])
+                still = f"{HOST}:{site.port} not taken: the address of --from is none of its peers\n".encode()
+                self.check_equal(said, Ended(1, still))
+                self.check_equal(ask_until_known(site, client, "example.com"), 1)
+                peer.close()
+                said = run(["withdraw", "--from", f"{HOST}:{place}", *words])
+                self.check_equal(said, Ended(0, f"{HOST}:{site.port} withdrawn\n".encode()))
+
+
+def reply(asked, code, records=0, flags=RESPONSE):
+    """A reply to a question, with this code and so many addresses."""
+    head = asked[:2] + struct.pack("!5H", flags | code, 1, records, 0, 0)
+    return head + asked[HEADER_LENGTH:] + record(1, bytes([192, 0, 2, 1])) * records
+
+
+add_cases(
+    Answers,
+    [
+        ("records", lambda asked: [reply(asked, 0, 2)], "still answers: code 0, records 2"),
+        ("a denial", lambda asked: [reply(asked, NAME_ERROR)], "still answers: code 3, records 0"),
+        ("nothing", lambda asked: [], "no answer"),
+        (
+            "what is no reply to the question",
+            lambda asked: [b"", asked, reply(b"\xff\xff" + asked[2:], REFUSED), reply(asked[:12] + b"\0" * 5, REFUSED)],
+            "no answer",
+        ),
+        ("two answers, of which the first counts", lambda asked: [reply(asked, 0, 1), reply(asked, REFUSED)], "still answers: code 0, records 1"),
+    ],
+)
+
+
+class Words(Case):
+    """Words that say no order."""
+
+    def check(self, words, report):
+        self.check_equal(run(["withdraw", *words]), Ended(2, b"", f"error: {report}\n".encode()))
+
+    def test_absent(self):
+        """each option, and the name, has to be there"""
+        for words in ([], ["--from", "127.0.0.1:1", "--to", "127.0.0.1:2"], ["--to", "127.0.0.1:2", "a"], ["--from", "127.0.0.1:1", "a"]):
+            ended = run(["withdraw", *words])
+            self.check_equal((ended.status, ended.output), (2, b""), words)
+
+    def test_taken(self):
+        """the address is taken"""
+        with open_socket() as one:
+            words = ["withdraw", "--from", address(one), "--to", "127.0.0.1:2", "a"]
+            self.check_equal(run(words), failed("socket"))
+
+
+FROM, TO = ["--from", "127.0.0.1:1"], ["--to", "127.0.0.1:2"]
+LONG = "a" * 64
+add_cases(
+    Words,
+    [
+        ("no address to send from", ["--from", "localhost:1", *TO, "a"], "`localhost:1` is no address"),
+        ("no address of a site", [*FROM, "--to", "x", "a"], "`x` is no address"),
+        ("no address of another site", [*FROM, *TO, "127.0.0.1", "a"], "`127.0.0.1` is no address"),
+        ("no type", [*FROM, *TO, "--type", "B", "a"], "`B` is no type"),
+        ("no type by its number", [*FROM, *TO, "--type", "TYPE65536", "a"], "`TYPE65536` is no type"),
+        ("a type of questions alone", [*FROM, *TO, "--type", "TYPE255", "a"], "`TYPE255` is no type"),
+        ("two sites, and no name", [*FROM, *TO, "127.0.0.1:3"], "`127.0.0.1:3` is no name"),
+    ]
+    + [
+        (f"the name {name}", [*FROM, *TO, name], f"`{name}` is no name")
+        for name in ("", "..", ".a", "a..b", "a b", "é.example", "a\\", "a\\25", "a\\256", LONG, ".".join([LONG[1:]] * 4))
+    ],
+)
