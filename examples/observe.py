@@ -6,17 +6,19 @@
 LISTEN is the operator's place, an address such as 127.0.0.1:5499, and CONFIG the configuration of each
 site. It listens for one sweep of the slowest site and three seconds more, or for N seconds, and sends
 nothing. A line for each site says what came from it, what it holds, and how many items it lacks of
-what the fleet held when the listening began; below are the first of these. --name shows who holds what at a name and below it,
---svg draws a picture.
+what the fleet held when the listening began; below are the first of these. --name shows who holds what
+at a name, as zones write it, and below it. --svg draws a picture.
 
 Frames are read by `dnsfleet script`: one script for each site, and one for the fleet, which takes in
 the frames of all. The status is 1 where a site was not heard or lacks an item, or where a peer is
-stated at one end alone, LISTEN among them.
+stated at one end alone, LISTEN among them; it is 2 after a fault, and 130 after Ctrl-C.
 """
 
 import argparse
 import ipaddress
 import math
+import re
+import shutil
 import socket
 import subprocess
 import sys
@@ -30,16 +32,42 @@ TYPES = {1: "A", 2: "NS", 5: "CNAME", 6: "SOA", 12: "PTR", 15: "MX", 16: "TXT", 
 # How many items that a site lacks are shown.
 SHOWN = 10
 LONGEST_FRAME = 16384
+LONGEST_LABEL, LONGEST_NAME = 63, 255
+LONGEST_SWEEP = 3600
+# What a name is written of (RFC 1035 5.1): an octet by its number, one after a backslash, or a character.
+WRITTEN = re.compile(r"\\[0-9]{3}|\\[^0-9]|.", re.DOTALL)
+
+
+class Fault(Exception):
+    """Why nothing is shown."""
 
 
 class Site:
     """A site: its configuration, the frames that came from it, and the items that it holds."""
 
     def __init__(self, path):
-        says = tomllib.loads(Path(path).read_text(encoding="utf-8"))
-        self.path, self.listen = path, says["listen"]
+        try:
+            says = tomllib.loads(Path(path).read_text(encoding="utf-8"))
+        except OSError as error:
+            raise Fault(f"{path}: {error.strerror}") from error
+        except ValueError as error:
+            raise Fault(f"{path}: not TOML: {error}") from error
+        self.path, self.listen = path, says.get("listen")
         self.peers, self.sweep = says.get("peers", []), says.get("sweep", 30)
+        is_read = type(self.peers) is list and all(is_address(it) for it in [self.listen, *self.peers])
+        if not is_read or type(self.sweep) is not int or not 0 <= self.sweep <= LONGEST_SWEEP:
+            raise Fault(f"{path}: no configuration: `dnsfleet check {path}` says why")
         self.frames, self.items, self.refused = [], [], 0
+
+
+def read_sites(paths):
+    """The sites of configurations: no two have one address."""
+    sites, at = [Site(path) for path in paths], {}
+    for site in sites:
+        if site.listen in at:
+            raise Fault(f"{site.path}: listen {site.listen} is that of {at[site.listen].path}, too")
+        at[site.listen] = site
+    return sites
 
 
 def one_sided(sites):
@@ -54,10 +82,13 @@ def one_sided(sites):
 def hear(listen, sites, seconds):
     """Receives frames for some seconds; each is kept at its site, with the second in which it came."""
     at = {site.listen: site for site in sites}
-    host, port = listen.split(":")
+    host, _, port = listen.partition(":")
     with socket.socket(socket.AF_INET, socket.SOCK_DGRAM) as place:
         place.setsockopt(socket.SOL_SOCKET, socket.SO_RCVBUF, 1 << 23)
-        place.bind((host, int(port)))
+        try:
+            place.bind((host, int(port)))
+        except OSError as error:
+            raise Fault(f"{listen}: {error.strerror}") from error
         end = time.monotonic() + seconds
         while (left := end - time.monotonic()) > 0:
             place.settimeout(left)
@@ -70,18 +101,55 @@ def hear(listen, sites, seconds):
 
 
 def items_of(program, frames, now):
-    """What a site holds at a moment that took in these frames: the words of each item as `show` prints them; and how many
-    frames it refused."""
+    """What a site holds at a moment that took in these frames: the words of each item as `show` prints them;
+    and how many frames it refused."""
     lines = [f"frame 0 {second} {frame.hex() or '-'}" for second, frame in sorted(frames)]
     script = "\n".join([*lines, f"tick 0 {now}", "show 0", ""])
-    ran = subprocess.run([program, "script"], input=script, capture_output=True, text=True, check=True)
+    settings = {"capture_output": True, "text": True, "errors": "replace", "check": False}
+    try:
+        ran = subprocess.run([program, "script"], input=script, **settings)
+    except OSError as error:
+        raise Fault(f"{program}: {error.strerror}") from error
+    if ran.returncode:
+        raise Fault(f"`{program} script` ended with status {ran.returncode} {ran.stderr}".strip())
     printed = [line.split(" ") for line in ran.stdout.splitlines()]
-    return [tuple(words) for words in printed if words[0] in KINDS], sum(words[0] == "refused" for words in printed)
+    items = [tuple(words) for words in printed if words[0] in KINDS]
+    if printed[-1:] != [["items", str(len(items))]]:
+        raise Fault(f"`{program} script` printed no line `items {len(items)}` at its end: it is no dnsfleet")
+    return items, sum(words[0] == "refused" for words in printed)
+
+
+def octet_of(written):
+    """The octet that a part of a name's text stands for."""
+    number = int(written[1:]) if len(written) == 4 else ord(written[-1])
+    is_escaped, is_plain = len(written) > 1, 33 <= number <= 126 and written != "\\"
+    if number > 255 or not written.isascii() or not (is_escaped or is_plain):
+        raise ValueError(written)
+    return number
+
+
+def labels_of(text):
+    """The labels of a name as zones write it, in lower case, which letters of ASCII alone have. A dot that is
+    not escaped ends a label; the last one may be left out."""
+    if text == ".":
+        return []
+    labels = [[]]
+    for written in WRITTEN.findall(text):
+        if written == ".":
+            labels.append([])
+        else:
+            labels[-1].append(octet_of(written))
+    if not labels[-1] and len(labels) > 1:
+        labels.pop()
+    lengths = [len(label) for label in labels]
+    if not all(1 <= length <= LONGEST_LABEL for length in lengths) or sum(lengths) + len(lengths) >= LONGEST_NAME:
+        raise ValueError(text)
+    return [bytes(label).lower() for label in labels]
 
 
 def is_below(name, top):
-    """Whether a name, as `show` prints it, is another one or lies below it."""
-    return top == "." or name == top or name.endswith("." + top)
+    """Whether a name is another one or lies below it, both as `labels_of` gives them."""
+    return name[max(0, len(name) - len(top)) :] == top
 
 
 def rdata_texts(rtype, body):
@@ -130,48 +198,103 @@ def picture(sites, fleet):
     return "\n".join([*drawn, "</svg>", ""])
 
 
+def say(*words):
+    """Prints a line at once, so that nothing is left to be printed as Python ends."""
+    if sys.stdout is None:
+        raise Fault("output: it is closed")
+    try:
+        print(*words, flush=True)
+    except OSError as error:
+        raise Fault(f"output: {error.strerror}") from error
+
+
 def print_sites(sites, fleet, now):
     """Prints a line for each site, and the first items that it lacks."""
-    print(f"{'site':<21} {'frames':>7} {'octets':>9} {'items':>8}", *(f"{kind:>8}" for kind in KINDS), f"{'lacks':>7}")
+    say(f"{'site':<21} {'frames':>7} {'octets':>9} {'items':>8}", *(f"{kind:>8}" for kind in KINDS), f"{'lacks':>7}")
     for site in sites:
         if not site.frames:
-            print(f"{site.listen:<21} not heard" if site.sweep else f"{site.listen:<21} not heard: it has no sweeps")
+            say(f"{site.listen:<21} not heard" if site.sweep else f"{site.listen:<21} not heard: it has no sweeps")
             continue
         counts, lacking = Counter(item[0] for item in site.items), fleet - set(site.items)
         octets = sum(len(frame) for _, frame in site.frames)
-        print(f"{site.listen:<21} {len(site.frames):>7} {octets:>9} {len(site.items):>8}",
-              *(f"{counts[kind]:>8}" for kind in KINDS), f"{len(lacking):>7}")
+        say(f"{site.listen:<21} {len(site.frames):>7} {octets:>9} {len(site.items):>8}",
+            *(f"{counts[kind]:>8}" for kind in KINDS), f"{len(lacking):>7}")
         if site.refused:
-            print(f"    refused frames: {site.refused}")
-        for item in sorted(lacking, key=lambda it: it[4])[:SHOWN]:
-            print(f"    lacks {item_text(item, now)}")
+            say(f"    refused frames: {site.refused}")
+        for item in sorted(lacking, key=lambda it: (it[4], it))[:SHOWN]:
+            say(f"    lacks {item_text(item, now)}")
 
 
-def print_name(sites, name, now):
+def print_name(sites, top, now):
     """Prints who holds what at a name and below it."""
-    top = name.lower().rstrip(".") + "."
-    held = {item for site in sites for item in site.items if is_below(item[4], top)}
+    held = {item for site in sites for item in site.items if is_below(labels_of(item[4]), top)}
     for item in sorted(held, key=lambda it: (it[4], it)):
         holders = [site.listen for site in sites if item in site.items]
-        print(item_text(item, now), "at", "all" if len(holders) == len(sites) else " ".join(holders))
+        say(item_text(item, now), "at", "all" if len(holders) == len(sites) else " ".join(holders))
 
 
-def main():
+def address_in(word):
+    """An address as configurations write it."""
+    host, _, port = word.partition(":")
+    if not re.fullmatch("[0-9]{1,5}", port) or not 0 < int(port) < 65536:
+        raise argparse.ArgumentTypeError(f"`{word}` is no address such as 127.0.0.1:5499")
+    try:
+        return f"{ipaddress.IPv4Address(host)}:{int(port)}"
+    except ValueError as error:
+        raise argparse.ArgumentTypeError(f"`{word}` is no address such as 127.0.0.1:5499") from error
+
+
+def is_address(word):
+    """Whether a value of a configuration is an address, written as it has to be."""
+    try:
+        return isinstance(word, str) and address_in(word) == word
+    except argparse.ArgumentTypeError:
+        return False
+
+
+def seconds_in(word):
+    """A number of seconds, more than 0."""
+    if not re.fullmatch(r"[0-9]{1,6}(\.[0-9]+)?", word) or not float(word):
+        raise argparse.ArgumentTypeError(f"`{word}` is no number of seconds")
+    return float(word)
+
+
+def name_in(word):
+    """The labels of a name."""
+    try:
+        return labels_of(word)
+    except ValueError as error:
+        raise argparse.ArgumentTypeError(f"`{word}` is no name") from error
+
+
+def read_words():
+    """The words of the command."""
     words = argparse.ArgumentParser(description=__doc__, formatter_class=argparse.RawDescriptionHelpFormatter)
-    words.add_argument("listen")
-    words.add_argument("config", nargs="+")
-    words.add_argument("--seconds", type=float)
-    words.add_argument("--name")
-    words.add_argument("--svg", type=Path)
-    words.add_argument("--program", default="dnsfleet")
+    words.add_argument("listen", type=address_in, metavar="LISTEN")
+    words.add_argument("config", nargs="+", metavar="CONFIG")
+    words.add_argument("--seconds", type=seconds_in, metavar="N")
+    words.add_argument("--name", type=name_in)
+    words.add_argument("--svg", type=Path, metavar="FILE")
+    words.add_argument("--program", default="dnsfleet", metavar="DNSFLEET")
     given = words.parse_args()
-    sites = [Site(path) for path in given.config]
-    alone = list(one_sided(sites))
-    for site, peer in alone:
-        print(f"{site.path}: the peer {peer} does not have {site.listen} among its peers")
-    for site in [it for it in sites if given.listen not in it.peers]:
-        alone.append((site, given.listen))
-        print(f"{site.path}: {given.listen} is none of its peers")
+    if not shutil.which(given.program):
+        raise Fault(f"{given.program}: no program; --program says where it is")
+    return given
+
+
+def print_one_sided(listen, sites):
+    """Prints where a peer is stated at one end alone, the operator's place among them; gives whether there is any."""
+    alone = [(site, f"the peer {peer} does not have {site.listen} among its peers") for site, peer in one_sided(sites)]
+    alone += [(site, f"{listen} is none of its peers") for site in sites if listen not in site.peers]
+    for site, says in alone:
+        say(f"{site.path}: {says}")
+    return bool(alone)
+
+
+def observe(given):
+    """Listens, and shows what is held. Gives whether all is well."""
+    sites = read_sites(given.config)
+    is_alone = print_one_sided(given.listen, sites)
     began = int(time.time())
     hear(given.listen, sites, given.seconds or max(site.sweep for site in sites) + 3)
     now = int(time.time())
@@ -181,11 +304,24 @@ def main():
     # What is newer came to the operator from whoever learnt it, and to the others at their own time.
     fleet = {item for item in held if int(item[2]) < began}
     print_sites(sites, fleet, now)
-    if given.name:
+    if given.name is not None:
         print_name(sites, given.name, now)
     if given.svg:
-        given.svg.write_text(picture(sites, fleet), encoding="utf-8")
-    return int(bool(alone) or any(not site.frames or fleet - set(site.items) for site in sites))
+        try:
+            given.svg.write_text(picture(sites, fleet), encoding="utf-8")
+        except OSError as error:
+            raise Fault(f"{given.svg}: {error.strerror}") from error
+    return not is_alone and all(site.frames and fleet <= set(site.items) for site in sites)
+
+
+def main():
+    try:
+        return int(not observe(read_words()))
+    except Fault as fault:
+        print(f"observe.py: {fault}", file=sys.stderr)
+        return 2
+    except KeyboardInterrupt:
+        return 130
 
 
 if __name__ == "__main__":

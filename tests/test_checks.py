@@ -11,7 +11,7 @@ from pathlib import Path
 from support.checks import Case, add_cases, parts_of
 from support.program import Ended, run
 
-ROWS = 13
+ROWS = 14
 GOOD = 'listen = "127.0.0.1:5400"\nupstreams = ["127.0.0.1:5301", "127.0.0.1:5302"]\n'
 
 

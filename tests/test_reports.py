@@ -1,25 +1,42 @@
 """Lines of counts that a site prints while it serves (`--report`)."""
 
+import fcntl
+import os
 import select
-import subprocess
 import tempfile
 import time
 
-from support import program
 from support.checks import Case, add_cases
 from support.messages import HEADER_LENGTH, NOT_IMPLEMENTED, REFUSED, code_of, entry, example, frame, question
 from support.program import failed, run, run_into_file
-from support.sessions import HOST, KEY, LONGEST_DATAGRAM, ask_until_known, ask_upstream, configuration, free_ports
+from support.sessions import KEY, LONGEST_DATAGRAM, TRIES, ask_until_known, ask_upstream, configuration, free_ports
 from support.sessions import open_socket, port_of, report_of, serving_one, with_neighbours
-from support.streams import PATIENCE
+from support.streams import PATIENCE, go_on, stop
+from test_bursts import LONGEST_MESSAGE, long_frame
+
+# The key of what came, is no frame, and found no room.
+MESSAGES_DROPPED = "messages-dropped"
 
 # The keys of a line, in their order.
 KEYS = (
     "turns received sent lost faults questions hits code-1 code-2 code-4 code-5 relayed failed queries again replies"
-    " frames-in frames-out items messages-waiting frames-waiting frames-leaving dropped unpaced unwritten"
+    " frames-in frames-out items messages-waiting messages-dropped frames-waiting frames-dropped frames-leaving unpaced unwritten"
 ).split()
 
 DAY = ("--report", "86400")
+SECOND = ("--report", "1")
+
+# How many seconds a turn waits for a datagram.
+TURN = 0.2
+
+# More turns than a site serves in any time.
+MOST_TURNS = 4294967295
+
+# The clock is looked at at one datagram of so many.
+LOOKED_AT = 256
+
+# How many octets find room in the smallest pipe, where a page has no more, and in a usual one (pipe(7)).
+SMALL_PIPE, USUAL_PIPE = 4096, 65536
 
 
 def counts_of(line):
@@ -81,15 +98,24 @@ class Counts(Case):
                 self.check_counts(counts, questions=1, failed=1, queries=2, again=1, replies=0, hits=0, relayed=0)
                 self.check_counts(counts, **{"code-2": 0})
 
-    def test_relayed_failure(self):
-        """a code that an upstream gives is relayed"""
+    def relay_failure(self):
+        """What a site counts whose upstream gives code 2."""
         with with_neighbours(more=DAY) as (site, upstream, _, client):
             site.bring(client, example("question"))
             query = upstream.recv(LONGEST_DATAGRAM)
             site.bring(upstream, query[:2] + b"\x81\x82" + query[4:])
             self.check_equal(code_of(client.recv(LONGEST_DATAGRAM)), 2)
             counts, _ = last_counts(site)
-            self.check_counts(counts, relayed=1, failed=0, replies=1)
+            return counts
+
+    def test_relayed_failure(self):
+        """a code that an upstream gives is relayed"""
+        for _ in range(TRIES):
+            counts = self.relay_failure()
+            # Where the upstream was too late, the site failed by itself, with the same code.
+            if not counts["failed"]:
+                break
+        self.check_counts(counts, relayed=1, failed=0, replies=1)
 
     def test_frames(self):
         """frames come and leave, and the last sweep has as many items as the site holds"""
@@ -103,25 +129,78 @@ class Counts(Case):
             self.check_counts(counts, items=3, **{"frames-in": 1})
             self.check_true(counts["frames-out"] >= 1, "at least one frame that left", counts)
 
+    def test_dropped(self):
+        """long datagrams of a stranger that come while a question waits are dropped, and counted"""
+        strangers = 3
+        with with_neighbours(more=DAY) as (site, _, peer, client):
+            stop(site.child)
+            site.bring_next(peer, long_frame("example", int(time.time())))
+            site.bring_next(client, question(1, "other.org", flags=0))
+            for _ in range(strangers):
+                site.bring_next(client, b"x" * (LONGEST_MESSAGE + 1))
+            go_on(site.child)
+            self.check_equal(code_of(client.recv(LONGEST_DATAGRAM)), REFUSED)
+            times = ask_until_known(site, client, "example")
+            site.brought -= strangers
+            counts, _ = last_counts(site)
+            waiting = {"messages-waiting": 0, "frames-waiting": 0, "frames-leaving": 0}
+            self.check_counts(counts, questions=1 + times, unpaced=0, **{"frames-in": 1}, **waiting)
+            self.check_counts(counts, **{MESSAGES_DROPPED: strangers})
+
 
 class Times(Case):
     """When a line comes."""
 
     def test_each_second(self):
         """a line comes after each second, and one before the last"""
-        with serving_one(lambda port: configuration(port, [5301]), turns=13, more=("--report", "1")) as site:
-            began = time.monotonic()
-            ready, _, _ = select.select([site.child.stdout], [], [], PATIENCE)
-            self.check_true(bool(ready) and time.monotonic() - began >= 0.9, "a line after a second", ready)
+        turns, began = 13, time.monotonic()
+        with serving_one(lambda port: configuration(port, [5301]), turns=turns, more=SECOND) as site:
             lines = site.end().output.decode().splitlines()
-            took = time.monotonic() - began
-            self.check_true(4 <= len(lines) <= 3 + took, f"a line for each of {took} seconds, and two more", lines)
-            self.check_equal(counts_of(lines[-2])["turns"], 13)
+        took = time.monotonic() - began
+        self.check_true(4 <= len(lines) <= 3 + took, f"a line for each of {took} seconds, and two more", lines)
+        first, last = [counts_of(lines[place])["turns"] for place in (1, -2)]
+        # The first line does not count the turn in which it comes. The turns behind that one wait as long.
+        least = 1 + TURN * (turns - first - 1)
+        self.check_true(took >= least, f"the first line after a second, so {least} seconds and not {took}", lines)
+        self.check_equal(last, turns)
+
+    def test_busy(self):
+        """a line comes while datagrams never cease: at each 256th one the site looks at the clock"""
+        asked = [question(number, "other.org", flags=0) for number in range(16)]
+        with open_socket() as client:
+            with serving_one(lambda port: configuration(port, [5301]), MOST_TURNS, more=SECOND) as site:
+                deadline, counts = time.monotonic() + PATIENCE, {}
+                # On a busy machine this test pauses. A line that comes then has another number of datagrams.
+                while not self.is_at_a_datagram(counts) and time.monotonic() < deadline:
+                    for octets in asked:
+                        site.bring(client, octets)
+                    for _ in asked:
+                        client.recv(LONGEST_DATAGRAM)
+                    if select.select([site.child.stdout], [], [], 0.002)[0]:
+                        counts = counts_of(site.read_line().decode())
+        self.check_true(self.is_at_a_datagram(counts), f"a line at each {LOOKED_AT}th datagram", counts)
+
+    def is_at_a_datagram(self, counts):
+        """Whether a line came at a datagram at which the clock is looked at: this one is not counted yet."""
+        return counts != {} and counts["received"] % LOOKED_AT == LOOKED_AT - 1
 
     def test_no_line(self):
         """without the option there is none"""
         with serving_one(lambda port: configuration(port, [5301]), turns=8) as site:
             self.check_equal(len(site.end().output.splitlines()), 2)
+
+
+def fill(reader):
+    """Makes a pipe small and fills it with line feeds; gives how many there are."""
+    fcntl.fcntl(reader, fcntl.F_SETPIPE_SZ, SMALL_PIPE)
+    writer, count = os.open(f"/proc/self/fd/{reader.fileno()}", os.O_WRONLY | os.O_NONBLOCK), 0
+    try:
+        while True:
+            count += os.write(writer, b"\n")
+    except BlockingIOError:
+        return count
+    finally:
+        os.close(writer)
 
 
 class UnwrittenLines(Case):
@@ -139,22 +218,46 @@ class UnwrittenLines(Case):
             self.check_equal(run_into_file(words, len(first)), failed("write", first))
             self.check_true(time.monotonic() - began >= 2, "twelve turns", began)
 
+    def ask_until_looked(self, site, client):
+        """Brings so many questions that the site looks at the clock; it answers each."""
+        for number in range(LOOKED_AT):
+            site.bring(client, question(number, "other.org", flags=0))
+            self.check_equal(code_of(client.recv(LONGEST_DATAGRAM)), REFUSED)
+
+    def test_full_for_a_while(self):
+        """a pipe is full for a while: the site serves on. The next line begins with a line feed, and says how many were lost"""
+        least, began, written = 3, time.monotonic(), 0
+        with open_socket() as client:
+            with serving_one(lambda port: configuration(port, [5301]), more=SECOND, waits=False) as site:
+                feeds = fill(site.child.stdout)
+                for _ in range(least):
+                    # A line is due by now, and one more than a second later.
+                    time.sleep(1.1)
+                    self.ask_until_looked(site, client)
+                while feeds:
+                    is_feed = site.read_line() == b"\n"
+                    feeds, written = feeds - is_feed, written + (not is_feed)
+                fcntl.fcntl(site.child.stdout, fcntl.F_SETPIPE_SZ, USUAL_PIPE)
+                self.check_equal(site.read_line(), b"\n")
+                first = counts_of(site.read_line().decode())
+                # This line is due a second after the one before it at least, and so on.
+                lost, most = first["unwritten"], int(time.monotonic() - began) - 1 - written
+                self.check_true(least <= lost <= most, f"{least} to {most} lines that were lost", first)
+                self.check_counts(counts_of(site.read_line().decode()), unwritten=lost)
+                counts, _ = last_counts(site)
+                self.check_counts(counts, unwritten=lost, questions=least * LOOKED_AT)
+
     def test_closed(self):
         """nobody reads any more: the site answers, and at the end says that it could not write"""
-        [port] = free_ports(1)
-        with tempfile.NamedTemporaryFile("w", suffix=".toml") as file, open_socket() as client:
-            file.write(configuration(port, [5301]))
-            file.flush()
-            words = ["serve", "--config", file.name, "--key", KEY, "--turns", "14", "--report", "1"]
-            pipes = {"stdout": subprocess.PIPE, "stderr": subprocess.PIPE}
-            with subprocess.Popen([program.path(), *words], **pipes) as child:
-                child.stdout.readline()
-                child.stdout.close()
+        with open_socket() as client:
+            with serving_one(lambda port: configuration(port, [5301]), more=SECOND) as site:
+                site.child.stdout.close()
+                # A line is due by then.
                 time.sleep(1.5)
-                client.sendto(question(1, "other.org", flags=0), (HOST, port))
+                site.bring(client, question(1, "other.org", flags=0))
                 self.check_equal(code_of(client.recv(LONGEST_DATAGRAM)), REFUSED)
-                errors = child.stderr.read()
-            self.check_equal((child.returncode, errors), (1, b"dnsfleet: write\n"))
+                ended = site.finish()
+        self.check_equal((ended.status, ended.errors), (1, b"dnsfleet: write\n"))
 
 
 class Words(Case):

@@ -14,6 +14,7 @@ import select
 import socket
 import struct
 import subprocess
+import sys
 import tempfile
 import time
 from pathlib import Path
@@ -21,7 +22,7 @@ from pathlib import Path
 from support import program
 from support.messages import A, NO_ERROR, SERVER_FAILURE, code_of, question, reply_to
 from support.program import LONGEST_RUN, Ended
-from support.streams import PATIENCE
+from support.streams import PATIENCE, wait_until
 
 # How many turns a site serves. With nothing to do it would take ten minutes for them.
 TURNS = 3000
@@ -92,6 +93,18 @@ def waiting(one):
         one.settimeout(PATIENCE)
 
 
+def rows_at(host, port):
+    """The rows of sockets at an address, of those that the system has (/proc/net/udp)."""
+    place = f"{int.from_bytes(socket.inet_aton(host), sys.byteorder):08X}:{port:04X}"
+    rows = [line.split() for line in Path("/proc/net/udp").read_text(encoding="ascii").splitlines()]
+    return [row for row in rows if row[1] == place]
+
+
+def room_taken(port):
+    """How much of a port's room what waits there takes (`rx_queue`)."""
+    return sum(int(row[4].partition(":")[2], 16) for row in rows_at(HOST, port))
+
+
 def room_for(octets):
     """How many datagrams like this one wait at a socket whose room the system chose, as a site's is."""
     with open_socket() as one:
@@ -119,20 +132,25 @@ def report_of(text):
 
 
 class Site:
-    """A site that serves at a port, in a folder of its own."""
+    """A site that serves at a port, in a folder of its own. Where `waits` is false, its writes to standard output fail
+    where they would wait."""
 
-    def __init__(self, port, text, turns, key, more=()):
+    def __init__(self, port, text, turns, key, more=(), waits=True):
         self.port, self.turns, self.brought = port, turns, 0
         self._folder = tempfile.TemporaryDirectory()
-        path = Path(self._folder.name) / "site.toml"
-        path.write_text(text, encoding="utf-8")
-        words = [program.path(), "serve", "--config", path, "--turns", str(turns), "--key", key, *more]
-        pipes = {"stdin": subprocess.DEVNULL, "stdout": subprocess.PIPE, "stderr": subprocess.PIPE}
+        self.path = Path(self._folder.name) / "site.toml"
+        self.path.write_text(text, encoding="utf-8")
+        words = [program.path(), "serve", "--config", self.path, "--turns", str(turns), "--key", key, *more]
+        reader, writer = os.pipe()
+        os.set_blocking(writer, waits)
+        pipes = {"stdin": subprocess.DEVNULL, "stdout": writer, "stderr": subprocess.PIPE}
         self.child = subprocess.Popen(words, bufsize=0, **pipes)
-        self._first = self._read_line()
+        os.close(writer)
+        self.child.stdout = open(reader, "rb", buffering=0)
+        self._first = self.read_line()
 
-    def _read_line(self):
-        """The first line that it prints, or less where it ends before."""
+    def read_line(self):
+        """The next line that it prints, or less where it ends before."""
         line = b""
         while not line.endswith(b"\n"):
             ready, _, _ = select.select([self.child.stdout], [], [], PATIENCE)
@@ -163,6 +181,12 @@ class Site:
         """Sends it a datagram from a socket."""
         one.sendto(octets, (HOST, self.port))
         self.brought += 1
+
+    def bring_next(self, one, octets):
+        """Sends it a datagram from a socket while it stands still, and waits until that waits at its port."""
+        before = room_taken(self.port)
+        self.bring(one, octets)
+        wait_until(lambda: room_taken(self.port) > before, "the datagram waits at the port")
 
     def end(self):
         """Waits for its end."""
@@ -198,15 +222,15 @@ class Site:
 
 
 @contextlib.contextmanager
-def serving(count, configure, turns=TURNS, key=KEY, more=()):
+def serving(count, configure, turns=TURNS, key=KEY, more=(), waits=True):
     """Sites that listen. `configure` is given that number of ports, and gives their
-    configurations; `more` are other words of `serve`. Where another program took a port before the
-    site could, others are asked for."""
+    configurations; `more` are other words of `serve`, and `waits` is as `Site` says. Where another
+    program took a port before the site could, others are asked for."""
     sites = []
     try:
         for _ in range(TRIES):
             ports = free_ports(count)
-            sites = [Site(port, text, turns, key, more) for port, text in zip(ports, configure(*ports))]
+            sites = [Site(port, text, turns, key, more, waits) for port, text in zip(ports, configure(*ports))]
             if all(site.listens() for site in sites) or not any(site.has_no_port() for site in sites):
                 break
             for site in sites:
@@ -221,9 +245,9 @@ def serving(count, configure, turns=TURNS, key=KEY, more=()):
 
 
 @contextlib.contextmanager
-def serving_one(configure, turns=TURNS, key=KEY, more=()):
+def serving_one(configure, turns=TURNS, key=KEY, more=(), waits=True):
     """A site that listens. `configure` is given its port, and gives its configuration."""
-    with serving(1, lambda port: [configure(port)], turns, key, more) as [site]:
+    with serving(1, lambda port: [configure(port)], turns, key, more, waits) as [site]:
         yield site
 
 

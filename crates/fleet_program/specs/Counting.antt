@@ -1,23 +1,32 @@
 -- What goes through the port of a site, counted.
--- Serves `Tally`.
-use Rattle.std.specs.Prelude.{◌≡◌, ℕ, ◌+◌, ◌*◌, ◌%◌, ◌^◌, Bool, true, false, ◌&&◌, ◌||◌, not, eqb, ltb, cond, List, [], ◌∷◌, Option, Some, None, length, slice_index}
+-- Serves `Tally`, `Watch`.
+use Rattle.std.specs.Prelude.{◌≡◌, ℕ, ◌+◌, ◌*◌, ◌%◌, ◌^◌, Bool, true, false, ◌&&◌, ◌||◌, not, eqb, ltb, cond, List, [], ◌∷◌, ◌++◌, reverse, Option, Some, None, length, slice_index, count_by, sum_by, find, flat_map}
+use Rattle.std.specs.List.{list_any}
 use Rattle.fleet_name.specs.Types.{OctetList}
 use Rattle.fleet_pending.specs.declared.addr.Addr.{Addr}
 use Rattle.fleet_wire.specs.declared.rcode.TheConstants.{FORMAT_ERROR, SERVER_FAILURE, NOT_IMPLEMENTED, REFUSED}
 use Rattle.fleet_site.specs.PacketData.{PacketData}
 use Rattle.fleet_site.specs.server.PortRecord.{PortCall, Received, NoDatagram, Fault, PacketSent, PacketLost}
-use Rattle.fleet_site.specs.socket.Waiting.{is_same_addr, is_peer}
+use Rattle.fleet_site.specs.socket.Waiting.{Datagram, is_same_addr, is_peer}
 use Rattle.fleet_program.specs.declared.tally.Counts.{Counts}
 use Rattle.fleet_program.specs.declared.tally.Role.{Role}
 use Rattle.fleet_program.specs.declared.tally.Role.TheVariants.{Upstream, Peer, Client}
-use Rattle.fleet_program.specs.declared.tally.Tally.{Tally}
-use Rattle.fleet_program.specs.declared.tally.Turn.{Turn}
-use Rattle.fleet_program.specs.declared.tally.Turn.TheVariants.{Question, Reply, Sweep, Other}
 
 -- what an address is to a site with these upstreams and peers
 abbrev pub role_of : List Addr → List Addr → Addr → Role
 role_of upstreams peers addr =
     cond (is_peer upstreams addr) Upstream (cond (is_peer peers addr) Peer Client)
+
+-- whether two roles are the same
+abbrev pub is_same_role : Role → Role → Bool
+is_same_role Upstream Upstream = true
+is_same_role Peer Peer = true
+is_same_role Client Client = true
+is_same_role a b = false
+
+-- whether an address has this role
+abbrev pub has_role : List Addr → List Addr → Role → Addr → Bool
+has_role upstreams peers role addr = is_same_role role (role_of upstreams peers addr)
 
 -- whether an address is the first of a list
 abbrev pub is_first : List Addr → Addr → Bool
@@ -41,10 +50,6 @@ entries_of octets = slice_index octets 3 * 256 + slice_index octets 4
 -- a count with so many more; each is modulo 2 ^ 64
 abbrev pub with_more : ℕ → ℕ → ℕ
 with_more n k = (n + k) % 2 ^ 64
-
--- a count with one more
-abbrev pub one_more : ℕ → ℕ
-one_more n = with_more n 1
 
 -- counts of nothing
 abbrev pub no_counts : Counts
@@ -85,126 +90,176 @@ at_once_in c =
 abbrev pub sent_in : Counts → ℕ
 sent_in c = with_more (with_more (with_more (with_more (at_once_in c) c.relayed) c.failed) c.queries) c.frames_out
 
--- what was counted of the calls of a port so far, and what the turn is that goes on
-pub record Counted : Type 0 where
-  pub counts : Counts
-  pub turn : Turn
+-- a turn of a port: the datagram that its receive gave, if it gave one, and the packets that were sent
+-- since, in their order
+pub record PortTurn : Type 0 where
+  pub received : Option Datagram
+  pub sent : List PacketData
 
--- what was counted before the first call
-abbrev pub none_counted : Counted
-none_counted = record { counts = no_counts; turn = Other }
+-- a turn that has sent nothing yet
+abbrev pub new_turn : Option Datagram → PortTurn
+new_turn received = record { received = received; sent = [] }
 
--- a datagram that came from an address with this role begins a turn
-abbrev pub count_datagram : Role → Addr → OctetList → Counts → Counted
-count_datagram Upstream from octets c =
-    record { counts = record c { replies = one_more c.replies }; turn = Reply (code_of octets) }
-count_datagram Peer from octets c =
-    record { counts = record c { frames_in = one_more c.frames_in }; turn = Other }
-count_datagram Client from octets c =
-    record {
-      counts = record c { questions = one_more c.questions };
-      turn = Question from.host from.port (id_of octets);
-    }
+-- a turn once it sent this packet
+abbrev pub with_sent : PortTurn → PacketData → PortTurn
+with_sent t s = record t { sent = t.sent ++ s ∷ [] }
 
--- an answer at once, by its code (RFC 1035 4.1.1)
-abbrev pub count_at_once : ℕ → Counts → Counts
-count_at_once code c =
-    cond (eqb code FORMAT_ERROR) (record c { format_errors = one_more c.format_errors })
-    (cond (eqb code SERVER_FAILURE) (record c { server_failures = one_more c.server_failures })
-    (cond (eqb code NOT_IMPLEMENTED) (record c { not_implemented = one_more c.not_implemented })
-    (cond (eqb code REFUSED) (record c { refusals = one_more c.refusals })
-    (record c { hits = one_more c.hits }))))
+-- the turn that goes on after a call: each receive begins one, also where it gives nothing
+abbrev pub turn_with : PortTurn → PortCall → PortTurn
+turn_with t (Received asked from octets) = new_turn (Some (from, octets))
+turn_with t (NoDatagram asked) = new_turn None
+turn_with t (Fault asked) = new_turn None
+turn_with t (PacketSent s) = with_sent t s
+turn_with t (PacketLost s) = t
 
--- whether a packet is an answer at once: one to the client whose question the turn received. A server
--- failure is one only under the identifier of that question, since an older one may fail then too
-abbrev pub is_at_once : Turn → PacketData → Bool
-is_at_once (Question host port id) s = eqb host s.to.host && eqb port s.to.port
-    && (not (eqb (code_of s.octets) SERVER_FAILURE) || eqb id (id_of s.octets))
-is_at_once (Reply code) s = false
-is_at_once Sweep s = false
-is_at_once Other s = false
+-- the turns of these calls, in their order, where this turn goes on before them
+abbrev pub turns_from : PortTurn → List PortCall → List PortTurn
+turns_from t [] = t ∷ []
+turns_from t (PacketSent s ∷ calls) = turns_from (with_sent t s) calls
+turns_from t (PacketLost s ∷ calls) = turns_from t calls
+turns_from t (receive ∷ calls) = t ∷ turns_from (turn_with t receive) calls
 
--- whether an answer with this code relays what the turn received: a reply of an upstream. A server
--- failure is one only where the reply says the same
-abbrev pub is_relayed : Turn → ℕ → Bool
-is_relayed (Question host port id) code = false
-is_relayed (Reply given) code = not (eqb code SERVER_FAILURE) || eqb given SERVER_FAILURE
-is_relayed Sweep code = false
-is_relayed Other code = false
+-- the turns of a record, in their order. The first received nothing: it sent what was sent before the
+-- first receive
+abbrev pub turns_of : List PortCall → List PortTurn
+turns_of calls = turns_from (new_turn None) calls
 
--- an answer to a client that is none at once
-abbrev pub count_later : Bool → Counts → Counts
-count_later true c = record c { relayed = one_more c.relayed }
-count_later false c = record c { failed = one_more c.failed }
+-- these packets, which a turn sends next, each with the turn as it was before
+abbrev pub sends_from : PortTurn → List PacketData → List (PortTurn × PacketData)
+sends_from t [] = []
+sends_from t (s ∷ packets) = (t, s) ∷ sends_from (with_sent t s) packets
 
--- a query, to the first upstream or to another one
-abbrev pub count_query : Bool → Counts → Counts
-count_query true c = record c { queries = one_more c.queries }
-count_query false c = record c { queries = one_more c.queries; again = one_more c.again }
+-- the packets that a turn sent, each with the turn as it was before
+abbrev pub sends_in : PortTurn → List (PortTurn × PacketData)
+sends_in t = sends_from (new_turn t.received) t.sent
 
--- the entries of a frame to the first peer, which begins a sweep or goes on with one, but in a turn that
--- received a datagram from an upstream
-abbrev pub count_entries : Turn → ℕ → Counts → Counted
-count_entries (Question host port id) n c =
-    record { counts = record c { items = n }; turn = Sweep }
-count_entries (Reply code) n c = record { counts = c; turn = Reply code }
-count_entries Sweep n c =
-    record { counts = record c { items = with_more c.items n }; turn = Sweep }
-count_entries Other n c = record { counts = record c { items = n }; turn = Sweep }
+-- the packets that were sent in these calls, each with its turn as it was before
+abbrev pub sends_of : List PortCall → List (PortTurn × PacketData)
+sends_of calls = flat_map sends_in (turns_of calls)
 
--- a frame with so many entries, to the first peer or to another one
-abbrev pub count_frame : Bool → ℕ → Turn → Counts → Counted
-count_frame true n turn c = count_entries turn n (record c { frames_out = one_more c.frames_out })
-count_frame false n turn c =
-    record { counts = record c { frames_out = one_more c.frames_out }; turn = turn }
+-- how many of a list pass a test, modulo 2 ^ 64
+abbrev pub count : {A : Type 0} → (A → Bool) → List A → ℕ
+count test xs = count_by test xs % 2 ^ 64
 
--- a packet to an address with this role, which is no answer at once
-abbrev pub count_other : Role → List Addr → List Addr → PacketData → Turn → Counts → Counted
-count_other Upstream upstreams peers s turn c =
-    record { counts = count_query (is_first upstreams s.to) c; turn = turn }
-count_other Peer upstreams peers s turn c =
-    count_frame (is_first peers s.to) (entries_of s.octets) turn c
-count_other Client upstreams peers s turn c =
-    record { counts = count_later (is_relayed turn (code_of s.octets)) c; turn = turn }
+-- how many packets were sent that pass a test, which sees their turn as it was before
+abbrev pub count_sends : (PortTurn → PacketData → Bool) → List PortCall → ℕ
+count_sends test calls = count (λ p. test p.0 p.1) (sends_of calls)
 
--- a packet that was sent
-abbrev pub count_packet : List Addr → List Addr → PacketData → Turn → Counts → Counted
-count_packet upstreams peers s turn c = cond (is_at_once turn s)
-    (record { counts = count_at_once (code_of s.octets) c; turn = turn })
-    (count_other (role_of upstreams peers s.to) upstreams peers s turn c)
+-- whether a call received a datagram from an address with this role
+abbrev pub is_from : List Addr → List Addr → Role → PortCall → Bool
+is_from upstreams peers role (Received asked from octets) = has_role upstreams peers role from
+is_from upstreams peers role call = false
 
--- a call of the port of a site with these upstreams and peers
-abbrev pub count_call : List Addr → List Addr → PortCall → Counted → Counted
-count_call upstreams peers (Received asked from octets) t =
-    count_datagram (role_of upstreams peers from) from octets t.counts
-count_call upstreams peers (NoDatagram asked) t =
-    record { counts = record t.counts { none = one_more t.counts.none }; turn = Other }
-count_call upstreams peers (Fault asked) t =
-    record { counts = record t.counts { faults = one_more t.counts.faults }; turn = Other }
-count_call upstreams peers (PacketSent s) t = count_packet upstreams peers s t.turn t.counts
-count_call upstreams peers (PacketLost s) t =
-    record { counts = record t.counts { lost = one_more t.counts.lost }; turn = t.turn }
+-- whether a call is a receive that gave no datagram
+abbrev pub is_empty : PortCall → Bool
+is_empty (NoDatagram asked) = true
+is_empty call = false
 
--- what was counted once a port made these calls
-abbrev pub count_calls : List Addr → List Addr → List PortCall → Counted → Counted
-count_calls upstreams peers [] t = t
-count_calls upstreams peers (call ∷ calls) t =
-    count_calls upstreams peers calls (count_call upstreams peers call t)
+-- whether a call is a receive that failed
+abbrev pub is_fault : PortCall → Bool
+is_fault (Fault asked) = true
+is_fault call = false
 
--- where a port noted its calls, this is what was counted of them
-abbrev pub IsCountOf : List Addr → List Addr → Option (List PortCall) → Counted → Type 0
-IsCountOf upstreams peers None t = Unit {0}
-IsCountOf upstreams peers (Some calls) t = t ≡ count_calls upstreams peers calls none_counted
+-- whether a call is a send that failed
+abbrev pub is_lost : PortCall → Bool
+is_lost (PacketLost s) = true
+is_lost call = false
 
--- what a tally counted
-abbrev pub counted_in : {A : Type 0} → Tally A → Counted
-counted_in t = record { counts = t.counts; turn = t.turn }
+-- whether a packet is a frame to the first peer
+abbrev pub is_first_frame : List Addr → List Addr → PacketData → Bool
+is_first_frame upstreams peers s = has_role upstreams peers Peer s.to && is_first peers s.to
 
--- a tally counts so much, and is else as it was
-abbrev pub Becomes : {A : Type 0} → Tally A → Counted → Tally A → Type 0
-Becomes old t new = new ≡ record old { counts = t.counts; turn = t.turn }
+-- whether what a turn received is a datagram from an upstream
+abbrev pub has_reply : List Addr → List Addr → Option Datagram → Bool
+has_reply upstreams peers None = false
+has_reply upstreams peers (Some d) = has_role upstreams peers Upstream d.0
 
--- a tally counts this call of its port
-abbrev pub Tallies : {A : Type 0} → Tally A → PortCall → Tally A → Type 0
-Tallies old call new =
-    Becomes old (count_call old.upstreams.items old.peers.items call (counted_in old)) new
+-- whether a turn swept: it received nothing from an upstream, and sent a frame to the first peer
+abbrev pub has_swept : List Addr → List Addr → PortTurn → Bool
+has_swept upstreams peers t = not (has_reply upstreams peers t.received)
+    && list_any (is_first_frame upstreams peers) t.sent
+
+-- whether a packet answers the question that a turn received: it goes to the client that asked. A server
+-- failure does only under the identifier of the question, since an older one may fail then too. One that
+-- the client asked under the same identifier is not told apart
+abbrev pub answers : List Addr → List Addr → Option Datagram → PacketData → Bool
+answers upstreams peers None s = false
+answers upstreams peers (Some d) s = has_role upstreams peers Client d.0 && is_same_addr d.0 s.to
+    && (not (eqb (code_of s.octets) SERVER_FAILURE) || eqb (id_of d.1) (id_of s.octets))
+
+-- whether a packet is an answer at once: it answers what its turn received, before the turn sweeps
+abbrev pub is_at_once : List Addr → List Addr → PortTurn → PacketData → Bool
+is_at_once upstreams peers t s =
+    answers upstreams peers t.received s && not (has_swept upstreams peers t)
+
+-- whether a packet is an answer at once with this code (RFC 1035 4.1.1)
+abbrev pub is_at_once_with : List Addr → List Addr → ℕ → PortTurn → PacketData → Bool
+is_at_once_with upstreams peers code t s =
+    is_at_once upstreams peers t s && eqb (code_of s.octets) code
+
+-- whether a code is one of the failures that are counted by themselves (RFC 1035 4.1.1)
+abbrev pub is_failure : ℕ → Bool
+is_failure code = eqb code FORMAT_ERROR || eqb code SERVER_FAILURE || eqb code NOT_IMPLEMENTED
+    || eqb code REFUSED
+
+-- whether a packet is an answer at once with records, a denial or TC: with none of the codes of failures
+-- that are counted by themselves
+abbrev pub is_hit : List Addr → List Addr → PortTurn → PacketData → Bool
+is_hit upstreams peers t s = is_at_once upstreams peers t s && not (is_failure (code_of s.octets))
+
+-- whether a packet is an answer to a client, and none at once
+abbrev pub is_later : List Addr → List Addr → PortTurn → PacketData → Bool
+is_later upstreams peers t s =
+    has_role upstreams peers Client s.to && not (is_at_once upstreams peers t s)
+
+-- whether an answer relays what its turn received: a reply of an upstream. A server failure does only
+-- where the reply has that code, too, whichever question it replies to
+abbrev pub relays : List Addr → List Addr → Option Datagram → PacketData → Bool
+relays upstreams peers None s = false
+relays upstreams peers (Some d) s = has_role upstreams peers Upstream d.0
+    && (not (eqb (code_of s.octets) SERVER_FAILURE) || eqb (code_of d.1) SERVER_FAILURE)
+
+-- how many entries the frames to the first peer have, together
+abbrev pub entries_in : List Addr → List Addr → List PacketData → ℕ
+entries_in upstreams peers packets =
+    sum_by (λ s. cond (is_first_frame upstreams peers s) (entries_of s.octets) 0) packets
+
+-- the entries of the frames that a turn sent to the first peer; 0 where there is no turn
+abbrev pub items_of : List Addr → List Addr → Option PortTurn → ℕ
+items_of upstreams peers None = 0
+items_of upstreams peers (Some t) = entries_in upstreams peers t.sent
+
+-- the entries of the last of these turns that swept, modulo 2 ^ 64; 0 where none did
+abbrev pub last_items : List Addr → List Addr → List PortTurn → ℕ
+last_items upstreams peers turns =
+    items_of upstreams peers (find (has_swept upstreams peers) (reverse turns)) % 2 ^ 64
+
+-- the counts of the calls of a port, of a site with these upstreams and peers
+abbrev pub counts_of : List Addr → List Addr → List PortCall → Counts
+counts_of upstreams peers calls = record {
+  none = count is_empty calls;
+  faults = count is_fault calls;
+  questions = count (is_from upstreams peers Client) calls;
+  replies = count (is_from upstreams peers Upstream) calls;
+  frames_in = count (is_from upstreams peers Peer) calls;
+  hits = count_sends (is_hit upstreams peers) calls;
+  format_errors = count_sends (is_at_once_with upstreams peers FORMAT_ERROR) calls;
+  server_failures = count_sends (is_at_once_with upstreams peers SERVER_FAILURE) calls;
+  not_implemented = count_sends (is_at_once_with upstreams peers NOT_IMPLEMENTED) calls;
+  refusals = count_sends (is_at_once_with upstreams peers REFUSED) calls;
+  relayed = count_sends
+      (λ t s. is_later upstreams peers t s && relays upstreams peers t.received s) calls;
+  failed = count_sends
+      (λ t s. is_later upstreams peers t s && not (relays upstreams peers t.received s)) calls;
+  queries = count_sends (λ t s. has_role upstreams peers Upstream s.to) calls;
+  again = count_sends
+      (λ t s. has_role upstreams peers Upstream s.to && not (is_first upstreams s.to)) calls;
+  frames_out = count_sends (λ t s. has_role upstreams peers Peer s.to) calls;
+  lost = count is_lost calls;
+  items = last_items upstreams peers (turns_of calls);
+}
+
+-- where a port noted its calls, these are the counts of them
+abbrev pub IsCountOf : List Addr → List Addr → Option (List PortCall) → Counts → Type 0
+IsCountOf upstreams peers None counts = Unit {0}
+IsCountOf upstreams peers (Some calls) counts = counts ≡ counts_of upstreams peers calls

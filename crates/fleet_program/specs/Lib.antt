@@ -12,3 +12,4 @@ pub mod Usage
 pub mod Counting
 pub mod Findings
 pub mod NameText
+pub mod steps

@@ -58,11 +58,12 @@ pub struct Finding<'a> {
     pub found: Found<'a>,
 }
 
+// Lets through: any text. Cases of `tests/run` (`test_checks`) see each, and those of `Found`.
 impl fmt::Display for Finding<'_> {
     fn fmt<W: fmt::Write>(&self, f: &mut fmt::Formatter<W>) -> fmt::Result {
         let (fault, key, found) = (self.fault, self.key, self.found);
         write!(f, "{fault}: ")?;
-        if key.bytes().all(|octet| octet.is_ascii_graphic()) {
+        if !key.is_empty() && key.bytes().all(|octet| octet.is_ascii_graphic()) {
             write!(f, "{key}")?;
         } else {
             write!(f, "{key:?}")?;
@@ -228,6 +229,10 @@ fn find_in_list<'a>(
     good_in(alloc, key, items)
 }
 
+// Lets through: the first of them alone, and none, where the caller adds the fault; and as in the other
+// functions here any key, place and value, since the clauses have the faults alone. The tested body
+// `places_begin_at_zero` has other places; a case of `tests/run` (`test_checks`) sees it. Others see every
+// entry, and each text.
 /// Adds the entries of a list that have this fault.
 fn find_in_items<'a>(
     key: &'a str,

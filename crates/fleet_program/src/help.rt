@@ -73,8 +73,8 @@ The last three are seen where both files are given.";
 pub const WITHDRAW: &str = "\
 A flush of this moment is sent to each site. Then each is asked for the name with RD clear, from another port of the same
 host, and a line for it says `withdrawn` where it has no answer (code 5), `still answers: code C, records N`, `no answer`
-where none came within two seconds, or `not taken: ..` where it has no peer at that address. The status is 0 where all say
-`withdrawn`, 1 where one does not, and 2 for words that are not taken.
+where none came within two seconds, or `not taken: ..` where it has no peer at that address. Nothing says so where that is
+the address of its upstream. The status is 0 where all say `withdrawn`, 1 where one does not, and 2 for bad words.
 
 A name has labels of visible ASCII with dots between them, and a dot at its end or none. In a label `\\.` is a dot, and
 `\\DDD` the octet of this number (RFC 1035 5.1). A type is a word such as MX, or TYPE and a number (RFC 3597 5).

@@ -77,7 +77,8 @@ fn push<B: Allocator>(name: &mut Name<B>, label: &[u8]) -> Result<bool, AllocErr
     }
 }
 
-// Lets through: none where a text spells a name. Cases of `tests/run` (`test_withdrawals`) see it.
+// Lets through: none where a text spells a name, as do `escaped`, `next_octet` and `push`. Cases of
+// `tests/run` (`test_withdrawals`) see it.
 /// The name that a text spells (RFC 1035 5.1): labels with dots between them, and with a dot at the end
 /// or without; the root is a dot alone. `None` where it spells none.
 pub fn name_in<B: Allocator + Copy>(alloc: B, text: &str) -> Result<Option<Name<B>>, AllocError>
@@ -111,8 +112,8 @@ pub fn name_in<B: Allocator + Copy>(alloc: B, text: &str) -> Result<Option<Name<
     Ok(if is_name { Some(name) } else { None })
 }
 
-// Lets through: any type, and none, since it has no clause. Cases of `tests/run` (`test_withdrawals`)
-// see it.
+// Lets through: any type, and none, since neither it nor `is_of_records` has a clause. Cases of
+// `tests/run` (`test_withdrawals`) see it.
 /// The type that a word spells, in letters of either case, if records have it.
 pub fn type_in(word: &str) -> Option<u16> {
     for (text, rtype) in &TYPES {
@@ -122,6 +123,9 @@ pub fn type_in(word: &str) -> Option<u16> {
     }
     let (head, number) = word.split_at_checked(4)?;
     if !head.eq_ignore_ascii_case("TYPE") {
+        return None;
+    }
+    if !number.bytes().all(|octet| octet.is_ascii_digit()) {
         return None;
     }
     number.parse().ok().filter(|rtype| is_of_records(*rtype))

@@ -3,7 +3,8 @@
 ghost use Rattle.std.specs.Prelude.{◌≡◌, ◌≤◌, IfOk, IfSome, length, slice_index};
 ghost use Rattle.fleet_site.specs.server.PortRecord.{receive_of, send_of};
 ghost use Rattle.fleet_site.specs.socket.Waiting.{is_peer};
-ghost use Rattle.fleet_program.specs.Counting.{Becomes, Tallies, counted_in, none_counted, is_first, role_of, is_at_once, is_relayed, id_of, code_of, entries_of, one_more, no_counts, received_in, turns_in, at_once_in, sent_in, count_at_once, count_later, count_query, count_entries, count_frame, count_datagram, count_packet, count_call};
+ghost use Rattle.fleet_program.specs.Counting.{is_first, role_of, id_of, code_of, entries_of, no_counts, received_in, turns_in, at_once_in, sent_in};
+ghost use Rattle.fleet_program.specs.steps.Tallying.{Becomes, Tallies, counted_in, none_counted, is_answered_by, is_relayed, one_more, count_at_once, count_later, count_query, count_entries, count_frame, count_datagram, count_packet, count_call};
 
 use fleet_pending::Addr;
 use fleet_site::PortFault;
@@ -25,7 +26,7 @@ pub struct Counts {
     pub replies: u64,
     /// Datagrams from peers.
     pub frames_in: u64,
-    /// Answers at once with records or a denial: with another code than the next four.
+    /// Answers at once with records, a denial or TC: with another code than the next four.
     pub hits: u64,
     /// Answers at once with code 1.
     pub format_errors: u64,
@@ -35,9 +36,9 @@ pub struct Counts {
     pub not_implemented: u64,
     /// Answers at once with code 5.
     pub refusals: u64,
-    /// Answers that relay the reply of an upstream.
+    /// Answers in the turn of an upstream's reply; with code 2 where that reply has it.
     pub relayed: u64,
-    /// Answers after the last upstream failed.
+    /// All other answers: failures after the last upstream.
     pub failed: u64,
     /// Queries to upstreams.
     pub queries: u64,
@@ -360,7 +361,7 @@ impl<A: Allocator> Tally<A> {
 impl Turn {
     /// Whether a packet answers the question that the turn received.
     fn is_answered_by(self, to: Addr, bytes: &[u8]) -> bool
-        ensures { result ≡ is_at_once self (record { to = to; octets = bytes.now }) }
+        ensures { result ≡ is_answered_by self (record { to = to; octets = bytes.now }) }
     {
         match self {
             Turn::Question(host, port, id) => {

@@ -1,16 +1,38 @@
 //! A site that is watched while it serves: lines of what went through its port.
 
 ghost use Rattle.std.specs.Prelude.{◌≡◌, [], IfSome, None};
-ghost use Rattle.fleet_program.specs.Counting.{IsCountOf, counted_in, none_counted};
+ghost use Rattle.fleet_program.specs.Counting.{IsCountOf};
+ghost use Rattle.fleet_program.specs.steps.Tallying.{IsTurnOf, counted_in, none_counted};
 
 use crate::tally::Tally;
 use fleet_pending::Addr;
-use fleet_site::{CallLog, PortFault, Queued, Unnoted};
+use fleet_site::{CallLog, Drops, PortFault, Queued, Unnoted};
 use std::io;
 use std::time::{self, Duration};
 
+/// Lines that could not be written.
+#[derive(Clone, Copy)]
+struct Unwritten {
+    /// How many there are.
+    lines: u64,
+    /// Whether the last line is one. A part of it may stand there.
+    is_last: bool,
+}
+
+impl Unwritten {
+    // Lets through: any number, and any answer to whether the last line is one. The tested body
+    // `unwritten_lines_are_not_counted` counts none; a case of `tests/run` (`test_reports`) sees both.
+    /// Notes whether a line was written.
+    fn note(&mut self, is_written: bool) {
+        if !is_written {
+            self.lines = self.lines.saturating_add(1);
+        }
+        self.is_last = !is_written;
+    }
+}
+
 /// A log that counts what goes through a port, and prints a line of its counts whenever some time has
-/// passed. A line that could not be written is counted in the next.
+/// passed. Lines that could not be written are counted in the next, which begins with a line feed.
 #[derive(Drop)]
 pub struct Watch<'a, C: time::Clock, O: Print, L: CallLog + Drop> {
     log: L,
@@ -20,9 +42,11 @@ pub struct Watch<'a, C: time::Clock, O: Print, L: CallLog + Drop> {
     every: Duration,
     due: Option<Duration>,
     datagrams: u8,
-    unwritten: u64,
+    unwritten: Unwritten,
     pub ghost counted: { ∥ IsCountOf tally.upstreams.items tally.peers.items (L.noted log)
-        (counted_in tally) ∥₁ },
+        tally.counts ∥₁ },
+    ghost kept: { ∥ IsTurnOf tally.upstreams.items tally.peers.items (L.noted log)
+        tally.turn ∥₁ },
 }
 
 impl<'a, C: time::Clock, O: Print, L: CallLog + Drop> Watch<'a, C, O, L> {
@@ -49,14 +73,21 @@ impl<'a, C: time::Clock, O: Print, L: CallLog + Drop> Watch<'a, C, O, L> {
             every,
             due,
             datagrams: 0,
-            unwritten: 0,
+            unwritten: Unwritten {
+                lines: 0,
+                is_last: false,
+            },
         }
     }
 
-    // Lets through: any text. Cases of `tests/run` (`test_reports`) see its keys, and most of its counts.
+    // Lets through: any text. The tested bodies `line_exchanges_what_is_dropped` and
+    // `line_follows_a_part_of_one` are such; cases of `tests/run` (`test_reports`) see them, the keys, and
+    // most of the counts.
     /// Prints a line of what was counted so far, and of what waits in the port.
     pub fn print(&self, queued: Queued) -> io::Result<()> {
-        let (counts, unwritten) = (self.tally.counts(), self.unwritten);
+        let counts = self.tally.counts();
+        let Unwritten { lines, is_last } = self.unwritten;
+        let start = if is_last { "\n" } else { "" };
         let Queued {
             messages,
             frames,
@@ -64,11 +95,14 @@ impl<'a, C: time::Clock, O: Print, L: CallLog + Drop> Watch<'a, C, O, L> {
             dropped,
             unpaced,
         } = queued;
+        let (messages_dropped, frames_dropped) = (dropped.messages, dropped.frames);
         println!(self.out;
-            "{counts} messages-waiting {messages} frames-waiting {frames} frames-leaving {leaving} dropped {dropped} unpaced {unpaced} unwritten {unwritten}"
+            "{start}{counts} messages-waiting {messages} messages-dropped {messages_dropped} frames-waiting {frames} frames-dropped {frames_dropped} frames-leaving {leaving} unpaced {unpaced} unwritten {lines}"
         )
     }
 
+    // Lets through: no look, or one at each datagram. The tested body `no_look_at_datagrams` looks only
+    // where none came; a case of `tests/run` (`test_reports`) sees it.
     /// Looks at the clock once a receive ended, if it gave no datagram, or each 256th one. Prints a line
     /// where one is due.
     fn look(&mut self, got: Result<Option<(Addr, usize)>, PortFault>, queued: Queued)
@@ -98,7 +132,7 @@ impl<'a, C: time::Clock, O: Print, L: CallLog + Drop> Watch<'a, C, O, L> {
         messages: usize,
         frames: usize,
         leaving: usize,
-        dropped: u64,
+        dropped: Drops,
         unpaced: u64,
     )
         ensures { self.new ≡ record self.old {
@@ -126,9 +160,8 @@ impl<'a, C: time::Clock, O: Print, L: CallLog + Drop> Watch<'a, C, O, L> {
             dropped,
             unpaced,
         };
-        if self.print(queued).is_err() {
-            self.unwritten = self.unwritten.saturating_add(1);
-        }
+        let is_written = self.print(queued).is_ok();
+        self.unwritten.note(is_written);
     }
 }
 
@@ -208,6 +241,8 @@ impl<'a, C: time::Clock, O: Print> CallLog for ServerLog<'a, C, O> {
     }
 }
 
+// Lets through: any answer, which says only when the clock is looked at. Cases of `tests/run`
+// (`test_reports`) see when lines come.
 /// Whether a receive gave a datagram.
 fn is_datagram(got: Result<Option<(Addr, usize)>, PortFault>) -> bool {
     matches!(got, Ok(Some(_)))

@@ -42,9 +42,9 @@ const MOST_REFUSALS: u16 = 4096;
 // `every_code_is_withdrawn` are such; cases of `tests/run` (`test_withdrawals`) see it.
 /// The options of `withdraw`.
 pub fn options<'a>(alloc: Global, command: Command<'a>) -> Result<Command<'a>, AllocError> {
-    let help = "The address that the sites have among their peers";
+    let help = "An address that is a peer of the sites, and no upstream";
     let from = required(alloc, "from", "ADDR", help);
-    let help = "A site; more of them may stand before the name";
+    let help = "A site; others may stand before the name";
     let to = repeated(alloc, "to", "ADDR", help);
     let help = "The type that each site is asked for then, A if absent";
     let rtype = optional(alloc, "type", "TYPE", help);

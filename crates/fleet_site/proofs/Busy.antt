@@ -330,7 +330,7 @@ none_taken_in ps (d ∷ ds) a b (inl h) ms fs =
     let r = none_taken_in ps ds (with_one ps d a) b h ms fs in
     absurd (none_kept (is_frame ps d) d a.messages a.frames r.messages r.frames)
 none_taken_in ps (d ∷ ds) a b (inr h) ms fs =
-    let r = none_taken_in ps ds (without_one a) b h.1 ms fs in
+    let r = none_taken_in ps ds (without_one ps d a) b h.1 ms fs in
     absurd (none_others (is_frame ps d) a.messages a.frames r.messages r.frames h.0)
 
 -- where nothing waits, nothing waited and nothing came

@@ -65,7 +65,7 @@ taken_came peers (d ∷ ds) a b x (inl t) h = elim (taken_came peers ds (with_on
   ]
   | inr m ↦ inr (inr m)
 ]
-taken_came peers (d ∷ ds) a b x (inr t) h = elim (taken_came peers ds (without_one a) b x t.1 h) [
+taken_came peers (d ∷ ds) a b x (inr t) h = elim (taken_came peers ds (without_one peers d a) b x t.1 h) [
   | inl w ↦ inl w
   | inr m ↦ inr (inr m)
 ]

@@ -6,9 +6,10 @@ use Rattle.std.proofs.lemmas.List.{append-nil}
 use Rattle.fleet_pending.specs.declared.addr.Addr.{Addr}
 use Rattle.fleet_site.specs.PacketData.{PacketData}
 use Rattle.fleet_site.specs.declared.port.PortFault.{PortFault}
-use Rattle.fleet_site.specs.server.PortRecord.{PortCall, Received, NoDatagram, Fault, PacketSent, PacketLost, NotesAll, receive_of, send_of, one_more}
+use Rattle.fleet_site.specs.declared.queued.Drops.{Drops}
+use Rattle.fleet_site.specs.server.PortRecord.{PortCall, Received, NoDatagram, Fault, PacketSent, PacketLost, NotesAll, receive_of, send_of}
 use Rattle.fleet_site.specs.socket.SocketRecord.{SocketCall, Sent, Unsent, HasNoted, Called, departure_of, nanos_of}
-use Rattle.fleet_site.specs.socket.Waiting.{Datagram, Arrived, with_one, without_one, Takes, Sifts, is_long, is_frame, messages_of, frames_of, arrivals_of, at_most_one, TookOut, HandsOn}
+use Rattle.fleet_site.specs.socket.Waiting.{Datagram, Arrived, with_one, without_one, no_drops, one_dropped, Takes, Sifts, is_long, is_frame, messages_of, frames_of, arrivals_of, at_most_one, TookOut, HandsOn}
 use Rattle.fleet_site.specs.socket.Window.{whole_window}
 use Rattle.std.specs.declared.time.Duration.{Duration}
 use Rattle.fleet_site.specs.socket.Pace.{Burst, fresh}
@@ -122,17 +123,25 @@ none_or x e = absurd (let bad : None ≡ Some x = e in cc)
 
 -- What comes in.
 
-sifts_both : (xs ys ks bs : List Datagram) (n m k : ℕ) → Sifts xs ks n m → Sifts ys bs m k → Sifts (xs ++ ys) (ks ++ bs) n k
-sifts_both [] ys ks bs n m k h g =
-    subst (λ x. Sifts ys (x ++ bs) n k) (sym h.0) (subst (λ x. Sifts ys bs x k) h.1 g)
-sifts_both (x ∷ xs) ys ks bs n m k (inl h) g =
-    inl (h.0 ++ bs, ap (λ z. z ++ bs) h.1, sifts_both xs ys h.0 bs n m k h.2 g)
-sifts_both (x ∷ xs) ys ks bs n m k (inr h) g = inr (sifts_both xs ys ks bs (one_more n) m k h g)
+sifts_both : (ps : List Addr) (xs ys ks bs : List Datagram) (n m k : Drops) → Sifts ps xs ks n m → Sifts ps ys bs m k
+    → Sifts ps (xs ++ ys) (ks ++ bs) n k
+sifts_both ps [] ys ks bs n m k h g =
+    subst (λ x. Sifts ps ys (x ++ bs) n k) (sym h.0) (subst (λ x. Sifts ps ys bs x k) h.1 g)
+sifts_both ps (x ∷ xs) ys ks bs n m k (inl h) g =
+    inl (h.0 ++ bs, ap (λ z. z ++ bs) h.1, sifts_both ps xs ys h.0 bs n m k h.2 g)
+sifts_both ps (x ∷ xs) ys ks bs n m k (inr h) g =
+    inr (sifts_both ps xs ys ks bs (one_dropped (is_frame ps x) n) m k h g)
+
+sifts_moved : (cs : List SocketCall) (ks : List Datagram) (p q : BurstData) → q.peers ≡ p.peers → q.dropped ≡ p.dropped
+    → Sifts p.peers (arrivals_of cs) ks no_drops p.dropped → Sifts q.peers (arrivals_of cs) ks no_drops q.dropped
+sifts_moved cs ks p q peers drops h =
+    subst (λ ps. Sifts ps (arrivals_of cs) ks no_drops q.dropped) (sym peers)
+    (subst (λ n. Sifts p.peers (arrivals_of cs) ks no_drops n) (sym drops) h)
 
 -- of what came some was kept, and waits after what waited; all else was counted
 record Kept (ps : List Addr) (ds : List Datagram) (a b : Arrived) : Type 0 where
   pub kept : List Datagram
-  pub sifts : Sifts ds kept a.dropped b.dropped
+  pub sifts : Sifts ps ds kept a.dropped b.dropped
   pub messages : b.messages ≡ a.messages ++ messages_of ps kept
   pub frames : b.frames ≡ a.frames ++ frames_of ps kept
 
@@ -154,7 +163,7 @@ taken_kept ps (d ∷ ds) a b (inl h) =
           ∙ ap (λ x. a.frames ++ x) (sym (frames_of-append ps (d ∷ []) r.kept));
     }
 taken_kept ps (d ∷ ds) a b (inr h) =
-    let r = taken_kept ps ds (without_one a) b h.1 in
+    let r = taken_kept ps ds (without_one ps d a) b h.1 in
     record { kept = r.kept; sifts = inr r.sifts; messages = r.messages; frames = r.frames }
 
 in_worked : (cs : List SocketCall) (ns : List PortCall) (p m : BurstData) (calls : List SocketCall)
@@ -164,8 +173,10 @@ in_worked cs ns p m calls w f =
     record {
       kept = f.kept ++ r.kept;
       handed = f.handed;
-      sifts = subst (λ ds. Sifts ds (f.kept ++ r.kept) 0 m.dropped) (sym (arrivals_of-append cs calls))
-          (sifts_both (arrivals_of cs) (arrivals_of calls) f.kept r.kept 0 p.dropped m.dropped f.sifts r.sifts);
+      sifts = subst (λ ps. Sifts ps (arrivals_of (cs ++ calls)) (f.kept ++ r.kept) no_drops m.dropped) (sym w.peers)
+          (subst (λ ds. Sifts p.peers ds (f.kept ++ r.kept) no_drops m.dropped) (sym (arrivals_of-append cs calls))
+          (sifts_both p.peers (arrivals_of cs) (arrivals_of calls) f.kept r.kept no_drops p.dropped m.dropped
+          f.sifts r.sifts));
       hands_on = f.hands_on;
       messages = subst (λ ps. messages_of ps (f.kept ++ r.kept) ≡ messages_of ps f.handed ++ m.messages) (sym w.peers)
           (messages_of-append p.peers f.kept r.kept
@@ -197,7 +208,7 @@ in_called : (cs : List SocketCall) (ns : List PortCall) (p : BurstData) (c : Soc
 in_called cs ns p c none f = record {
   kept = f.kept;
   handed = f.handed;
-  sifts = subst (λ ds. Sifts ds f.kept 0 p.dropped)
+  sifts = subst (λ ds. Sifts p.peers ds f.kept no_drops p.dropped)
       (sym (arrivals_of-append cs (c ∷ []) ∙ ap (λ x. arrivals_of cs ++ x) none ∙ append-nil (arrivals_of cs))) f.sifts;
   hands_on = f.hands_on;
   messages = f.messages;
@@ -215,7 +226,7 @@ in_handed asked cs ns p q g buffer d took fills peers drops f =
     record {
       kept = f.kept;
       handed = f.handed ++ d ∷ [];
-      sifts = subst (λ n. Sifts (arrivals_of cs) f.kept 0 n) (sym drops) f.sifts;
+      sifts = sifts_moved cs f.kept p q peers drops f.sifts;
       hands_on = hands_more f.handed ns d asked g.0 (take g.1 buffer) (ap (λ (x : Addr × ℕ). x.0) g_is)
           (ap (λ (x : Addr × ℕ). take x.1 buffer) g_is ∙ fills.1) f.hands_on;
       messages = subst (λ ps. messages_of ps f.kept ≡ messages_of ps (f.handed ++ d ∷ []) ++ q.messages)
@@ -229,7 +240,7 @@ in_moved : (cs : List SocketCall) (ns : List PortCall) (p q : BurstData) → q.p
 in_moved cs ns p q peers ms fs drops f = record {
   kept = f.kept;
   handed = f.handed;
-  sifts = subst (λ n. Sifts (arrivals_of cs) f.kept 0 n) (sym drops) f.sifts;
+  sifts = sifts_moved cs f.kept p q peers drops f.sifts;
   hands_on = f.hands_on;
   messages = subst (λ ps. messages_of ps f.kept ≡ messages_of ps f.handed ++ q.messages) (sym peers)
       (f.messages ∙ ap (λ x. messages_of p.peers f.handed ++ x) (sym ms));
@@ -432,7 +443,7 @@ fresh_burst began sent b s = rw (b, s) refl
 -- at the beginning both records are empty
 pub begin_noted : (a : Option (List SocketCall)) (l : Option (List PortCall)) (p : BurstData)
     → IfSome a (λ calls. calls ≡ []) → IfSome l (λ noted. noted ≡ []) → a ≡ p.socket.noted → IsIdle p
-    → p.window ≡ whole_window → p.burst ≡ fresh → p.unpaced ≡ 0 → p.dropped ≡ 0 → FlowsIfNoted a l p
+    → p.window ≡ whole_window → p.burst ≡ fresh → p.unpaced ≡ 0 → p.dropped ≡ no_drops → FlowsIfNoted a l p
 begin_noted None l p ha hl same idle window burst unpaced drops = tt
 begin_noted (Some calls) None p ha hl same idle window burst unpaced drops = tt
 begin_noted (Some calls) (Some noted) p ha hl same idle window burst unpaced drops =

@@ -133,10 +133,10 @@ came_by_kind c ds from octets a leaving rest waits asked false next k es ms fs w
     )
 
 -- a datagram came, and was dropped
-came_dropped : (c : ConfigData) (ds : List Debt) (from : Addr) (octets : List ℕ) (a : Arrived)
+came_dropped : (c : ConfigData) (ds : List Debt) (peers : List Addr) (from : Addr) (octets : List ℕ) (a : Arrived)
     (leaving : List Datagram) (rest : List SocketCall) (waits : Bool) (asked : ℕ)
-    → Carries c ds (without_one a) leaving rest → Carries c ds a leaving (Came waits asked from octets ∷ rest)
-came_dropped c ds from octets a leaving rest waits asked next k es ms fs w = (
+    → Carries c ds (without_one peers (from, octets) a) leaving rest → Carries c ds a leaving (Came waits asked from octets ∷ rest)
+came_dropped c ds peers from octets a leaving rest waits asked next k es ms fs w = (
   es ++ (ms ++ fs),
   es ++ (ms ++ fs),
   within_same (es ++ (ms ++ fs)),
@@ -180,8 +180,8 @@ taken_over c ds peers (Came w n from octets ∷ calls) rest a b leaving left (in
     came_by_kind c ds from octets a leaving (calls ++ rest) w n (is_frame peers (from, octets))
     (taken_over c ds peers calls rest (with_one peers (from, octets) a) b leaving left t e next)
 taken_over c ds peers (Came w n from octets ∷ calls) rest a b leaving left (inr t) e next =
-    came_dropped c ds from octets a leaving (calls ++ rest) w n
-    (taken_over c ds peers calls rest (without_one a) b leaving left t.1 e next)
+    came_dropped c ds peers from octets a leaving (calls ++ rest) w n
+    (taken_over c ds peers calls rest (without_one peers (from, octets) a) b leaving left t.1 e next)
 taken_over c ds peers (NoneCame w n ∷ calls) rest a b leaving left t e next =
     taken_over c ds peers calls rest a b leaving left t e next
 taken_over c ds peers (Failed w n ∷ calls) rest a b leaving left t e next =

@@ -8,9 +8,9 @@ use Rattle.std.proofs.lemmas.List.{append-nil, length-take-le, take_all}
 use Rattle.fleet_pending.specs.declared.addr.Addr.{Addr}
 use Rattle.fleet_site.specs.PacketData.{PacketData}
 use Rattle.fleet_site.specs.declared.port.PortFault.{PortFault}
-use Rattle.fleet_site.specs.server.PortRecord.{failures_after, one_more, Fills}
+use Rattle.fleet_site.specs.server.PortRecord.{failures_after, Fills}
 use Rattle.fleet_site.specs.socket.SocketRecord.{SocketCall, Came, NoneCame, Failed, Sent, Unsent, ClockRead, Switched, SocketState, Called, mode_after, arrival_of, departure_of}
-use Rattle.fleet_site.specs.socket.Waiting.{Datagram, Arrived, with_one, without_one, OthersWait, Takes, Joins, TookOut, HandsOn, is_frame, messages_of, arrivals_of, departures_of}
+use Rattle.fleet_site.specs.socket.Waiting.{Datagram, Arrived, with_one, without_one, one_dropped, OthersWait, Takes, Joins, TookOut, HandsOn, is_frame, messages_of, arrivals_of, departures_of}
 use Rattle.fleet_site.specs.socket.Pace.{Burst, is_over, after, Paces}
 use Rattle.fleet_site.specs.declared.bursts.TheConstants.{BURST}
 use Rattle.fleet_site.specs.socket.Window.{next_turn}
@@ -41,7 +41,7 @@ takes_both : (ps : List Addr) (xs ys : List Datagram) (a b c : Arrived) → Take
     → Takes ps (xs ++ ys) a c
 takes_both ps [] ys a b c h k = subst (λ x. Takes ps ys x c) h k
 takes_both ps (x ∷ xs) ys a b c (inl h) k = inl (takes_both ps xs ys (with_one ps x a) b c h k)
-takes_both ps (x ∷ xs) ys a b c (inr h) k = inr (h.0, takes_both ps xs ys (without_one a) b c h.1 k)
+takes_both ps (x ∷ xs) ys a b c (inr h) k = inr (h.0, takes_both ps xs ys (without_one ps x a) b c h.1 k)
 
 pub worked_both : (a b c : BurstData) (xs ys : List SocketCall) → Worked a b xs → Worked b c ys → Worked a c (xs ++ ys)
 worked_both a b c xs ys h k = record {
@@ -494,11 +494,11 @@ came_dropped : (mid p : BurstData) (waits : Bool) (asked : ℕ) (r : Result (Opt
     (from : Addr) (n : ℕ) → mid.socket.waits ≡ waits
     → Called mid.socket p.socket (arrival_of mid.socket.waits asked r buffer ∷ []) → Asked mid p r
     → r ≡ Ok (Some (from, n)) → OthersWait (is_frame mid.peers (from, take n buffer)) mid.messages mid.frames
-    → Worked mid (record p { dropped = one_more p.dropped }) (Came waits asked from (take n buffer) ∷ [])
+    → Worked mid (record p { dropped = one_dropped (is_frame p.peers (from, take n buffer)) p.dropped }) (Came waits asked from (take n buffer) ∷ [])
 came_dropped mid p waits asked r buffer from n mode called rest got others =
-    came_one mid (record p { dropped = one_more p.dropped }) waits asked r buffer from n mode called got
+    came_one mid (record p { dropped = one_dropped (is_frame p.peers (from, take n buffer)) p.dropped }) waits asked r buffer from n mode called got
     (record { peers = k.peers; leaving = k.leaving; places = k.places; window = k.window; unpaced = k.unpaced; burst = k.burst })
-    (inr (others, ap (λ (x : BurstData). without_one (arrived_of x)) rest)) (ap (λ (x : BurstData). x.failed) rest)
+    (inr (others, ap (λ (x : BurstData). without_one x.peers (from, take n buffer) (arrived_of x)) rest)) (ap (λ (x : BurstData). x.failed) rest)
   where
     k : Keeping mid p
     k = keeping mid p r rest

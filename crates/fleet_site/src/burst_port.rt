@@ -9,7 +9,7 @@ ghost use Rattle.fleet_site.specs.socket.Parts.{data_of};
 use crate::bursts::Bursts;
 use crate::call_log::CallLog;
 use crate::port::{Port, PortFault};
-use crate::queued::Queued;
+use crate::queued::{Drops, Queued};
 use crate::socket::Socket;
 use fleet_pending::Addr;
 use std::alloc::{Allocator, Global};
@@ -70,7 +70,7 @@ impl<S: Socket + Drop, L: CallLog + Drop, A: Allocator + Copy> BurstPort<S, L, A
 
     /// How many datagrams that came were dropped, since others of their kind waited and they found no
     /// room.
-    pub fn dropped(&self) -> u64
+    pub fn dropped(&self) -> Drops
         ensures { result ≡ self.now.bursts.dropped }
     {
         self.bursts.dropped()

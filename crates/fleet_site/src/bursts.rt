@@ -4,7 +4,7 @@ ghost use Rattle.std.specs.Prelude.{◌≡◌, ◌↔◌, ◌≤◌, ◌<◌, na
 ghost use Rattle.fleet_site.specs.server.PortRecord.{failures_after, one_more};
 ghost use Rattle.fleet_site.specs.socket.SocketRecord.{Called, Switched, ClockRead, Paused, arrival_of, departure_of, nanos_of};
 ghost use Rattle.fleet_site.specs.socket.Window.{whole_window};
-ghost use Rattle.fleet_site.specs.socket.Waiting.{is_frame};
+ghost use Rattle.fleet_site.specs.socket.Waiting.{is_frame, no_drops};
 ghost use Rattle.fleet_site.specs.socket.Inbox.{HasRoom};
 ghost use Rattle.fleet_site.specs.socket.Bursts.{IsIdle, queued_in, KeepsOrDrops, ReadsClock, Worked, HasWorked, Receives, SendsOrKeeps, SentSome, SentOn, Switches, TakesThenHandsOn, TookAll, WorksThenHandsOn, joined, turn_begun};
 ghost use Rattle.std.specs.Duration.{as_nanos};
@@ -14,7 +14,7 @@ ghost use Rattle.fleet_site.specs.socket.Parts.{data_of};
 use crate::inbox::Inbox;
 use crate::outbox::Outbox;
 use crate::port::PortFault;
-use crate::queued::Queued;
+use crate::queued::{Drops, Queued};
 use crate::socket::Socket;
 use fleet_pending::Addr;
 use fleet_wire::bounds::LONGEST_MESSAGE;
@@ -60,7 +60,7 @@ pub struct Bursts<S: Socket + Drop, A: Allocator = Global> {
     leaving: Outbox<A>,
     began: Option<Duration>,
     sent: usize,
-    dropped: u64,
+    dropped: Drops,
     unpaced: u64,
     failed: u64,
 }
@@ -73,7 +73,7 @@ impl<S: Socket + Drop, A: Allocator + Copy> Bursts<S, A> {
         ensures socket { result.socket ≡ socket }
         ensures peers { result.peers.items ≡ peers.items }
         ensures failed { result.failed ≡ 0 }
-        ensures dropped { result.dropped ≡ 0 }
+        ensures dropped { result.dropped ≡ no_drops }
         ensures burst { (result.began ≡ None) × (result.sent ≡ 0) }
         ensures window { (result.leaving.window ≡ whole_window) × (result.unpaced ≡ 0) }
     {
@@ -84,7 +84,7 @@ impl<S: Socket + Drop, A: Allocator + Copy> Bursts<S, A> {
             leaving: Outbox::new(alloc),
             began: None,
             sent: 0,
-            dropped: 0,
+            dropped: Drops::none(),
             unpaced: 0,
             failed: 0,
         }
@@ -304,7 +304,7 @@ impl<S: Socket + Drop, A: Allocator + Copy> Bursts<S, A> {
         let is_frame = self.is_frame(from, octets);
         let is_kept = self.arrived.keep(is_frame, from, octets);
         if !is_kept {
-            self.dropped = self.dropped.saturating_add(1);
+            self.dropped.count(is_frame);
         }
         is_kept
     }
@@ -481,7 +481,7 @@ impl<S: Socket + Drop, A: Allocator + Copy> Bursts<S, A> {
     }
 
     /// How many datagrams were dropped that came.
-    pub fn dropped(&self) -> u64
+    pub fn dropped(&self) -> Drops
         ensures { result ≡ self.now.dropped }
     {
         self.dropped

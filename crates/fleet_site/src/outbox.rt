@@ -76,6 +76,7 @@ pub struct Outbox<A: Allocator = Global> {
 impl<A: Allocator> Model for Outbox<A> {
     ghost use Rattle.std.specs.Prelude.{◌≤◌, length};
     ghost use Rattle.fleet_site.specs.socket.Outbox.{OutboxData, all_datagrams};
+    ghost use Rattle.fleet_site.specs.socket.Window.{IsNewIfNone};
     ghost use Rattle.fleet_site.specs.declared.outbox.TheConstants.{MOST_PLACES};
 
     ghost Value = { OutboxData };
@@ -86,7 +87,7 @@ impl<A: Allocator> Model for Outbox<A> {
       window = o.window;
     } };
 
-    ghost invariant = { λ o. length o.frames.items ≤ MOST_PLACES };
+    ghost invariant = { λ o. (length o.frames.items ≤ MOST_PLACES) × IsNewIfNone o.window };
 }
 
 impl<A: Allocator + Copy> Outbox<A> {
@@ -115,11 +116,14 @@ impl<A: Allocator + Copy> Outbox<A> {
         self.frames.len()
     }
 
-    /// Begins a turn, with the window of the next sweep where the last turn was one.
+    /// Begins a turn, with the window of the next sweep where the last turn was one. After a turn in
+    /// which no frame came, as that of a hit, the window is as it has to be.
     pub fn begin_turn(&mut self)
         ensures { self.new ≡ record self.old { window = next_turn self.old.window } }
     {
-        self.window = self.window.next_turn();
+        if self.window.has_frames() {
+            self.window = self.window.next_turn();
+        }
     }
 
     /// Has a frame wait after those that wait: in the last place, where that has these octets, or in

@@ -1,7 +1,8 @@
 //! What a site does as time passes.
 
-ghost use Rattle.std.specs.Prelude.{◌≡◌, ◌<◌, ◌+◌, IsTrue, IfOk, IfErr, map};
-ghost use Rattle.fleet_pending.specs.Due.{NoneDue};
+ghost use Rattle.std.specs.Prelude.{Some, ◌≡◌, ◌<◌, ◌+◌, IsTrue, IfOk, IfErr, map};
+ghost use Rattle.fleet_pending.specs.Due.{NoneDue, Dues, due_entry};
+ghost use Rattle.fleet_pending.specs.PendingData.{IsEntryData};
 ghost use Rattle.fleet_site.specs.steps.Carried.{SaysOrStops};
 ghost use Rattle.fleet_site.specs.steps.Plan.{IsPlan, SaysMore};
 ghost use Rattle.fleet_site.specs.Table.{IsTableOf, KeepsTable};
@@ -23,8 +24,6 @@ use std::alloc::{AllocError, Allocator};
 /// All that the first due entry makes a site write, before its table changes.
 #[derive(Drop)]
 pub(crate) enum Plan<A: Allocator> {
-    /// None is due.
-    Idle(Outcome<A>),
     /// The entry with this id goes on to the next upstream.
     Retry(u16, Outcome<A>),
     /// The entry with this id is settled.
@@ -73,27 +72,27 @@ fn make_plan<A: Allocator + Copy>(
     pending: &Pending<A>,
     upstreams: &[Addr],
     now: Moment,
+    due: Due<'_, A>,
 ) -> Result<Plan<A>, AllocError>
-    requires { IsTableOf upstreams.now pending.now }
+    requires table { IsTableOf upstreams.now pending.now }
+    requires dues { Dues pending.now now (Some due) }
+    requires is_open { IsEntryData (due_entry due) }
     ensures plan { IfOk result (λ p. IsPlan upstreams.now pending.now now p) }
     ensures memory { IfErr result (λ _. ¬ NoneDue pending.now.entries now) }
 {
     let alloc = *pending.allocator();
-    match pending.due(now) {
-        None => Ok(Plan::Idle(Outcome::without_packets(alloc, 0, None))),
-        Some(
-            Due::Retry {
-                upstream,
-                id,
-                entry,
-            },
-        ) => {
+    match due {
+        Due::Retry {
+            upstream,
+            id,
+            entry,
+        } => {
             let octets = entry_query(alloc, id, entry)?;
             let to = addr_of(upstreams, upstream);
             let outcome = Outcome::with_packet(alloc, to, octets, None)?;
             Ok(Plan::Retry(id, outcome))
         }
-        Some(Due::Failed { id, entry }) => {
+        Due::Failed { id, entry } => {
             let packets = failure_packets(alloc, entry.waiters.as_slice())?;
             let outcome = Outcome::with_packets(alloc, packets, 0, None);
             Ok(Plan::Fail(id, outcome))
@@ -118,15 +117,16 @@ pub(crate) fn serve_due<A: Allocator + Copy>(
     waiters_stay();
     settling_gives_its_entry();
     serving_leaves_fewer_due();
-    let plan = match make_plan(pending, upstreams, now) {
+    let Some(due) = pending.due(now) else {
+        let idle = Outcome::without_packets(*pending.allocator(), 0, None);
+        pending.look_ahead(now);
+        return Ok(idle);
+    };
+    let plan = match make_plan(pending, upstreams, now, due) {
         Ok(plan) => plan,
         Err(_) => return Err(SiteFault::OutOfMemory { taken: 0 }),
     };
     match plan {
-        Plan::Idle(outcome) => {
-            pending.look_ahead(now);
-            Ok(outcome)
-        }
         Plan::Retry(id, outcome) => {
             let _ = pending.advance(id, now);
             Ok(and_more(pending, now, outcome))

@@ -1,6 +1,6 @@
 //! Which of the frames of a turn wait to be sent.
 
-ghost use Rattle.std.specs.Prelude.{◌≡◌, ◌≤◌};
+ghost use Rattle.std.specs.Prelude.{◌≡◌, ◌≢◌, ◌↔◌, ◌≤◌, IsTrue};
 ghost use Rattle.fleet_site.specs.socket.Window.{whole_window, is_inside, is_due, after_kept, after_passed, goes_on, next_turn};
 
 use crate::outbox::MOST_PLACES;
@@ -40,6 +40,13 @@ impl Window {
             short: 0,
             has_passed: false,
         }
+    }
+
+    /// Whether a frame came in this turn.
+    pub fn has_frames(self) -> bool
+        ensures { IsTrue result ↔ (self.count ≢ 0) }
+    {
+        self.count != 0
     }
 
     /// Whether the next frame of the turn is of the window.

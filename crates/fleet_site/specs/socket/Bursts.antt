@@ -7,11 +7,12 @@ use Rattle.fleet_site.specs.PacketData.{PacketData}
 use Rattle.fleet_site.specs.server.PortRecord.{one_more}
 use Rattle.fleet_site.specs.declared.port.PortFault.{PortFault}
 use Rattle.fleet_site.specs.socket.SocketRecord.{SocketCall, Came, NoneCame, Failed, Sent, Unsent, ClockRead, Paused, Switched, SocketState, Called, departure_of}
-use Rattle.fleet_site.specs.socket.Waiting.{Datagram, is_long, is_frame, messages_of, frames_of, arrivals_of, departures_of, Arrived, OthersWait, Takes, TookOut, HandsOn}
+use Rattle.fleet_site.specs.socket.Waiting.{Datagram, is_long, is_frame, messages_of, frames_of, arrivals_of, departures_of, Arrived, OthersWait, Takes, TookOut, HandsOn, one_dropped}
 use Rattle.fleet_site.specs.socket.Window.{is_due, after_kept, after_passed, next_turn}
 use Rattle.fleet_site.specs.socket.Pace.{Burst, after, Paces}
 use Rattle.fleet_site.specs.declared.bursts.TheConstants.{BURST}
 use Rattle.fleet_site.specs.declared.window.Window.{Window}
+use Rattle.fleet_site.specs.declared.queued.Drops.{Drops}
 use Rattle.fleet_site.specs.declared.queued.Queued.{Queued}
 
 -- what a port over a socket holds: the socket, the addresses of the peers, the messages and frames that
@@ -23,7 +24,7 @@ pub record BurstData : Type 0 where
   pub peers : List Addr
   pub messages : List Datagram
   pub frames : List Datagram
-  pub dropped : ℕ
+  pub dropped : Drops
   pub leaving : List Datagram
   pub places : ℕ
   pub window : Window
@@ -247,12 +248,13 @@ joined d p = record p {
   frames = p.frames ++ frames_of p.peers (d ∷ []);
 }
 
--- a datagram that came waits in the port, or is dropped where others of its kind wait, and counted
+-- a datagram that came waits in the port, or is dropped where others of its kind wait, and counted by
+-- its kind
 abbrev pub KeepsOrDrops : Datagram → BurstData → BurstData → Type 0
 KeepsOrDrops d old new =
     (new ≡ joined d old)
     ⊎ (OthersWait (is_frame old.peers d) old.messages old.frames
-    × (new ≡ record old { dropped = one_more old.dropped }))
+    × (new ≡ record old { dropped = one_dropped (is_frame old.peers d) old.dropped }))
 
 -- some calls of the socket were made, and the port worked by them
 pub record HasWorked (old new : BurstData) : Type 0 where

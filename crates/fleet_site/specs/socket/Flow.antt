@@ -7,7 +7,7 @@ use Rattle.fleet_site.specs.PacketData.{PacketData}
 use Rattle.fleet_site.specs.declared.port.PortFault.{PortFault}
 use Rattle.fleet_site.specs.server.PortRecord.{PortCall, Received, NoDatagram, Fault, PacketSent, PacketLost, receive_of, send_of}
 use Rattle.fleet_site.specs.socket.SocketRecord.{SocketCall, Called, departure_of}
-use Rattle.fleet_site.specs.socket.Waiting.{Datagram, Sifts, is_long, messages_of, frames_of, arrivals_of}
+use Rattle.fleet_site.specs.socket.Waiting.{Datagram, Sifts, no_drops, is_long, messages_of, frames_of, arrivals_of}
 use Rattle.fleet_site.specs.socket.Window.{whole_window}
 use Rattle.fleet_site.specs.socket.Pace.{fresh}
 use Rattle.fleet_site.specs.socket.Bursts.{BurstData, IsIdle, Worked, Receives, turn_begun, SendsOrKeeps}
@@ -87,16 +87,16 @@ pub record IsFresh (p : BurstData) : Type 0 where
   pub idle : IsIdle p
   pub window : p.window ≡ whole_window
   pub burst : p.burst ≡ fresh
-  pub dropped : p.dropped ≡ 0
+  pub dropped : p.dropped ≡ no_drops
   pub unpaced : p.unpaced ≡ 0
 
--- what came in, by both records: of what the socket received some were dropped, and counted. The
+-- what came in, by both records: of what the socket received some were dropped, and counted by kind. The
 -- messages among all others are those that the port handed on and those that wait, in this order, and
 -- so are the frames
 pub record FlowsIn (calls : List SocketCall) (noted : List PortCall) (p : BurstData) : Type 0 where
   pub kept : List Datagram
   pub handed : List Datagram
-  pub sifts : Sifts (arrivals_of calls) kept 0 p.dropped
+  pub sifts : Sifts p.peers (arrivals_of calls) kept no_drops p.dropped
   pub hands_on : HandsOnAll handed noted
   pub messages : messages_of p.peers kept ≡ messages_of p.peers handed ++ p.messages
   pub frames : frames_of p.peers kept ≡ frames_of p.peers handed ++ p.frames

@@ -8,6 +8,7 @@ use Rattle.fleet_wire.specs.declared.bounds.TheConstants.{LONGEST_MESSAGE}
 use Rattle.fleet_site.specs.server.PortRecord.{one_more, Fills}
 use Rattle.fleet_site.specs.socket.SocketRecord.{SocketCall, Came, NoneCame, Failed, Sent, Unsent, ClockRead, Paused, Switched}
 use Rattle.fleet_site.specs.declared.queue.TheConstants.{MOST_WAITING}
+use Rattle.fleet_site.specs.declared.queued.Drops.{Drops}
 
 -- a datagram: the address that it came from or goes to, and its octets
 abbrev pub Datagram : Type 0
@@ -80,11 +81,20 @@ Joins true messages frames d new_messages new_frames =
 Joins false messages frames d new_messages new_frames =
     (new_messages ≡ messages ++ d ∷ []) × (new_frames ≡ frames)
 
+-- nothing was dropped
+abbrev pub no_drops : Drops
+no_drops = record { messages = 0; frames = 0 }
+
+-- one more was dropped, a frame or what is none
+abbrev pub one_dropped : Bool → Drops → Drops
+one_dropped true n = record n { frames = one_more n.frames }
+one_dropped false n = record n { messages = one_more n.messages }
+
 -- what came in and waits, by kind, and how many others were dropped
 pub record Arrived : Type 0 where
   pub messages : List Datagram
   pub frames : List Datagram
-  pub dropped : ℕ
+  pub dropped : Drops
 
 -- a datagram that came waits after those of its kind
 abbrev pub with_one : List Addr → Datagram → Arrived → Arrived
@@ -94,9 +104,13 @@ with_one peers d a = record {
   dropped = a.dropped;
 }
 
--- a datagram that came is dropped, and counted
-abbrev pub without_one : Arrived → Arrived
-without_one a = record { messages = a.messages; frames = a.frames; dropped = one_more a.dropped }
+-- a datagram that came is dropped, and counted by its kind
+abbrev pub without_one : List Addr → Datagram → Arrived → Arrived
+without_one peers d a = record {
+  messages = a.messages;
+  frames = a.frames;
+  dropped = one_dropped (is_frame peers d) a.dropped;
+}
 
 -- others of its kind wait, frames or what is none
 abbrev pub OthersWait : Bool → List Datagram → List Datagram → Type 0
@@ -109,13 +123,14 @@ abbrev pub Takes : List Addr → List Datagram → Arrived → Arrived → Type 
 Takes peers [] old new = new ≡ old
 Takes peers (d ∷ ds) old new =
     Takes peers ds (with_one peers d old) new
-    ⊎ (OthersWait (is_frame peers d) old.messages old.frames × Takes peers ds (without_one old) new)
+    ⊎ (OthersWait (is_frame peers d) old.messages old.frames × Takes peers ds (without_one peers d old) new)
 
--- the datagrams without some of them, each of which was counted
-abbrev pub Sifts : List Datagram → List Datagram → ℕ → ℕ → Type 0
-Sifts [] kept n m = (kept ≡ []) × (m ≡ n)
-Sifts (d ∷ ds) kept n m =
-    ((rest : List Datagram) × (kept ≡ d ∷ rest) × Sifts ds rest n m) ⊎ Sifts ds kept (one_more n) m
+-- the datagrams without some of them, each of which was counted by its kind
+abbrev pub Sifts : List Addr → List Datagram → List Datagram → Drops → Drops → Type 0
+Sifts peers [] kept n m = (kept ≡ []) × (m ≡ n)
+Sifts peers (d ∷ ds) kept n m =
+    ((rest : List Datagram) × (kept ≡ d ∷ rest) × Sifts peers ds rest n m)
+    ⊎ Sifts peers ds kept (one_dropped (is_frame peers d) n) m
 
 -- a datagram that may be there, as a list
 abbrev pub at_most_one : Option Datagram → List Datagram

@@ -2,7 +2,7 @@
 -- and of those before it as many as leave room for them. The window of the next sweep begins with the
 -- first frame that this one missed.
 -- Serves `BurstPort`.
-use Rattle.std.specs.Prelude.{ℕ, ◌+◌, min, nat_le, ltb, Bool, true, false, ◌||◌, ◌&&◌, cond, Option, Some, None}
+use Rattle.std.specs.Prelude.{◌≡◌, ℕ, ◌+◌, min, nat_le, ltb, Bool, true, false, ◌||◌, ◌&&◌, cond, Option, Some, None}
 use Rattle.fleet_site.specs.server.PortRecord.{one_more}
 use Rattle.fleet_site.specs.declared.outbox.TheConstants.{MOST_PLACES}
 use Rattle.fleet_site.specs.declared.window.Window.{Window}
@@ -47,6 +47,10 @@ after_passed w = record {
   short = cond (is_inside w) (one_more w.short) w.short;
   has_passed = true;
 }
+
+-- where no frame came in the turn, the window is one with which a turn begins
+abbrev pub IsNewIfNone : Window → Type 0
+IsNewIfNone w = w.count ≡ 0 → w ≡ record w { missed = None; short = 0; has_passed = false }
 
 -- where the next window begins: with the first frame that was missed, or where none was, with the first
 -- frame of all

@@ -10,7 +10,7 @@ use Rattle.fleet_pending.specs.declared.addr.Addr.{Addr}
 use Rattle.fleet_site.specs.OutcomeData.{OutcomeData, nothing, sends}
 use Rattle.fleet_site.specs.Tick.{question_of, failure_to}
 use Rattle.fleet_site.specs.declared.tick.Plan.{Plan}
-use Rattle.fleet_site.specs.declared.tick.Plan.TheVariants.{Idle, Retry, Fail}
+use Rattle.fleet_site.specs.declared.tick.Plan.TheVariants.{Retry, Fail}
 
 -- the entry is the first due one, and its query goes to the next upstream
 pub record IsRetry (upstreams : List Addr) (o : PendingData) (t : Seconds) (id : ℕ)
@@ -31,9 +31,8 @@ pub record IsFailure (o : PendingData) (t : Seconds) (id : ℕ) (e : OutcomeData
   pub last : o.upstreams ≤ entry.upstream + 1
   pub says : e ≡ record nothing { packets = map failure_to entry.waiters }
 
--- what is to be done as time passes: nothing, the query to the next upstream, or the failure
+-- what is to be done for the first due entry: the query to the next upstream, or the failure
 abbrev pub IsPlan : {A : Type 0} → List Addr → PendingData → Seconds → Plan A → Type 0
-IsPlan upstreams o t (Idle out) = NoneDue o.entries t × (out ≡ nothing)
 IsPlan upstreams o t (Retry id out) = IsRetry upstreams o t id out
 IsPlan upstreams o t (Fail id out) = IsFailure o t id out
 

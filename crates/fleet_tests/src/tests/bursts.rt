@@ -7,7 +7,7 @@ use crate::tests::sites::addr;
 use fleet_name::Octets;
 use fleet_pending::Addr;
 use fleet_site::{
-    BurstPort, CallLog, MemoryLog, MemorySocket, Note, Port, PortFault, Queued, SocketNote,
+    BurstPort, CallLog, Drops, MemoryLog, MemorySocket, Note, Port, PortFault, Queued, SocketNote,
 };
 use std::alloc::Global;
 use std::process::Abort;
@@ -231,8 +231,8 @@ fn came(port: &Tested) -> usize {
 }
 
 /// Of thousands of datagrams with one mark, which follow a frame, how many had come after so many
-/// receives, and how many of them were dropped.
-fn taken_in(rt: &impl Abort, alloc: Global, mark: char, receives: u8) -> (usize, u64) {
+/// receives, and how many messages and frames of them were dropped.
+fn taken_in(rt: &impl Abort, alloc: Global, mark: char, receives: u8) -> (usize, u64, u64) {
     let mut marks = String::new(alloc);
     marks.push('1').expect(rt, "memory");
     for _ in 0..5000u16 {
@@ -242,7 +242,8 @@ fn taken_in(rt: &impl Abort, alloc: Global, mark: char, receives: u8) -> (usize,
     for _ in 0..receives {
         receive(&mut port);
     }
-    (came(&port), port.dropped())
+    let dropped = port.dropped();
+    (came(&port), dropped.messages, dropped.frames)
 }
 
 /// 4,095 messages wait, or as many frames.
@@ -251,12 +252,12 @@ fn what_has_no_room_is_dropped(rt: HostRuntime) {
     let alloc = rt.alloc();
     // One frame waits. With each of four receives came 1,024 messages, and one was handed on: three
     // more had room. A receive drops four messages at most.
-    assert_eq!(rt; taken_in(&rt, alloc, 'a', 4), (1 + 4096, 0));
-    assert_eq!(rt; taken_in(&rt, alloc, 'a', 5), (1 + 4096 + 3 + 4, 4));
-    assert_eq!(rt; taken_in(&rt, alloc, 'a', 6), (1 + 4096 + 3 + 4 + 1 + 4, 8));
+    assert_eq!(rt; taken_in(&rt, alloc, 'a', 4), (1 + 4096, 0, 0));
+    assert_eq!(rt; taken_in(&rt, alloc, 'a', 5), (1 + 4096 + 3 + 4, 4, 0));
+    assert_eq!(rt; taken_in(&rt, alloc, 'a', 6), (1 + 4096 + 3 + 4 + 1 + 4, 8, 0));
     // The frame in front counts among the frames; of them all that find no room are dropped.
-    assert_eq!(rt; taken_in(&rt, alloc, '2', 4), (1 + 4096, 0));
-    assert_eq!(rt; taken_in(&rt, alloc, '2', 5), (1 + 5000, 5000 - 4096 - 2));
+    assert_eq!(rt; taken_in(&rt, alloc, '2', 4), (1 + 4096, 0, 0));
+    assert_eq!(rt; taken_in(&rt, alloc, '2', 5), (1 + 5000, 0, 5000 - 4096 - 2));
 }
 
 #[test]
@@ -304,7 +305,7 @@ fn a_log_is_told_what_waits(rt: HostRuntime) {
         messages: 0,
         frames: 0,
         leaving: 0,
-        dropped: 0,
+        dropped: Drops::none(),
         unpaced: 0,
     };
     let log = LastQueued { queued: none };
