@@ -254,10 +254,16 @@ fn what_has_no_room_is_dropped(rt: HostRuntime) {
     // more had room. A receive drops four messages at most.
     assert_eq!(rt; taken_in(&rt, alloc, 'a', 4), (1 + 4096, 0, 0));
     assert_eq!(rt; taken_in(&rt, alloc, 'a', 5), (1 + 4096 + 3 + 4, 4, 0));
-    assert_eq!(rt; taken_in(&rt, alloc, 'a', 6), (1 + 4096 + 3 + 4 + 1 + 4, 8, 0));
+    assert_eq!(rt;
+        taken_in(&rt, alloc, 'a', 6),
+        (1 + 4096 + 3 + 4 + 1 + 4, 8, 0)
+    );
     // The frame in front counts among the frames; of them all that find no room are dropped.
     assert_eq!(rt; taken_in(&rt, alloc, '2', 4), (1 + 4096, 0, 0));
-    assert_eq!(rt; taken_in(&rt, alloc, '2', 5), (1 + 5000, 0, 5000 - 4096 - 2));
+    assert_eq!(rt;
+        taken_in(&rt, alloc, '2', 5),
+        (1 + 5000, 0, 5000 - 4096 - 2)
+    );
 }
 
 #[test]
