@@ -1,0 +1,252 @@
+#!/usr/bin/env python3
+"""What a fleet of sites on loopback does: how news travels, what sweeps cost, what a late site has. See README.md."""
+
+import argparse
+import os
+import random
+import statistics
+import subprocess
+import sys
+import tempfile
+import time
+from pathlib import Path
+
+sys.dont_write_bytecode = True
+
+import fleet
+from fleet import FIRST, Counts, Fleet
+
+HERE = Path(__file__).resolve().parent
+# News have names of their own, behind those that all sites have.
+FIRST_NEWS = 9_000_000
+# How often a site that lacks the news is asked for it, in microseconds: where all are peers, and elsewhere.
+STEPS = {"mesh": 500, "ring": 20_000, "tree": 20_000}
+# An answer that takes as many milliseconds is said to be slow.
+SLOW = 10
+# How many names clients ask for.
+KNOWN = 1000
+# How many seconds a sweep may be on its way.
+ON_ITS_WAY = 4
+# The columns of the table that a simulation is compared with.
+COLUMNS = "kind arrangement sites degree sweep spread names entry questions hops value".split()
+
+
+def middle(numbers, places=1):
+    """The median, and the range where it is one."""
+    numbers = list(numbers)
+    least, most = min(numbers), max(numbers)
+    text = f"{statistics.median(numbers):,.{places}f}"
+    return text if least == most else f"{text} ({least:,.{places}f} to {most:,.{places}f})"
+
+
+def print_table(heads, rows):
+    print("| " + " | ".join(heads) + " |\n" + "|---" * len(heads) + "|")
+    for row in rows:
+        print("| " + " | ".join(str(it) for it in row) + " |", flush=True)
+
+
+def keep(options, kind, value, hops="", names=0, questions=0):
+    """Adds a row to the table that a simulation is compared with."""
+    if not options.tsv:
+        return
+    degree = len(fleet.ARRANGEMENTS[options.arrangement](options.sites)[0])
+    row = [kind, options.arrangement, options.sites, degree, options.sweep, int(options.spread), names,
+           options.entry, questions, hops, f"{value:.6g}"]
+    is_new = not os.path.exists(options.tsv)
+    with open(options.tsv, "a") as file:
+        if is_new:
+            file.write("\t".join(COLUMNS) + "\n")
+        file.write("\t".join(str(it) for it in row) + "\n")
+
+
+class Asker:
+    """The client, built where it is needed."""
+
+    def __init__(self, folder):
+        self.path = os.path.join(folder, "ask")
+        subprocess.run(["cc", "-O2", "-Wall", "-o", self.path, HERE / "ask.c"], check=True)
+
+    def words(self, *words):
+        """The lines that it prints, as lists of words."""
+        told = subprocess.run([self.path, *map(str, words)], stdout=subprocess.PIPE, text=True, check=True).stdout
+        return [line.split(" ") for line in told.splitlines()]
+
+
+def follow_news(options, folder, asker):
+    """How long after a site learnt a name the others had it, by hops, and all of them."""
+    whole, by_hops, missing = [], {}, 0
+    group = Fleet(options, folder)
+    try:
+        group.start()
+        for number in range(options.rounds):
+            learner = random.randrange(options.sites)
+            hops = fleet.hops_from(group.peers, learner)
+            patience = 2 if options.arrangement == "mesh" else options.sweep * (max(hops.values()) + 2)
+            name = FIRST_NEWS + random.randrange(900_000)
+            lines = asker.words("news", FIRST, options.sites, learner, name, STEPS[options.arrangement], patience)
+            had = {int(it[1]): float(it[2]) / 1000 for it in lines if it[0] == "had"}
+            missing += options.sites - 1 - len(had)
+            for site, seconds in had.items():
+                by_hops.setdefault(hops[site], []).append(seconds)
+            if had and len(had) == options.sites - 1:
+                whole.append(max(had.values()))
+            time.sleep(0.05 if options.arrangement == "mesh" else random.random() * options.sweep)
+    finally:
+        group.end()
+    print_news(options, whole, by_hops, missing)
+
+
+def print_news(options, whole, by_hops, missing):
+    rows = [(hops, len(some), f"{statistics.median(some):.4f}", f"{max(some):.4f}")
+            for hops, some in sorted(by_hops.items())]
+    print_table(["Hops", "Samples", "Median s", "Greatest s"], rows)
+    if whole:
+        print(f"\neverywhere after {statistics.median(whole):.4f} s, at most {max(whole):.4f}, in {len(whole)} rounds; "
+              f"{missing} times a site had it not in time")
+    polls = 1_000_000 // STEPS[options.arrangement]
+    for hops, some in sorted(by_hops.items()):
+        keep(options, "news", statistics.median(some), hops, questions=polls)
+    if whole:
+        keep(options, "everywhere", statistics.median(whole), questions=polls)
+
+
+def fill(options, group, sites):
+    """Has sites learn all names, each its share, and waits until sweeps have brought them everywhere."""
+    group.learn(sites, options.names)
+    for _ in range(4):
+        time.sleep(options.sweep + ON_ITS_WAY)
+        least = min(group.share(site, options.names) for site in sites)
+        if least == 100:
+            break
+    return least
+
+
+def load_of(options, group, asker):
+    """One run: what the sites and the system do while clients ask, and what these get."""
+    group.start()
+    least = fill(options, group, group.sites)
+    before = Counts(group.sites)
+    lines = asker.words("load", FIRST, options.sites, options.questions, options.seconds, min(KNOWN, options.names), SLOW)
+    after = Counts(group.sites)
+    _, asked, answered, other, median, most, slowest = next(it for it in lines if it[0] == "all")
+    seconds = after.at - before.at
+    ran = [100 * (b - a) / seconds for a, b in zip(before.ran, after.ran)]
+    waited = [100 * (b - a) / seconds for a, b in zip(before.waited, after.waited)]
+    worst = [float(it[5]) for it in lines if it[0] == "site"]
+    return {
+        "Share of names %": least, "Processor of a site %": statistics.mean(ran),
+        "Waits for a processor %": statistics.mean(waited), "MB/s, all": (after.octets - before.octets) / seconds / 1e6,
+        "Datagrams/s, all": (after.packets - before.packets) / seconds,
+        "Dropped by the system": after.dropped - before.dropped,
+        "Dropped by the ports": after.dropped_by_ports - before.dropped_by_ports, "Unpaced": after.unpaced - before.unpaced,
+        "MiB of a site at most": max(site.memory()[1] for site in group.sites), "Asked": int(asked),
+        "Unanswered": int(asked) - int(answered), "Other answers": int(other),
+        f"Slower than {SLOW} ms": sum(it[0] == "slow" for it in lines), "Median ms": float(median),
+        "99.9 % ms": float(most), "Slowest ms": float(slowest), "Slowest of the median site ms": statistics.median(worst),
+    }
+
+
+def measure_sweeps(options, folder, asker):
+    """Several runs of a fleet that has names, is asked and sweeps: medians and ranges."""
+    runs = []
+    for number in range(options.runs):
+        group = Fleet(options, folder)
+        try:
+            runs.append(load_of(options, group, asker))
+        finally:
+            group.end()
+        told = ", ".join(f"{key} {value:,.2f}" for key, value in runs[-1].items())
+        print(f"run {number + 1}: {told}", file=sys.stderr, flush=True)
+    rows = [(key, middle((run[key] for run in runs), 2)) for key in runs[0]]
+    print_table([f"{options.arrangement} of {options.sites}, {options.names:,} names, a sweep every {options.sweep} s, "
+                 + ("spread" if options.spread else "at once"), f"{len(runs)} runs"], rows)
+
+
+def measure_quiet(options, folder, asker):
+    """What a fleet does that nobody asks: with nothing held, and with names."""
+    rows = []
+    group = Fleet(options, folder)
+    try:
+        group.start()
+        for label, names in (("nothing held", 0), (f"{options.names:,} names", options.names)):
+            if names:
+                fill(options, group, group.sites)
+            before = Counts(group.sites)
+            time.sleep(options.sweep * (2 if names else 1))
+            after = Counts(group.sites)
+            seconds = after.at - before.at
+            ran = [100 * (b - a) / seconds for a, b in zip(before.ran, after.ran)]
+            octets, packets = (after.octets - before.octets) / seconds, (after.packets - before.packets) / seconds
+            rows.append((label, f"{statistics.mean(ran):.3f}", f"{max(ran):.3f}", f"{octets:,.0f}", f"{packets:,.0f}",
+                         after.dropped - before.dropped, f"{max(site.memory()[0] for site in group.sites):.0f}"))
+            if names:
+                keep(options, "octets", octets, names=names)
+    finally:
+        group.end()
+    print_table(["", "Processor of a site %", "Of the busiest %", "Octets/s, all", "Datagrams/s, all",
+                 "Dropped by the system", "MiB of a site"], rows)
+
+
+def watch_late(options, folder):
+    """One run: the share of the names that a site has which comes late, by the second, and after the first sweep of all
+    its peers."""
+    group = Fleet(options, folder)
+    try:
+        old, late = group.sites[:-1], group.sites[-1]
+        group.start(old)
+        fill(options, group, old)
+        group.start([late])
+        began, shares = time.monotonic(), []
+        for second in range(1, options.sweep + ON_ITS_WAY + 1):
+            time.sleep(max(0, began + second - time.monotonic()))
+            shares.append(group.share(late, options.names))
+        return shares, late.memory()[1]
+    finally:
+        group.end()
+
+
+def measure_late(options, folder, asker):
+    """Which share of the names a site has that comes late, by the second: medians and ranges."""
+    runs = [watch_late(options, folder) for _ in range(options.runs)]
+    print_table(["Seconds", f"Of {options.names:,} names, %"],
+                [(second + 1, middle(run[second] for run, _ in runs)) for second in range(options.sweep + ON_ITS_WAY)])
+    print(f"\nall after {middle(next((it + 1 for it, share in enumerate(run) if share == 100), 0) for run, _ in runs)} "
+          f"seconds (0: not in time); {middle(memory for _, memory in runs)} MiB at most")
+    keep(options, "share", statistics.median(run[-1] for run, _ in runs), names=options.names)
+
+
+JOBS = {"news": follow_news, "sweeps": measure_sweeps, "quiet": measure_quiet, "late": measure_late}
+
+
+def options_of():
+    words = argparse.ArgumentParser(description=__doc__)
+    words.add_argument("job", choices=JOBS)
+    words.add_argument("--program", default="crates/dnsfleet/out/dnsfleet", help="the built dnsfleet")
+    words.add_argument("--arrangement", choices=fleet.ARRANGEMENTS, default="mesh")
+    words.add_argument("--sites", type=int, default=17, help="at most 64, and 17 in a mesh (17)")
+    words.add_argument("--sweep", type=int, default=30, help="seconds between sweeps (30)")
+    words.add_argument("--spread", action="store_true", help="start sites so that their sweeps are spread over the seconds")
+    words.add_argument("--names", type=int, default=20_000, help="names that all hold (20000)")
+    words.add_argument("--questions", type=int, default=200, help="questions a second to each site (200)")
+    words.add_argument("--seconds", type=int, default=65, help="how long clients ask (65)")
+    words.add_argument("--rounds", type=int, default=20, help="how many news are followed (20)")
+    words.add_argument("--runs", type=int, default=1, help="how many times a fleet is started (1)")
+    words.add_argument("--tsv", help="a file to which what a simulation is compared with is added")
+    options = words.parse_args()
+    most = 17 if options.arrangement == "mesh" else fleet.MOST_SITES
+    if not 2 <= options.sites <= most:
+        words.error(f"2 to {most} sites")
+    # An entry for a name as n0000001.test. with one address.
+    options.program, options.entry = os.path.abspath(options.program), 24 + 15
+    return options
+
+
+def main():
+    fleet.end_on_signals()
+    options = options_of()
+    with tempfile.TemporaryDirectory(prefix="dnsfleet-fleet-") as folder:
+        JOBS[options.job](options, folder, Asker(folder))
+
+
+if __name__ == "__main__":
+    main()
