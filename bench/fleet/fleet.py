@@ -200,13 +200,19 @@ def carried():
     sys.exit("no loopback")
 
 
+def stolen():
+    """Seconds that other machines had the processors of this one, all together."""
+    words = Path("/proc/stat").read_text().split("\n", 1)[0].split()
+    return int(words[8]) / os.sysconf("SC_CLK_TCK")
+
+
 class Counts:
     """What was counted of sites at a moment."""
 
     def __init__(self, sites):
         self.at = time.monotonic()
         self.octets, self.packets = carried()
-        self.dropped = dropped_at(sites)
+        self.dropped, self.stolen = dropped_at(sites), stolen()
         self.ran = [site.processor()[0] for site in sites]
         self.waited = [site.processor()[1] for site in sites]
         reports = [site.report() for site in sites]

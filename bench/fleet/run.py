@@ -133,9 +133,14 @@ def load_of(options, group, asker):
     ran = [100 * (b - a) / seconds for a, b in zip(before.ran, after.ran)]
     waited = [100 * (b - a) / seconds for a, b in zip(before.waited, after.waited)]
     worst = [float(it[5]) for it in lines if it[0] == "site"]
+    if options.slow:
+        with open(options.slow, "a") as file:
+            file.writelines("\t".join(it[1:]) + "\n" for it in lines if it[0] == "slow")
     return {
         "Share of names %": least, "Processor of a site %": statistics.mean(ran),
-        "Waits for a processor %": statistics.mean(waited), "MB/s, all": (after.octets - before.octets) / seconds / 1e6,
+        "Waits for a processor %": statistics.mean(waited),
+        "Stolen from the machine %": 100 * (after.stolen - before.stolen) / seconds / os.cpu_count(),
+        "MB/s, all": (after.octets - before.octets) / seconds / 1e6,
         "Datagrams/s, all": (after.packets - before.packets) / seconds,
         "Dropped by the system": after.dropped - before.dropped,
         "Dropped by the ports": after.dropped_by_ports - before.dropped_by_ports, "Unpaced": after.unpaced - before.unpaced,
@@ -231,6 +236,7 @@ def options_of():
     words.add_argument("--seconds", type=int, default=65, help="how long clients ask (65)")
     words.add_argument("--rounds", type=int, default=20, help="how many news are followed (20)")
     words.add_argument("--runs", type=int, default=1, help="how many times a fleet is started (1)")
+    words.add_argument("--slow", help="a file to which slow answers of `sweeps` are added: site, second, milliseconds")
     words.add_argument("--tsv", help="a file to which what a simulation is compared with is added")
     options = words.parse_args()
     most = 17 if options.arrangement == "mesh" else fleet.MOST_SITES
