@@ -59,7 +59,6 @@ class Scenario:
     entry: int = option(48, "octets of the entry of each name")
     questions: float = option(0.0, "questions a second at each site")
     polled: bool = option(False, "the questions are those of one client, which asks the sites without the news in turn")
-    begin: bool = option(False, "the moment of a turn is that of its begin, not that of its datagram")
     loss: float = option(0.0, "the share of frames that get lost")
     restarts: float = option(0.0, "restarts of each site in an hour")
     send: float = option(0.03, "milliseconds that a datagram takes its sender")
@@ -193,8 +192,9 @@ class Run:
         return self
 
     def plan(self, site):
-        """Plans the turn during which the next sweep of a site falls due; the next turn sweeps where its begin counts."""
-        self.turns[site] = 1 + self.scenario.begin
+        """Plans the turn during which the next sweep of a site falls due. A turn's moment is that of its begin, so it is the
+        next turn that sweeps."""
+        self.turns[site] = 2
         self.wait(self.due[site], site, WAIT if self.rate else self.words.uniform(0, WAIT))
 
     def wait(self, now, site, most):
@@ -222,7 +222,7 @@ class Run:
         soon = begin + len(peers) * PAUSE
         for place, peer in enumerate(peers):
             news = held & ~others[peer]
-            may_end = soon >= due[peer] and (self.scenario.begin or begin < self.end[peer])
+            may_end = soon >= due[peer]
             if news or may_end:
                 frames = dict.fromkeys(range(min(2, max(1, self.sweep.frames))) if may_end else (), 0)
                 for one in each_of(news):
@@ -231,14 +231,9 @@ class Run:
                     self.send(begin + self.sweep.arrival(number * len(peers) + place), peer, some)
 
     def send(self, moment, peer, news):
-        """Sends a frame that arrives at a moment, unless it gets lost. One without news may only end a turn sooner."""
-        if self.scenario.loss and self.words.random() < self.scenario.loss:
-            return
-        if not news and not self.scenario.begin:
-            if moment >= self.end[peer]:
-                return
-            self.end[peer] = moment
-        self.push(moment, self.receive, peer, news)
+        """Sends a frame that arrives at a moment, unless it gets lost."""
+        if self.words.random() >= self.scenario.loss:
+            self.push(moment, self.receive, peer, news)
 
     def receive(self, now, site, news):
         """A frame comes in, once its receiver is idle."""
@@ -441,11 +436,11 @@ def print_compared(scenario, path):
 
 # What each command does, its options, and what is the default of some.
 COMMANDS = {
-    "news": (print_news, "degree sweep spread names entry questions polled begin loss restarts send rounds seed", {}),
+    "news": (print_news, "degree sweep spread names entry questions polled loss restarts send rounds seed", {}),
     "traffic": (print_traffic, "degree sweep names entry questions link seed", {}),
     "late": (print_late, "degree sweep names entry loss rounds seed", {"names": 100_000}),
-    "large": (print_large, "names entry questions begin send rounds seed", {"names": 100_000}),
-    "compare": (print_compared, "polled begin send rounds seed", {"rounds": 512}),
+    "large": (print_large, "names entry questions send rounds seed", {"names": 100_000}),
+    "compare": (print_compared, "polled send rounds seed", {"rounds": 512}),
 }
 
 
