@@ -187,7 +187,10 @@ class Script:
             wanted -= self.read()
         while wanted > 0:
             select.select([self.process.stdout], [], [], 1)
-            wanted -= self.read()
+            printed = self.read()
+            wanted -= printed
+            if printed == 0 and self.process.poll() is not None:
+                sys.exit(f"the script has ended with {self.process.returncode}")
 
     def memory(self):
         return Server.memory(self)

@@ -449,6 +449,7 @@ static void tell(int pid, double began) {
 
 static void run(int pid, double seconds, long most, double began) {
     double told = began;
+    long told_at = 0;
     for (long round = 0; sent() < most && now() - began < seconds; round++) {
         burst();
         if (open_of(0) < WINDOW) begin((uint32_t)round % KNOWN);
@@ -456,11 +457,13 @@ static void run(int pid, double seconds, long most, double began) {
         turn();
         if (!flooding) wait_for(WINDOW - 1);
         else if (round % 64 == 0) retry();
-        if (now() - told > seconds / 8 || (resident(pid) < 0)) {
+        int ended = round % 64 == 0 && resident(pid) < 0;
+        if (now() - told > seconds / 8 || sent() - told_at > most / 8 || ended) {
             tell(pid, began);
             told = now();
-            if (resident(pid) < 0) return;
+            told_at = sent();
         }
+        if (ended) return;
     }
     wait_for(0);
     double end = now();

@@ -1,14 +1,17 @@
 /* Asks a server on loopback for the names of a file, as fast as it answers.
  *
- * usage: load PORT FILE SECONDS OPEN
+ * usage: load PORT FILE SECONDS OPEN [COUNT]
  *
- * FILE is one for dnsperf: a line is a name and its type, which has to be A. OPEN questions are kept open (at most
- * 1024); they are sent, and their replies taken, many in one call of the system, so that the server has a question
- * waiting at any time. Prints how many replies came, how many of them were NOERROR, and the seconds. A question without
- * a reply for half a second is counted as lost.
+ * FILE is one for dnsperf: a line is a name and its type, which has to be A. An address may follow: then a good reply is
+ * one that ends with it. OPEN questions are kept open (at most 1024); they are sent, and their replies taken, many in
+ * one call of the system, so that the server has a question waiting at any time. It ends after SECONDS or COUNT
+ * questions, and takes the replies to what is open then. Prints how many replies came, how many of them were good
+ * (NOERROR), the seconds and how many questions were sent. A question without a reply for half a second is counted as
+ * lost.
  */
 #define _GNU_SOURCE
 #include <arpa/inet.h>
+#include <limits.h>
 #include <poll.h>
 #include <stdio.h>
 #include <stdlib.h>
@@ -19,8 +22,8 @@
 enum { MOST = 1024, LONGEST = 300, ROOM = 600 };
 
 struct question {
-    int length;
-    unsigned char octets[LONGEST];
+    int length, has_address;
+    unsigned char octets[LONGEST], address[4];
 };
 
 static struct question *list;
@@ -53,6 +56,9 @@ static void read_list(const char *path) {
         }
         memcpy(q->octets + q->length, "\0\0\1\0\1", 5);
         q->length += 5;
+        strtok(NULL, " \t\r\n");
+        const char *address = strtok(NULL, " \t\r\n");
+        q->has_address = address != NULL && inet_pton(AF_INET, address, q->address) == 1;
     }
     fclose(file);
 }
@@ -66,7 +72,7 @@ static double now(void) {
 static unsigned char sent[MOST][LONGEST], taken[MOST][ROOM];
 static struct mmsghdr outgoing[MOST], incoming[MOST];
 static struct iovec outgoing_at[MOST], incoming_at[MOST];
-static long next, replies, good, lost;
+static long next, replies, good, lost, asked;
 
 static int prepare(int count) {
     for (int i = 0; i < count; i++) {
@@ -81,6 +87,16 @@ static int prepare(int count) {
     return count;
 }
 
+/* Whether a reply is NOERROR, with the address of its question where the file has one. */
+static int is_good(const unsigned char *reply, unsigned length) {
+    if (length < 12 || (reply[2] & 128) == 0 || (reply[3] & 15) != 0) return 0;
+    /* The last question that was sent with this identifier. */
+    long id = reply[0] * 256 + reply[1], number = next - 1 - ((next - 1 - id) & 65535);
+    if (number < 0) return 0;
+    const struct question *q = &list[number % listed];
+    return !q->has_address || (length > (unsigned)q->length && memcmp(reply + length - 4, q->address, 4) == 0);
+}
+
 static int take(int s) {
     for (int i = 0; i < MOST; i++) {
         incoming_at[i] = (struct iovec){taken[i], ROOM};
@@ -89,14 +105,14 @@ static int take(int s) {
     int count = recvmmsg(s, incoming, MOST, MSG_DONTWAIT, NULL);
     for (int i = 0; i < count; i++) {
         replies++;
-        good += incoming[i].msg_len >= 12 && (taken[i][2] & 128) != 0 && (taken[i][3] & 15) == 0;
+        good += is_good(taken[i], incoming[i].msg_len);
     }
     return count < 0 ? 0 : count;
 }
 
 int main(int argc, char **argv) {
-    if (argc != 5) {
-        fprintf(stderr, "usage: load PORT FILE SECONDS OPEN\n");
+    if (argc != 5 && argc != 6) {
+        fprintf(stderr, "usage: load PORT FILE SECONDS OPEN [COUNT]\n");
         return 2;
     }
     int s = socket(AF_INET, SOCK_DGRAM, 0), room = 1 << 22, most = atoi(argv[4]);
@@ -109,11 +125,15 @@ int main(int argc, char **argv) {
         return 1;
     }
     double began = now(), end = began + atof(argv[3]), heard = began;
+    long left = argc == 6 ? atol(argv[5]) : LONG_MAX;
     int open = 0;
-    while (now() < end) {
-        if (most - open >= most / 4 || open == 0) {
-            int count = sendmmsg(s, outgoing, (unsigned)prepare(most - open), 0);
+    while ((left > 0 && now() < end) || open > 0) {
+        int room_for = left < most - open ? (int)left : most - open;
+        if (now() < end && room_for > 0 && (room_for >= most / 4 || room_for == left || open == 0)) {
+            int count = sendmmsg(s, outgoing, (unsigned)prepare(room_for), 0);
             open += count < 0 ? 0 : count;
+            left -= count < 0 ? 0 : count;
+            asked += count < 0 ? 0 : count;
         }
         int count = take(s);
         open -= count;
@@ -127,6 +147,6 @@ int main(int argc, char **argv) {
         if (open < 0) open = 0;
     }
     double took = now() - began;
-    printf("replies %ld good %ld lost %ld seconds %.6f\n", replies, good, lost, took);
+    printf("replies %ld good %ld lost %ld seconds %.6f asked %ld\n", replies, good, lost, took, asked);
     return 0;
 }
