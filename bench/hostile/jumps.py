@@ -36,11 +36,16 @@ class Shifted:
         self.latest = max(self.latest, time.time() + self.ahead)
         return self.latest
 
+    def set(self, ahead):
+        """Sets it so many seconds ahead of the machine's clock."""
+        self.moment()
+        self.ahead = ahead
+        struct.pack_into("=q", self.octets, 0, ahead)
+
     def jump(self, words):
         """Jumps by chance, and gives which kind of jump it was."""
         kind = words.choices(list(JUMPS), [it[2] for it in JUMPS.values()])[0]
-        self.ahead = round(self.moment() - time.time()) + words.randint(*JUMPS[kind][:2])
-        struct.pack_into("=q", self.octets, 0, self.ahead)
+        self.set(round(self.moment() - time.time()) + words.randint(*JUMPS[kind][:2]))
         return kind
 
 
@@ -123,6 +128,10 @@ def clock(options, folder, stack):
     stack.callback(site.end)
     probes, silent = Probes(words, site.port, shifted, options.names), Silent(site.port, shifted)
     faults, held = probes.learn(probes.names), memory_of(site)
+    shifted.set(100)
+    time.sleep(0.5)
+    if probes.look():
+        return ["the library does not move the clock of this program"]
     client = Client(site.port, [question(f"l00300k{it:04d}.test") for it in range(options.names)], options.rate)
     while kinds.total() < options.jumps and bound.left() > options.pause:
         kinds[shifted.jump(words)] += 1
