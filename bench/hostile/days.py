@@ -52,7 +52,7 @@ def questions(options, folder, stack):
         row(f"{sums['asked']:,.0f}", f"{sums['good']:,.0f}", f"{sums['lost']:.0f}",
             f"{piece['good'] / piece['seconds']:,.0f}", f"{memory_of(site):.2f}")
     after = site.counts()
-    counted = {key: after[key] - before[key] for key in ("questions", "hits", "turns", "received", "sent", "short")}
+    counted = {key: after[key] - before[key] for key in ("questions", "hits", "turns", "received", "sent", "failed")}
     asked, good = int(sums["asked"]), int(sums["good"])
     print(f"\nclient: {asked:,} questions, {good:,} right answers in {sums['seconds']:,.0f} s; site: "
           + ", ".join(f"{key} {count:,}" for key, count in counted.items())
@@ -113,9 +113,9 @@ def datagrams(options, folder, stack):
     before, end = number_in(text, r"VmRSS (-?\d+) KiB before, (-?\d+) KiB after")
     print()
     head("Way, seed", "Sent", "Seconds", "The site received", "Dropped by the system", "Known names right, of",
-         "Asked again", "Slowest s", "MiB before, after", "short")
+         "Asked again", "Slowest s", "MiB before, after", "failed")
     row(f"{options.way}, {options.seed}", f"{sent:,.0f}", f"{seconds:,.0f}", f"{after['received']:,}", f"{dropped:,.0f}",
-        f"{right:,.0f}, {asked:,.0f}", f"{again:,.0f}", slowest, f"{before / 1024:.1f}, {end / 1024:.1f}", after["short"])
+        f"{right:,.0f}, {asked:,.0f}", f"{again:,.0f}", slowest, f"{before / 1024:.1f}, {end / 1024:.1f}", after["failed"])
     return [f"the soak ended with {process.returncode}"] * (process.returncode != 0) + [
         f"{what}: {count:.0f}" for what, count in (("other answers", other), ("no answer", silent)) if count]
 
@@ -217,7 +217,7 @@ def shown(words):
 def limit_once(options, site, first):
     """Fills a site to its limit, and looks what it does until all of that has ended. Gives the number of the next name,
     and what was not as it should be."""
-    began, short = time.monotonic(), site.counts()["short"]
+    began = time.monotonic()
     taken, at = fill(options, first)
     kept, _, _ = answered(SITE, taken, options, False)
     _, new, late = answered(SITE, range(at, at + NEW), options, True, 100)
@@ -230,7 +230,7 @@ def limit_once(options, site, first):
     stay, _, _ = answered(SITE, after, options, False)
     row(f"{len(taken):,}", f"{len(kept):,}", shown(new), f"{min(late):.1f} to {max(late):.1f}" if late else "none",
         f"{len(again):,}", f"{len(gossip)} of {len(sample)}", f"{len(after)}, {len(stay)}", f"{held:.1f}, {memory_of(site):.1f}",
-        site.counts()["short"] - short, f"{lasted:.0f}")
+        f"{lasted:.0f}")
     wrong = {f"kept names at the limit: {shown(other)}": len(again) < len(kept),
              "the limit was not reached, as the names were over": at >= first + options.names,
              f"it took {lasted:.0f} s, so names may have ended": lasted > options.ttl - 2,
@@ -249,7 +249,7 @@ def limit(options, folder, stack):
     stack.callback(site.end)
     stack.callback(Site(options, folder, PEER, [NSD], [SITE], 5).end)
     head("Answered while filled", "Kept", f"{NEW} new ones at the limit", "Seconds to code 2", "Kept, once more",
-         "Of some at a peer", f"Of {NEW} new ones after the TTL: answered, kept", "MiB at the limit, after", "short",
+         "Of some at a peer", f"Of {NEW} new ones after the TTL: answered, kept", "MiB at the limit, after",
          "Seconds at the limit")
     bound, first, faults = Bound(options.seconds), 0, []
     for number in range(1, options.rounds + 1):

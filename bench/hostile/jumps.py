@@ -138,13 +138,13 @@ def clock(options, folder, stack):
         silent.ask()
         time.sleep(options.pause)
         faults += [f"jump {kinds.total()}: {it}" for it in probes.look() + silent.look()]
-    seen, counts = client.end(), site.counts()
+    seen = client.end()
     head("Jumps", *JUMPS, "Looks at names: answered", "gone, learnt", "Failed, open of those that nobody answers",
-         "Load: right, of", "Slowest ms", "99.9 % ms", "MiB before, after", "short")
+         "Load: right, of", "Slowest ms", "99.9 % ms", "MiB before, after")
     row(kinds.total(), *(kinds[it] for it in JUMPS), f"{probes.seen['answer']:,}",
         f"{probes.seen['code 5']:,}, {probes.seen['learnt']:,}", f"{silent.asked - len(silent.since)}, {len(silent.since)}",
         f"{len(seen.waits):,}, {seen.asked:,}", f"{seen.slowest:.1f}", f"{seen.most:.2f}",
-        f"{held:.1f}, {memory_of(site):.1f}", counts["short"])
+        f"{held:.1f}, {memory_of(site):.1f}")
     if len(seen.waits) < seen.asked:
         faults.append(f"load: {len(seen.waits)} right answers of {seen.asked}, {seen.other} other replies")
     return faults
