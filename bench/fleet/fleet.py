@@ -130,6 +130,10 @@ class Fleet:
         self.sites = [Site(options, folder, at, peers) for at, peers in enumerate(self.peers)]
         self.upstream = Upstream()
 
+    def diameter(self):
+        """How many hops lie between two sites at most."""
+        return max(max(hops_from(self.peers, at).values()) for at in range(len(self.peers)))
+
     def start(self, sites=None):
         """Starts sites at the begin of a second, all of them or one by one."""
         sites = self.sites if sites is None else sites

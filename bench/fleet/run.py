@@ -111,9 +111,10 @@ def print_news(options, whole, by_hops, missing):
 
 
 def fill(options, group, sites):
-    """Has sites learn all names, each its share, and waits until sweeps have brought them everywhere."""
+    """Has sites learn all names, each its share, and waits until sweeps have brought them everywhere. Gives the share of
+    the names that each site has at least."""
     group.learn(sites, options.names)
-    for _ in range(4):
+    for _ in range(group.diameter() + 3):
         time.sleep(options.sweep + ON_ITS_WAY)
         least = min(group.share(site, options.names) for site in sites)
         if least == 100:
@@ -169,26 +170,26 @@ def measure_sweeps(options, folder, asker):
 
 def measure_quiet(options, folder, asker):
     """What a fleet does that nobody asks: with nothing held, and with names."""
-    rows = []
+    rows, least = [], 100
     group = Fleet(options, folder)
     try:
         group.start()
         for label, names in (("nothing held", 0), (f"{options.names:,} names", options.names)):
             if names:
-                fill(options, group, group.sites)
+                least = fill(options, group, group.sites)
             before = Counts(group.sites)
             time.sleep(options.sweep * (2 if names else 1))
             after = Counts(group.sites)
             seconds = after.at - before.at
             ran = [100 * (b - a) / seconds for a, b in zip(before.ran, after.ran)]
             octets, packets = (after.octets - before.octets) / seconds, (after.packets - before.packets) / seconds
-            rows.append((label, f"{statistics.mean(ran):.3f}", f"{max(ran):.3f}", f"{octets:,.0f}", f"{packets:,.0f}",
-                         after.dropped - before.dropped, f"{max(site.memory()[0] for site in group.sites):.0f}"))
+            rows.append((label, f"{least:.1f}", f"{statistics.mean(ran):.3f}", f"{max(ran):.3f}", f"{octets:,.0f}",
+                         f"{packets:,.0f}", after.dropped - before.dropped, f"{max(site.memory()[0] for site in group.sites):.0f}"))
             if names:
                 keep(options, "octets", octets, names=names)
     finally:
         group.end()
-    print_table(["", "Processor of a site %", "Of the busiest %", "Octets/s, all", "Datagrams/s, all",
+    print_table(["", "Share of names %", "Processor of a site %", "Of the busiest %", "Octets/s, all", "Datagrams/s, all",
                  "Dropped by the system", "MiB of a site"], rows)
 
 
