@@ -25,7 +25,7 @@ NUMBER = re.compile(r"-?[\d,]+(?:\.\d+)?")
 def table(page, first):
     """The rows of a page's table whose head begins with this cell, as dictionaries by the head's cells."""
     lines = (TOP / page).read_text(encoding="utf-8").splitlines()
-    cells = [[cell.strip() for cell in line.strip().strip("|").split("|")] if line.startswith("|") else None for line in lines]
+    cells = [[it.strip() for it in line.strip().strip("|").split("|")] if line.startswith("|") else None for line in lines]
     at = next(at for at, row in enumerate(cells) if row and row[0] == first)
     rows = []
     for row in cells[at + 2 :]:
@@ -44,15 +44,17 @@ def numbers(cell):
 class Axis:
     """Where values stand between two ends of a picture, by their size or by its logarithm."""
 
-    def __init__(self, values, begin, end, is_log, whole=True):
+    def __init__(self, values, begin, end, is_log):
         values = [it for it in values if it > 0 or not is_log]
         self.is_log, self.begin, self.end = is_log, begin, end
         if is_log:
             self.least = 10 ** math.floor(math.log10(min(values)))
             self.most = 10 ** math.ceil(math.log10(max(values)))
         else:
-            self.least = 0 if whole else min(values)
+            self.least = 0
             self.step = self.step_for(max(values) - self.least)
+            if all(it == round(it) for it in values):
+                self.step = max(1, self.step)
             self.most = self.least + self.step * math.ceil((max(values) - self.least) / self.step)
 
     @staticmethod
@@ -80,11 +82,12 @@ def text(x, y, words, anchor="middle", size=13, turn=""):
 
 
 def line(x, y, to_x, to_y, colour, width=1.0, dashes=""):
-    return f'<line x1="{x:.1f}" y1="{y:.1f}" x2="{to_x:.1f}" y2="{to_y:.1f}" stroke="{colour}" stroke-width="{width}"{dashes}/>'
+    ends = f'x1="{x:.1f}" y1="{y:.1f}" x2="{to_x:.1f}" y2="{to_y:.1f}"'
+    return f'<line {ends} stroke="{colour}" stroke-width="{width}"{dashes}/>'
 
 
 def spell(value):
-    return f"{value:,.0f}" if value >= 1 or value == 0 else f"{value:g}"
+    return f"{value:,.0f}" if value == round(value) else f"{value:g}"
 
 
 def frame(title, across, up):
@@ -166,11 +169,37 @@ def picture(title, drawn):
 def draw_servers():
     rows = table("bench/serve/README.md", "Names, client")
     servers = [it.split(" ")[0] for it in rows[0] if it != "Names, client"]
-    series = {row["Names, client"].replace("`", ""): [float(row[f"{it} rate, CPU"].split(",")[0]) for it in servers] for row in rows}
-    return bars("Answers a second from the cache, as a share of a bare UDP echo's", "share of the echo's rate", servers, series)
+    series = {}
+    for row in rows:
+        rates = [numbers(row[f"{it} rate, CPU"])[0] for it in servers]
+        series[row["Names, client"].replace("`", "")] = rates
+    title = "Answers a second from the cache, as a share of a bare UDP echo's"
+    return bars(title, "share of the echo's rate", servers, series)
 
 
-PICTURES_BY_NAME = {"servers": draw_servers}
+def columns(rows, key):
+    """A line for each other column of a table, through its filled cells over the column of the key."""
+    series = {}
+    for row in rows:
+        for name, cell in row.items():
+            if name != key and NUMBER.search(cell):
+                series.setdefault(name, []).append((numbers(row[key])[0], *numbers(cell)))
+    return series
+
+
+def draw_news():
+    rows = table("bench/fleet/README.md", "Hops")
+    title = "Until news is at a site, by its hops from the one that learnt it"
+    return curves(title, "hops", "seconds, median", columns(rows, "Hops"))
+
+
+def draw_late():
+    rows = table("bench/fleet/README.md", "Second")
+    title = "What a site has that comes late"
+    return curves(title, "seconds since its start", "share of the names, %", columns(rows, "Second"))
+
+
+PICTURES_BY_NAME = {"servers": draw_servers, "news": draw_news, "late": draw_late}
 
 
 def main():

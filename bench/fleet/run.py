@@ -72,13 +72,22 @@ class Asker:
         return [line.split(" ") for line in told.splitlines()]
 
 
+def phases(options):
+    """When news comes up within the seconds between two sweeps: spread evenly over these, in an order by chance. So fewer
+    rounds tell the median. In a mesh news does not wait for sweeps, nor do rounds."""
+    found = [options.sweep * (it + 0.5) / options.rounds for it in range(options.rounds)]
+    random.shuffle(found)
+    return found
+
+
 def follow_news(options, folder, asker):
     """How long after a site learnt a name the others had it, by hops, and all of them."""
     whole, by_hops, missing = [], {}, 0
     group = Fleet(options, folder)
     try:
         group.start()
-        for number in range(options.rounds):
+        for phase in phases(options):
+            time.sleep(0.05 if options.arrangement == "mesh" else (phase - time.time()) % options.sweep)
             learner = random.randrange(options.sites)
             hops = fleet.hops_from(group.peers, learner)
             patience = 2 if options.arrangement == "mesh" else options.sweep * (max(hops.values()) + 2)
@@ -90,7 +99,6 @@ def follow_news(options, folder, asker):
                 by_hops.setdefault(hops[site], []).append(seconds)
             if had and len(had) == options.sites - 1:
                 whole.append(max(had.values()))
-            time.sleep(0.05 if options.arrangement == "mesh" else random.random() * options.sweep)
     finally:
         group.end()
     print_news(options, whole, by_hops, missing)
