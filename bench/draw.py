@@ -19,7 +19,7 @@ WIDTH, HEIGHT = 720, 400
 LEFT, RIGHT, ABOVE, BELOW = 70, 170, 50, 55
 # Of middle lightness, so that they stand out from white and from black.
 TEXT, GRID, COLOURS = "#6e7781", "#8c959f", ["#2f81f7", "#d9730d", "#2da44e", "#8957e5", "#cf222e"]
-NUMBER = re.compile(r"-?[\d,]+(?:\.\d+)?")
+NUMBER = re.compile(r"-?\d[\d,]*(?:\.\d+)?")
 
 
 def table(page, first):
