@@ -8,8 +8,9 @@
  * answers. It prints a line for each answer that took SLOW milliseconds or more (`slow SITE SECOND MILLISECONDS`), then
  * one for each site (`site SITE ASKED ANSWERED OTHER SLOWEST`), then all (`all ASKED ANSWERED OTHER MEDIAN P999 SLOWEST`).
  * OTHER answers have a code or no record. `news` has site LEARNER learn the name of this number, and then asks each
- * other site that lacks it, once in so many microseconds, for SECONDS at most. It prints how long LEARNER took, and for
- * each site how long after that it had the name (`learnt MILLISECONDS`, `had SITE MILLISECONDS`).
+ * other site that lacks it, four times in two milliseconds and then once in so many microseconds, for SECONDS at most. It
+ * prints how long LEARNER took, and for each site how long after that it had the name (`learnt MILLISECONDS`, `had SITE
+ * MILLISECONDS`).
  *
  * An answer's time is from the call that sent its question to its arrival at this program's socket, as the kernel noted
  * it, so a delay of this program adds nothing.
@@ -24,7 +25,7 @@
 #include <time.h>
 #include <unistd.h>
 
-enum { MOST_SITES = 64, IDENTIFIERS = 65536, LENGTH = 31, PATIENCE = 3, LATEST = 600 };
+enum { MOST_SITES = 64, IDENTIFIERS = 65536, LENGTH = 31, PATIENCE = 3, LATEST = 600, QUICK = 4 };
 
 struct site {
     int socket;
@@ -181,14 +182,15 @@ static double learn(struct site *site, long name) {
     return 0;
 }
 
-static void follow(int learner, long name, double step, double seconds) {
+static void follow(int learner, long name, double most, double seconds) {
     unsigned char octets[LENGTH], reply[LATEST];
-    int left = count - 1;
-    double when, learnt = learn(&sites[learner], name), next = now();
+    int left = count - 1, asked = 0;
+    double when, learnt = learn(&sites[learner], name), next = now(), step = 0;
     if (learnt == 0) fail("no answer");
     sites[learner].answered = 1;
     write_question(octets, 2, name, 0);
     for (; left > 0 && now() < learnt + seconds; next += step) {
+        step = asked++ < QUICK && most > 0.0005 ? 0.0005 : most;
         for (int at = 0; at < count; at++) {
             if (!sites[at].answered && send(sites[at].socket, octets, LENGTH, 0) != LENGTH) continue;
         }

@@ -23,6 +23,8 @@ LONGEST_FRAME, HEAD, HEADERS = 16384, 5, 28
 KNOWN, NEW = 0.0001, 0.0003
 # How many frames wait to be sent at most, each once for all peers.
 MOST_LEAVING = 4095
+# How many times a client that measures asks quickly at first, and how many seconds apart.
+QUICK, QUICKLY = 4, 0.0005
 # How many seconds a record lives whose worth is told.
 LIFE = 300
 # News comes up over so many sweeps at least; in small fleets over more, so that few go through the same sweeps.
@@ -254,7 +256,7 @@ class Run:
             self.send(now + self.sweep.send * (place + 1), peer, 1 << one)
         self.end_turn(now, site)
         if self.polls:
-            self.poll(now, range(self.scenario.sites))
+            self.poll(now, range(self.scenario.sites), 0)
 
     def take(self, now, site, news):
         self.held[site] |= news
@@ -281,11 +283,12 @@ class Run:
         self.plan(site)
         self.push(now + self.words.expovariate(self.scenario.restarts / 3600), self.restart, site)
 
-    def poll(self, now, sites):
+    def poll(self, now, sites, asked):
         """The client asks each of the sites, and some time later those that did not answer."""
         for place, site in enumerate(sites):
             self.push(now + self.sweep.send * (place + 1), self.ask, site)
-        self.push(now + 1 / self.polls, lambda now: self.poll(now, [it for it in sites if not self.known[it]]))
+        step = min(1 / self.polls, QUICKLY) if asked < QUICK else 1 / self.polls
+        self.push(now + step, lambda now: self.poll(now, [it for it in sites if not self.known[it]], asked + 1))
 
     def ask(self, now, site):
         now = max(now, self.idle[site])

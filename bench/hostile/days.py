@@ -190,12 +190,19 @@ SOME, NEW = 500, 200
 
 
 def answered(port, numbers, options, recursion, most=50):
-    """Which of some names a site answers rightly, what became of all, and the seconds of those that failed."""
+    """Which of some names a site answers rightly, what became of all, and the seconds of those that failed. A question for
+    what is cached is asked once more where nothing came, since the system may have dropped it."""
     asked = [question(f"n{it:08d}.t{options.ttl}.{churn.ZONE}", recursion) for it in numbers]
     found = ask_all(port, asked, most)
+    silent = [] if recursion else [at for at, (reply, _) in enumerate(found) if reply is None]
+    for at, second in zip(silent, ask_all(port, [asked[it] for it in silent], most)):
+        found[at] = second
     words = [word_of(reply, it) for (reply, _), it in zip(found, asked)]
     late = [seconds for word, (_, seconds) in zip(words, found) if word == "code 2"]
-    return [it for it, word in zip(numbers, words) if word == "answer"], collections.Counter(words), late
+    counts = collections.Counter(words)
+    if silent:
+        counts["asked again"] = len(silent)
+    return [it for it, word in zip(numbers, words) if word == "answer"], counts, late
 
 
 def fill(options, first):
@@ -229,8 +236,8 @@ def limit_once(options, site, first):
     after, _, _ = answered(SITE, range(at + NEW, at + 2 * NEW), options, True)
     stay, _, _ = answered(SITE, after, options, False)
     row(f"{len(taken):,}", f"{len(kept):,}", shown(new), f"{min(late):.1f} to {max(late):.1f}" if late else "none",
-        f"{len(again):,}", f"{len(gossip)} of {len(sample)}", f"{len(after)}, {len(stay)}", f"{held:.1f}, {memory_of(site):.1f}",
-        f"{lasted:.0f}")
+        f"{len(again):,}, {other['asked again']}", f"{len(gossip)} of {len(sample)}", f"{len(after)}, {len(stay)}",
+        f"{held:.1f}, {memory_of(site):.1f}", f"{lasted:.0f}")
     wrong = {f"kept names at the limit: {shown(other)}": len(again) < len(kept),
              "the limit was not reached, as the names were over": at >= first + options.names,
              f"it took {lasted:.0f} s, so names may have ended": lasted > options.ttl - 2,
@@ -248,9 +255,9 @@ def limit(options, folder, stack):
                 preexec_fn=lambda: resource.setrlimit(resource.RLIMIT_AS, (room, room)))
     stack.callback(site.end)
     stack.callback(Site(options, folder, PEER, [NSD], [SITE], 5).end)
-    head("Answered while filled", "Kept", f"{NEW} new ones at the limit", "Seconds to code 2", "Kept, once more",
-         "Of some at a peer", f"Of {NEW} new ones after the TTL: answered, kept", "MiB at the limit, after",
-         "Seconds at the limit")
+    head("Answered while filled", "Kept", f"{NEW} new ones at the limit", "Seconds to code 2",
+         "Kept, once more; asked twice", "Of some at a peer", f"Of {NEW} new ones after the TTL: answered, kept",
+         "MiB at the limit, after", "Seconds at the limit")
     bound, first, faults = Bound(options.seconds), 0, []
     for number in range(1, options.rounds + 1):
         if bound.left() > 0:

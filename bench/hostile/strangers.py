@@ -2,58 +2,19 @@
 """A site that comes late and learns by sweeps, while strangers flood it with long datagrams. See README.md."""
 
 import argparse
-import multiprocessing
 import os
-import socket
 import sys
 import tempfile
 import time
-from pathlib import Path
 from statistics import median
 
 sys.dont_write_bytecode = True
-sys.path.insert(0, str(Path(__file__).resolve().parent.parent / "catchup"))
 
-import run as catchup
+from beside import Flooders, catchup
 
 # How many names are asked for of all, and the seconds after which that is done.
 SAMPLE = 200
 LOOKS = (6, 12, 18)
-# How many datagrams a flooder sends between two looks at the clock.
-AT_ONCE = 500
-
-
-def flood(port, size, seconds, told):
-    """Sends datagrams of one size to a port for some seconds, and tells how many."""
-    flooder = socket.socket(socket.AF_INET, socket.SOCK_DGRAM)
-    flooder.connect((catchup.HOST, port))
-    datagram, sent, end = bytes(size), 0, time.monotonic() + seconds
-    while time.monotonic() < end:
-        for _ in range(AT_ONCE):
-            try:
-                flooder.send(datagram)
-                sent += 1
-            except OSError:
-                pass
-    told.put(sent)
-
-
-class Flooders:
-    """So many flooders, in processes of their own."""
-
-    def __init__(self, port, options):
-        self.told = multiprocessing.Queue()
-        words = (port, options.size, LOOKS[-1] + 2, self.told)
-        self.processes = [multiprocessing.Process(target=flood, args=words, daemon=True) for _ in range(options.flooders)]
-        for process in self.processes:
-            process.start()
-
-    def end(self):
-        """How many datagrams they sent."""
-        sent = sum(self.told.get(timeout=60) for _ in self.processes)
-        for process in self.processes:
-            process.join()
-        return sent
 
 
 def look(site, count):
@@ -80,7 +41,8 @@ def run(options, folder):
         catchup.learn(client, upstream, first, [catchup.name_of(it) for it in range(options.names)])
         late = catchup.Site(options, folder, catchup.LATE, [catchup.FIRST])
         catchup.learn(client, upstream, late, catchup.own_names())
-        flooders, asking = Flooders(late.port, options), catchup.Client(late.port)
+        makers = [lambda number: bytes(options.size)] * options.flooders
+        flooders, asking = Flooders(late.port, makers, LOOKS[-1] + 2), catchup.Client(late.port)
         began, rows = time.monotonic(), []
         for seconds in LOOKS:
             time.sleep(max(0, began + seconds - time.monotonic()))
@@ -106,7 +68,7 @@ def main():
     options = parser.parse_args()
     options.program = os.path.abspath(options.program)
     print("| " + " | ".join(f"Names after {it} s, no answer" for it in LOOKS)
-          + " | Answers, of | Slowest ms, 1 in 1,000 | Dropped | MiB | Flood |")
+          + " | Answers, of | Slowest ms, 1 in 1,000 | Dropped | MiB | Flood a second |")
     print("|---" * (len(LOOKS) + 5) + "|")
     all_rows = []
     for _ in range(options.times):
@@ -114,7 +76,7 @@ def main():
             rows, asked, answered, slow, dropped, memory, sent = run(options, folder)
         all_rows.append(rows)
         words = [f"{found}, {silent}" for found, silent in rows] + [f"{answered}, {asked}"]
-        words += [f"{slow[0]:.0f}, {slow[len(slow) // 1000]:.0f}" if slow else "none", f"{dropped}", f"{memory:.0f}", f"{sent}"]
+        words += [f"{slow[0]:.0f}, {slow[len(slow) // 1000]:.0f}" if slow else "none", f"{dropped}", f"{memory:.0f}", f"{sent:,.0f}"]
         print("| " + " | ".join(words) + " |", flush=True)
     print("\nmedian: " + ", ".join(f"{median(rows[at][0] for rows in all_rows):.0f}" for at in range(len(LOOKS)))
           + f" of {SAMPLE} names after {', '.join(map(str, LOOKS))} seconds")
