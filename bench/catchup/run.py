@@ -4,6 +4,7 @@
 import argparse
 import multiprocessing
 import os
+import random
 import re
 import select
 import signal
@@ -22,6 +23,8 @@ SAMPLE, KNOWN = 2000, 100
 # How many questions a second the client asks.
 RATE = 1000
 DAY = 86400
+# How many seconds without a frame lie between two sweeps at least.
+APART = 0.5
 
 
 def spell(label):
@@ -194,17 +197,35 @@ def run_late(options, folder, count):
         client.close()
 
 
+def seconds_of_sweeps(receiver, seconds):
+    """How many seconds lie between the first and the last frame of each sweep that a peer receives meanwhile."""
+    end, sweeps = time.monotonic() + seconds, []
+    while (now := time.monotonic()) < end:
+        ready, _, _ = select.select([receiver], [], [], end - now)
+        if ready:
+            receiver.recv(20000)
+            now = time.monotonic()
+            if not sweeps or now > sweeps[-1][1] + APART:
+                sweeps.append([now, now])
+            sweeps[-1][1] = now
+    return [last - first for first, last in sweeps]
+
+
 def run_sweeping(options, folder, count, peers):
-    """One row: how long a site that sweeps answers nobody."""
+    """One row: how long a site that sweeps answers nobody, and how long a whole sweep takes to leave. One that had begun before
+    is seen in part."""
     upstream, client = bound(UPSTREAM), bound(0)
     silent = [bound(SILENT + it) for it in range(peers)]
     site = Site(options, folder, FIRST, [SILENT + it for it in range(peers)])
     try:
-        learn(client, upstream, site, [name_of(it) for it in range(count)] + own_names())
+        names = [name_of(it) for it in range(count)]
+        random.Random(count).shuffle(names)
+        learn(client, upstream, site, names + own_names())
         asking = Client(FIRST)
-        time.sleep(options.sweeps * options.sweep + 1)
+        sweeps = seconds_of_sweeps(silent[-1], options.sweeps * options.sweep + 1)
         asked, answered, slow = asking.end()
-        print(f"| {count:,} | {peers} | {slow[0]:.1f} | {asked - answered} | {site.memory()[1]:.0f} |", flush=True)
+        print(f"| {count:,} | {peers} | {slow[0]:.1f} | {asked - answered} | {max(sweeps, default=0):.1f} "
+              f"| {site.memory()[1]:.0f} |", flush=True)
     finally:
         site.end()
         for it in [upstream, client, *silent]:
@@ -230,7 +251,7 @@ def main():
     counts = [int(it) for it in options.names.split(",")]
     with tempfile.TemporaryDirectory(prefix="dnsfleet-catchup-") as folder:
         if options.sweeping:
-            print("| Names | Peers | Slowest answer ms | Unanswered | Site MiB at most |\n|---|---|---|---|---|")
+            print("| Names | Peers | Slowest answer ms | Unanswered | A sweep leaves in s | Site MiB at most |\n" + "|---" * 6 + "|")
             for count in counts:
                 for peers in options.peers.split(","):
                     run_sweeping(options, folder, count, int(peers))

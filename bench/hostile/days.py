@@ -217,6 +217,11 @@ def fill(options, first):
     return taken, at
 
 
+def lost_at(site):
+    """How many datagrams the system dropped at the socket of a site so far, and how many messages its port did."""
+    return dropped_by_system(site), site.counts()["messages-dropped"]
+
+
 def shown(words):
     return ", ".join(f"{word} {count}" for word, count in sorted(words.items())) or "none"
 
@@ -228,7 +233,9 @@ def limit_once(options, site, first):
     taken, at = fill(options, first)
     kept, _, _ = answered(SITE, taken, options, False)
     _, new, late = answered(SITE, range(at, at + NEW), options, True, 100)
+    before = lost_at(site)
     again, other, _ = answered(SITE, kept, options, False)
+    by_system, by_port = (after - count for count, after in zip(before, lost_at(site)))
     lasted, held = time.monotonic() - began, memory_of(site)
     sample = kept[:: max(1, len(kept) // NEW)]
     gossip, _, _ = answered(PEER, sample, options, False)
@@ -236,8 +243,8 @@ def limit_once(options, site, first):
     after, _, _ = answered(SITE, range(at + NEW, at + 2 * NEW), options, True)
     stay, _, _ = answered(SITE, after, options, False)
     row(f"{len(taken):,}", f"{len(kept):,}", shown(new), f"{min(late):.1f} to {max(late):.1f}" if late else "none",
-        f"{len(again):,}, {other['asked again']}", f"{len(gossip)} of {len(sample)}", f"{len(after)}, {len(stay)}",
-        f"{held:.1f}, {memory_of(site):.1f}", f"{lasted:.0f}")
+        f"{len(again):,}, {other['asked again']}", f"{by_system}, {by_port}", f"{len(gossip)} of {len(sample)}",
+        f"{len(after)}, {len(stay)}", f"{held:.1f}, {memory_of(site):.1f}", f"{lasted:.0f}")
     wrong = {f"kept names at the limit: {shown(other)}": len(again) < len(kept),
              "the limit was not reached, as the names were over": at >= first + options.names,
              f"it took {lasted:.0f} s, so names may have ended": lasted > options.ttl - 2,
@@ -256,8 +263,8 @@ def limit(options, folder, stack):
     stack.callback(site.end)
     stack.callback(Site(options, folder, PEER, [NSD], [SITE], 5).end)
     head("Answered while filled", "Kept", f"{NEW} new ones at the limit", "Seconds to code 2",
-         "Kept, once more; asked twice", "Of some at a peer", f"Of {NEW} new ones after the TTL: answered, kept",
-         "MiB at the limit, after", "Seconds at the limit")
+         "Kept, once more; asked twice", "Dropped meanwhile by the system, by the port", "Of some at a peer",
+         f"Of {NEW} new ones after the TTL: answered, kept", "MiB at the limit, after", "Seconds at the limit")
     bound, first, faults = Bound(options.seconds), 0, []
     for number in range(1, options.rounds + 1):
         if bound.left() > 0:
