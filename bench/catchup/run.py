@@ -212,8 +212,8 @@ def seconds_of_sweeps(receiver, seconds):
 
 
 def run_sweeping(options, folder, count, peers):
-    """One row: how long a site that sweeps answers nobody, and how long a whole sweep takes to leave. One that had begun before
-    is seen in part."""
+    """One row: how long a site that sweeps answers nobody, and how long the longest sweep took to leave. Of one that had
+    begun before, a part is seen."""
     upstream, client = bound(UPSTREAM), bound(0)
     silent = [bound(SILENT + it) for it in range(peers)]
     site = Site(options, folder, FIRST, [SILENT + it for it in range(peers)])
