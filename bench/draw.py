@@ -166,15 +166,22 @@ def picture(title, drawn):
     return "\n".join([head, *drawn, "</svg>"]) + "\n"
 
 
+def servers(place):
+    """The servers of the table, and a series for each row: of each server the first or the second figure of its cell."""
+    rows, heads = table("bench/serve/README.md", "Names, client"), " rate, CPU"
+    names = [it.removesuffix(heads) for it in rows[0] if it.endswith(heads)]
+    return names, {row["Names, client"].replace("`", ""): [float(NUMBER.findall(row[it + heads])[place]) for it in names]
+                   for row in rows}
+
+
 def draw_servers():
-    rows = table("bench/serve/README.md", "Names, client")
-    servers = [it.split(" ")[0] for it in rows[0] if it != "Names, client"]
-    series = {}
-    for row in rows:
-        rates = [numbers(row[f"{it} rate, CPU"])[0] for it in servers]
-        series[row["Names, client"].replace("`", "")] = rates
-    title = "Answers a second from the cache, as a share of a bare UDP echo's"
-    return bars(title, "share of the echo's rate", servers, series)
+    return bars("Answers a second from the cache", "share of a bare UDP echo's rate", *servers(0))
+
+
+def draw_processor():
+    names, shares = servers(1)
+    series = {row: [1 / it for it in some] for row, some in shares.items()}
+    return bars("Processor time of an answer from the cache", "times that of a bare UDP echo", names, series)
 
 
 def columns(rows, key):
@@ -199,7 +206,20 @@ def draw_late():
     return curves(title, "seconds since its start", "share of the names, %", columns(rows, "Second"))
 
 
-PICTURES_BY_NAME = {"servers": draw_servers, "news": draw_news, "late": draw_late}
+def draw_sweeps():
+    """A line for each way to start and each figure, over the names."""
+    series = {}
+    for row in table("bench/fleet/README.md", "Sweeps, names"):
+        way, _, names = row["Sweeps, names"].partition(", ")
+        for figure in ("99.9 % ms", "Slowest ms"):
+            point = numbers(names)[0], *numbers(row[figure])
+            series.setdefault(f"{way}: {figure.removesuffix(' ms').lower()}", []).append(point)
+    title = "How long answers take while a mesh of 17 sites sweeps"
+    return curves(title, "names that each site holds", "milliseconds", series, True, True)
+
+
+PICTURES_BY_NAME = {"servers": draw_servers, "processor": draw_processor, "news": draw_news, "late": draw_late,
+                    "sweeps": draw_sweeps}
 
 
 def main():

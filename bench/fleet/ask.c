@@ -1,7 +1,8 @@
 /* Asks the sites of a fleet on loopback, at a rate, or about one name until all have it.
  *
  * usage: ask load PORT SITES RATE SECONDS NAMES SLOW
- *        ask news PORT SITES LEARNER NAME MICROSECONDS SECONDS
+ *        ask news PORT SITES LEARNER NAME MICROSECONDS SECONDS [SITE]
+ *        ask frames PORT SITES NAME ROUNDS
  *
  * The sites listen at PORT and the ports behind it. `load` asks each of them RATE questions a second for names that it
  * knows, of number 0 to NAMES - 1, evenly, whether they are answered or not, and waits three seconds for the last
@@ -10,7 +11,7 @@
  * OTHER answers have a code or no record. `news` has site LEARNER learn the name of this number, and then asks each
  * other site that lacks it, four times in two milliseconds and then once in so many microseconds, for SECONDS at most. It
  * prints how long LEARNER took, and for each site how long after that it had the name (`learnt MILLISECONDS`, `had SITE
- * MILLISECONDS`).
+ * MILLISECONDS`). With SITE that one alone is asked, and this program never sleeps: nothing delays the news but its own way.
  *
  * An answer's time is from the call that sent its question to its arrival at this program's socket, as the kernel noted
  * it, so a delay of this program adds nothing.
@@ -18,6 +19,7 @@
 #define _GNU_SOURCE
 #include <arpa/inet.h>
 #include <poll.h>
+#include <signal.h>
 #include <stdio.h>
 #include <stdlib.h>
 #include <string.h>
@@ -166,13 +168,13 @@ static void load(double rate, double seconds, long names, double slow) {
 }
 
 /* Has a site learn a name; when it had answered, or 0 where it did not. */
-static double learn(struct site *site, long name) {
+static double learn(struct site *site, long name, int sleeps) {
     unsigned char octets[LENGTH], reply[LATEST];
     double sent = now(), when;
     write_question(octets, 1, name, 1);
     if (send(site->socket, octets, LENGTH, 0) != LENGTH) return 0;
     while (now() < sent + PATIENCE) {
-        wait_until(sent + PATIENCE);
+        if (sleeps) wait_until(sent + PATIENCE);
         int length = take(site->socket, reply, &when);
         if (is_answer(reply, length)) {
             printf("learnt %.3f\n", 1000 * (when - sent));
@@ -182,12 +184,12 @@ static double learn(struct site *site, long name) {
     return 0;
 }
 
-static void follow(int learner, long name, double most, double seconds) {
+static void follow(int learner, long name, double most, double seconds, int alone, int sleeps) {
     unsigned char octets[LENGTH], reply[LATEST];
-    int left = count - 1, asked = 0;
-    double when, learnt = learn(&sites[learner], name), next = now(), step = 0;
+    int left = alone < 0 ? count - 1 : 1, asked = 0;
+    double when, learnt = learn(&sites[learner], name, sleeps), next = now(), step = 0;
     if (learnt == 0) fail("no answer");
-    sites[learner].answered = 1;
+    for (int at = 0; at < count; at++) sites[at].answered = at == learner || (alone >= 0 && at != alone);
     write_question(octets, 2, name, 0);
     for (; left > 0 && now() < learnt + seconds; next += step) {
         step = asked++ < QUICK && most > 0.0005 ? 0.0005 : most;
@@ -195,7 +197,7 @@ static void follow(int learner, long name, double most, double seconds) {
             if (!sites[at].answered && send(sites[at].socket, octets, LENGTH, 0) != LENGTH) continue;
         }
         do {
-            wait_until(next + step);
+            if (sleeps) wait_until(next + step);
             for (int at = 0; at < count; at++) {
                 for (int length; (length = take(sites[at].socket, reply, &when)) >= 0;) {
                     if (sites[at].answered || !is_answer(reply, length)) continue;
@@ -208,11 +210,46 @@ static void follow(int learner, long name, double most, double seconds) {
     }
 }
 
+/* A peer of the first site: sleeps until a frame comes, and tells when it came, again and again. */
+static void listen_at(int port, int tell) {
+    unsigned char octets[LATEST];
+    int made = socket(AF_INET, SOCK_DGRAM, 0), yes = 1;
+    struct sockaddr_in here = {.sin_family = AF_INET, .sin_port = htons((uint16_t)port)};
+    double when;
+    here.sin_addr.s_addr = htonl(INADDR_LOOPBACK);
+    if (made < 0 || bind(made, (struct sockaddr *)&here, sizeof here) != 0) fail("socket of a peer");
+    setsockopt(made, SOL_SOCKET, SO_TIMESTAMPNS, &yes, sizeof yes);
+    while (take(made, octets, &when) >= 0 && write(tell, &when, sizeof when) == sizeof when) {}
+    exit(1);
+}
+
+/* Has the first site learn names, and prints when its frames arrived at its peers, which this program is. */
+static void time_frames(int port, long name, int rounds) {
+    int ends[MOST_SITES][2];
+    pid_t peers[MOST_SITES];
+    double learnt, when;
+    for (int at = 1; at < count; at++) {
+        if (pipe(ends[at]) != 0 || (peers[at] = fork()) < 0) fail("peer");
+        if (peers[at] == 0) listen_at(port + at, ends[at][1]);
+    }
+    for (int round = 0; round < rounds; round++) {
+        usleep(50000);
+        if ((learnt = learn(&sites[0], name + round, 0)) == 0) fail("no answer");
+        for (int at = 1; at < count; at++) {
+            if (read(ends[at][0], &when, sizeof when) != sizeof when) fail("no frame");
+            printf("frame %d %.4f\n", at, 1000 * (when - learnt));
+        }
+    }
+    for (int at = 1; at < count; at++) kill(peers[at], SIGTERM);
+}
+
 int main(int argc, char **words) {
     int is_load = argc == 8 && strcmp(words[1], "load") == 0;
-    if (!is_load && (argc != 8 || strcmp(words[1], "news") != 0)) {
+    int is_frames = argc == 6 && strcmp(words[1], "frames") == 0;
+    if (!is_load && !is_frames && ((argc != 8 && argc != 9) || strcmp(words[1], "news") != 0)) {
         fprintf(stderr, "usage: ask load PORT SITES RATE SECONDS NAMES SLOW\n"
-                        "       ask news PORT SITES LEARNER NAME MICROSECONDS SECONDS\n");
+                        "       ask news PORT SITES LEARNER NAME MICROSECONDS SECONDS [SITE]\n"
+                        "       ask frames PORT SITES NAME ROUNDS\n");
         return 2;
     }
     count = atoi(words[3]);
@@ -220,8 +257,11 @@ int main(int argc, char **words) {
     for (int at = 0; at < count; at++) sites[at].socket = socket_to(atoi(words[2]) + at);
     if (is_load) {
         load(atof(words[4]), atof(words[5]), atol(words[6]), atof(words[7]));
+    } else if (is_frames) {
+        time_frames(atoi(words[2]), atol(words[4]), atoi(words[5]));
     } else {
-        follow(atoi(words[4]) % count, atol(words[5]), atof(words[6]) / 1e6, atof(words[7]));
+        int alone = argc == 8 || strcmp(words[8], "all") == 0 ? -1 : atoi(words[8]) % count;
+        follow(atoi(words[4]) % count, atol(words[5]), atof(words[6]) / 1e6, atof(words[7]), alone, argc == 8);
     }
     return 0;
 }

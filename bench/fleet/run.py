@@ -21,6 +21,8 @@ HERE = Path(__file__).resolve().parent
 FIRST_NEWS = 9_000_000
 # How often a site that lacks the news is asked for it, in microseconds: where all are peers, and elsewhere.
 STEPS = {"mesh": 500, "ring": 20_000, "tree": 20_000}
+# And where it alone is asked.
+STEP_OF_ONE = 50
 # An answer that takes as many milliseconds is said to be slow.
 SLOW = 10
 # How many names clients ask for.
@@ -28,7 +30,7 @@ KNOWN = 1000
 # How many seconds a sweep may be on its way.
 ON_ITS_WAY = 4
 # The columns of the table that a simulation is compared with.
-COLUMNS = "kind arrangement sites degree sweep spread names entry questions hops value".split()
+COLUMNS = "kind arrangement sites degree sweep spread names entry questions asked hops value".split()
 
 
 def middle(numbers, places=1):
@@ -45,13 +47,13 @@ def print_table(heads, rows):
         print("| " + " | ".join(str(it) for it in row) + " |", flush=True)
 
 
-def keep(options, kind, value, hops="", names=0, questions=0):
+def keep(options, kind, value, hops="", names=0, questions=0, asked=""):
     """Adds a row to the table that a simulation is compared with."""
     if not options.tsv:
         return
     degree = len(fleet.ARRANGEMENTS[options.arrangement](options.sites)[0])
     row = [kind, options.arrangement, options.sites, degree, options.sweep, int(options.spread), names,
-           options.entry, questions, hops, f"{value:.6g}"]
+           options.entry, questions, asked, hops, f"{value:.6g}"]
     is_new = not os.path.exists(options.tsv)
     with open(options.tsv, "a") as file:
         if is_new:
@@ -81,20 +83,22 @@ def phases(options):
 
 
 def follow_news(options, folder, asker):
-    """How long after a site learnt a name the others had it, by hops, and all of them."""
+    """How long after a site learnt a name the others had it, by hops, and all of them; or one of its peers alone."""
     whole, by_hops, missing = [], {}, 0
+    waits_for_sweeps = options.arrangement != "mesh" and not options.one
     group = Fleet(options, folder)
     try:
         group.start()
         for phase in phases(options):
-            time.sleep(0.05 if options.arrangement == "mesh" else (phase - time.time()) % options.sweep)
+            time.sleep((phase - time.time()) % options.sweep if waits_for_sweeps else 0.05)
             learner = random.randrange(options.sites)
             hops = fleet.hops_from(group.peers, learner)
-            patience = 2 if options.arrangement == "mesh" else options.sweep * (max(hops.values()) + 2)
+            patience = options.sweep * (max(hops.values()) + 2) if waits_for_sweeps else 2
+            asked = [random.choice(group.peers[learner])] if options.one else []
             name = FIRST_NEWS + random.randrange(900_000)
-            lines = asker.words("news", FIRST, options.sites, learner, name, STEPS[options.arrangement], patience)
+            lines = asker.words("news", FIRST, options.sites, learner, name, step_of(options), patience, *asked)
             had = {int(it[1]): float(it[2]) / 1000 for it in lines if it[0] == "had"}
-            missing += options.sites - 1 - len(had)
+            missing += (len(asked) or options.sites - 1) - len(had)
             for site, seconds in had.items():
                 by_hops.setdefault(hops[site], []).append(seconds)
             if had and len(had) == options.sites - 1:
@@ -104,18 +108,23 @@ def follow_news(options, folder, asker):
     print_news(options, whole, by_hops, missing)
 
 
+def step_of(options):
+    """The microseconds between two questions for news."""
+    return STEP_OF_ONE if options.one else STEPS[options.arrangement]
+
+
 def print_news(options, whole, by_hops, missing):
-    rows = [(hops, len(some), f"{statistics.median(some):.4f}", f"{max(some):.4f}")
+    rows = [(hops, len(some), f"{statistics.median(some):.5f}", f"{max(some):.5f}")
             for hops, some in sorted(by_hops.items())]
     print_table(["Hops", "Samples", "Median s", "Greatest s"], rows)
     if whole:
-        print(f"\neverywhere after {statistics.median(whole):.4f} s, at most {max(whole):.4f}, in {len(whole)} rounds; "
-              f"{missing} times a site had it not in time")
-    polls = 1_000_000 // STEPS[options.arrangement]
+        print(f"\neverywhere after {statistics.median(whole):.5f} s, at most {max(whole):.5f}, in {len(whole)} rounds")
+    print(f"{missing} times a site had it not in time")
+    measure = {"questions": 1_000_000 // step_of(options), "asked": "one" if options.one else "all"}
     for hops, some in sorted(by_hops.items()):
-        keep(options, "news", statistics.median(some), hops, questions=polls)
+        keep(options, "news", statistics.median(some), hops, **measure)
     if whole:
-        keep(options, "everywhere", statistics.median(whole), questions=polls)
+        keep(options, "everywhere", statistics.median(whole), **measure)
 
 
 def fill(options, group, sites):
@@ -229,7 +238,32 @@ def measure_late(options, folder, asker):
     keep(options, "share", statistics.median(run[-1] for run, _ in runs), names=options.names)
 
 
-JOBS = {"news": follow_news, "sweeps": measure_sweeps, "quiet": measure_quiet, "late": measure_late}
+def time_known(options, folder, asker):
+    """How long a client waits who asks the sites in turn for a name that all know, so that no news is on its way. From the
+    last answer follows what a datagram takes its sender, for the simulation."""
+    waits, lasts = [], []
+    group = Fleet(options, folder)
+    try:
+        group.start()
+        name = FIRST_NEWS + random.randrange(900_000)
+        client = fleet.catchup.bound(0)
+        for site in group.sites:
+            group.ask(client, site, [fleet.catchup.name_of(name)], True)
+        client.close()
+        for _ in range(options.rounds):
+            time.sleep(0.05)
+            lines = asker.words("news", FIRST, options.sites, random.randrange(options.sites), name, STEPS["tree"], 2)
+            some = [float(it[2]) for it in lines if it[0] == "had"]
+            waits.append(statistics.median(some))
+            lasts.append(max(some))
+    finally:
+        group.end()
+    last = statistics.median(lasts)
+    print_table(["Sites", "Median ms", "Last ms", "Of a datagram ms (--send)"],
+                [(options.sites, f"{statistics.median(waits):.3f}", f"{last:.3f}", f"{last / options.sites:.3f}")])
+
+
+JOBS = {"news": follow_news, "known": time_known, "sweeps": measure_sweeps, "quiet": measure_quiet, "late": measure_late}
 
 
 def options_of():
@@ -244,6 +278,7 @@ def options_of():
     words.add_argument("--questions", type=int, default=200, help="questions a second to each site (200)")
     words.add_argument("--seconds", type=int, default=65, help="how long clients ask (65)")
     words.add_argument("--rounds", type=int, default=20, help="how many news are followed (20)")
+    words.add_argument("--one", action="store_true", help="`news` asks one peer of who learnt it, not all sites")
     words.add_argument("--runs", type=int, default=1, help="how many times a fleet is started (1)")
     words.add_argument("--slow", help="a file to which slow answers of `sweeps` are added: site, second, milliseconds")
     words.add_argument("--tsv", help="a file to which what a simulation is compared with is added")
