@@ -2,7 +2,6 @@
  *
  * usage: ask load PORT SITES RATE SECONDS NAMES SLOW
  *        ask news PORT SITES LEARNER NAME MICROSECONDS SECONDS [SITE]
- *        ask frames PORT SITES NAME ROUNDS
  *
  * The sites listen at PORT and the ports behind it. `load` asks each of them RATE questions a second for names that it
  * knows, of number 0 to NAMES - 1, evenly, whether they are answered or not, and waits three seconds for the last
@@ -19,7 +18,6 @@
 #define _GNU_SOURCE
 #include <arpa/inet.h>
 #include <poll.h>
-#include <signal.h>
 #include <stdio.h>
 #include <stdlib.h>
 #include <string.h>
@@ -210,46 +208,11 @@ static void follow(int learner, long name, double most, double seconds, int alon
     }
 }
 
-/* A peer of the first site: sleeps until a frame comes, and tells when it came, again and again. */
-static void listen_at(int port, int tell) {
-    unsigned char octets[LATEST];
-    int made = socket(AF_INET, SOCK_DGRAM, 0), yes = 1;
-    struct sockaddr_in here = {.sin_family = AF_INET, .sin_port = htons((uint16_t)port)};
-    double when;
-    here.sin_addr.s_addr = htonl(INADDR_LOOPBACK);
-    if (made < 0 || bind(made, (struct sockaddr *)&here, sizeof here) != 0) fail("socket of a peer");
-    setsockopt(made, SOL_SOCKET, SO_TIMESTAMPNS, &yes, sizeof yes);
-    while (take(made, octets, &when) >= 0 && write(tell, &when, sizeof when) == sizeof when) {}
-    exit(1);
-}
-
-/* Has the first site learn names, and prints when its frames arrived at its peers, which this program is. */
-static void time_frames(int port, long name, int rounds) {
-    int ends[MOST_SITES][2];
-    pid_t peers[MOST_SITES];
-    double learnt, when;
-    for (int at = 1; at < count; at++) {
-        if (pipe(ends[at]) != 0 || (peers[at] = fork()) < 0) fail("peer");
-        if (peers[at] == 0) listen_at(port + at, ends[at][1]);
-    }
-    for (int round = 0; round < rounds; round++) {
-        usleep(50000);
-        if ((learnt = learn(&sites[0], name + round, 0)) == 0) fail("no answer");
-        for (int at = 1; at < count; at++) {
-            if (read(ends[at][0], &when, sizeof when) != sizeof when) fail("no frame");
-            printf("frame %d %.4f\n", at, 1000 * (when - learnt));
-        }
-    }
-    for (int at = 1; at < count; at++) kill(peers[at], SIGTERM);
-}
-
 int main(int argc, char **words) {
     int is_load = argc == 8 && strcmp(words[1], "load") == 0;
-    int is_frames = argc == 6 && strcmp(words[1], "frames") == 0;
-    if (!is_load && !is_frames && ((argc != 8 && argc != 9) || strcmp(words[1], "news") != 0)) {
+    if (!is_load && ((argc != 8 && argc != 9) || strcmp(words[1], "news") != 0)) {
         fprintf(stderr, "usage: ask load PORT SITES RATE SECONDS NAMES SLOW\n"
-                        "       ask news PORT SITES LEARNER NAME MICROSECONDS SECONDS [SITE]\n"
-                        "       ask frames PORT SITES NAME ROUNDS\n");
+                        "       ask news PORT SITES LEARNER NAME MICROSECONDS SECONDS [SITE]\n");
         return 2;
     }
     count = atoi(words[3]);
@@ -257,8 +220,6 @@ int main(int argc, char **words) {
     for (int at = 0; at < count; at++) sites[at].socket = socket_to(atoi(words[2]) + at);
     if (is_load) {
         load(atof(words[4]), atof(words[5]), atol(words[6]), atof(words[7]));
-    } else if (is_frames) {
-        time_frames(atoi(words[2]), atol(words[4]), atoi(words[5]));
     } else {
         int alone = argc == 8 || strcmp(words[8], "all") == 0 ? -1 : atoi(words[8]) % count;
         follow(atoi(words[4]) % count, atol(words[5]), atof(words[6]) / 1e6, atof(words[7]), alone, argc == 8);

@@ -15,8 +15,7 @@ WAIT = 0.2
 BURST, PAUSE, SHORT = 2, 0.001, 512
 # Octets of the longest frame and of a frame's head, and those of IP and UDP for each datagram.
 LONGEST_FRAME, HEAD, HEADERS = 16384, 5, 28
-# How many seconds a frame takes its receiver, where all of it is known, and where something is new. A short one takes as
-# long as to send one.
+# How many seconds a frame of over SHORT octets takes its receiver, where all of it is known, and where something is new.
 KNOWN, NEW = 0.0001, 0.0003
 # How many frames wait to be sent at most, each once for all peers.
 MOST_LEAVING = 4095
@@ -52,6 +51,8 @@ class Scenario:
     loss: float = option(0.0, "the share of frames that get lost")
     restarts: float = option(0.0, "restarts of each site in an hour")
     send: float = option(0.06, "milliseconds that a datagram takes its sender")
+    take: float = option(0.06, "milliseconds that a frame of at most 512 octets takes its receiver")
+    processors: int = option(0, "processors that all sites share; 0: each has its own")
     link: int = option(0, "octets of the link for each datagram; loopback counts 14")
     rounds: int = option(64, "how many news, or late sites, are followed")
     seed: int = option(1, "of what is drawn by chance")
@@ -123,7 +124,7 @@ class Sweep:
         self.frames = math.ceil(scenario.names / self.entries)
         self.octets = scenario.names * scenario.entry + self.frames * (HEAD + HEADERS + scenario.link)
         self.is_short = scenario.names * scenario.entry + HEAD <= SHORT
-        self.send = scenario.send / 1000
+        self.send, self.take = scenario.send / 1000, scenario.take / 1000
 
     def arrival(self, number):
         """How many seconds after the begin of a sweep its datagram of this number arrives, of those to all peers."""
@@ -162,6 +163,8 @@ class Run:
         self.places = [self.words.randrange(max(1, self.sweep.frames)) for _ in range(news)]
         awaited = 2 if scenario.polled == "one" else scenario.sites
         self.arrivals, self.missing, self.lives = [[] for _ in range(news)], news * awaited, 0
+        # When each processor is idle again, if sites share some.
+        self.free = [0.0] * scenario.processors
         for one, begun in enumerate(self.begun):
             self.push(begun, self.learn, one)
         for site in range(scenario.sites):
@@ -232,10 +235,18 @@ class Run:
             self.push(self.idle[site], self.receive, site, news, is_short)
             return
         news &= ~self.held[site]
-        self.idle[site] = now + (self.sweep.send if is_short else NEW if news else KNOWN)
-        self.take(self.idle[site], site, news)
+        done = self.work(now, site, self.sweep.take if is_short else NEW if news else KNOWN)
+        self.take(done, site, news)
         if now >= self.due[site]:
-            self.end_turn(self.idle[site], site)
+            self.end_turn(done, site)
+
+    def work(self, now, site, seconds):
+        """A site works so long, once it and a processor are idle. Gives the moment at which that is done."""
+        begin = max(now, self.idle[site], heapq.heappop(self.free) if self.free else 0)
+        self.idle[site] = begin + seconds
+        if self.scenario.processors:
+            heapq.heappush(self.free, self.idle[site])
+        return self.idle[site]
 
     def learn(self, now, one):
         """A site learns news from an upstream, and tells its peers at once."""
@@ -245,6 +256,7 @@ class Run:
             self.send(now + self.sweep.send * (place + 1), peer, 1 << one, True)
         self.end_turn(now, site)
         if self.polls:
+            self.work(now, site, self.sweep.send * len(self.fleet.peers[site]))
             self.note(now, site, 1 << one)
             others = [it for it in range(self.scenario.sites) if it != site]
             self.poll(now, others if self.scenario.polled == "all" else [self.words.choice(self.fleet.peers[site])], 0)

@@ -22,7 +22,9 @@ FIRST_NEWS = 9_000_000
 # How often a site that lacks the news is asked for it, in microseconds: where all are peers, and elsewhere.
 STEPS = {"mesh": 500, "ring": 20_000, "tree": 20_000}
 # And where it alone is asked.
-STEP_OF_ONE = 50
+STEP_OF_ONE = 20
+# The seconds between two news where news does not wait for sweeps.
+PAUSE = 0.05
 # An answer that takes as many milliseconds is said to be slow.
 SLOW = 10
 # How many names clients ask for.
@@ -90,7 +92,7 @@ def follow_news(options, folder, asker):
     try:
         group.start()
         for phase in phases(options):
-            time.sleep((phase - time.time()) % options.sweep if waits_for_sweeps else 0.05)
+            time.sleep((phase - time.time()) % options.sweep if waits_for_sweeps else PAUSE)
             learner = random.randrange(options.sites)
             hops = fleet.hops_from(group.peers, learner)
             patience = options.sweep * (max(hops.values()) + 2) if waits_for_sweeps else 2
@@ -238,32 +240,47 @@ def measure_late(options, folder, asker):
     keep(options, "share", statistics.median(run[-1] for run, _ in runs), names=options.names)
 
 
-def time_known(options, folder, asker):
-    """How long a client waits who asks the sites in turn for a name that all know, so that no news is on its way. From the
-    last answer follows what a datagram takes its sender, for the simulation."""
-    waits, lasts = [], []
-    group = Fleet(options, folder)
+def ran_for(options, site, action):
+    """The milliseconds of processor time that a site takes for each round of an action."""
+    before = site.processor()[0]
+    action()
+    return 1000 * (site.processor()[0] - before) / options.rounds
+
+
+def costs_of(options, folder, asker, sites):
+    """What a site of a mesh takes in ms: processor time to learn a name and send it to its peers, and of a peer to take it;
+    processor time of a question for a known name, and how long its answer takes. All sites sleep in between."""
+    group = Fleet(argparse.Namespace(**{**vars(options), "arrangement": "mesh", "sites": sites}), folder)
+    client, times = fleet.catchup.bound(0), []
+
+    def learn():
+        for number in range(options.rounds):
+            time.sleep(PAUSE)
+            group.ask(client, group.sites[0], [fleet.catchup.name_of(number)], True)
+
+    def ask():
+        times.extend(asker.words("load", FIRST, 1, 1 / PAUSE, options.rounds * PAUSE, 1, SLOW)[-1])
+
     try:
         group.start()
-        name = FIRST_NEWS + random.randrange(900_000)
-        client = fleet.catchup.bound(0)
-        for site in group.sites:
-            group.ask(client, site, [fleet.catchup.name_of(name)], True)
-        client.close()
-        for _ in range(options.rounds):
-            time.sleep(0.05)
-            lines = asker.words("news", FIRST, options.sites, random.randrange(options.sites), name, STEPS["tree"], 2)
-            some = [float(it[2]) for it in lines if it[0] == "had"]
-            waits.append(statistics.median(some))
-            lasts.append(max(some))
+        taken = []
+        sent = ran_for(options, group.sites[0], lambda: taken.append(ran_for(options, group.sites[1], learn)))
+        return sent, taken[0], ran_for(options, group.sites[0], ask), float(times[4])
     finally:
+        client.close()
         group.end()
-    last = statistics.median(lasts)
-    print_table(["Sites", "Median ms", "Last ms", "Of a datagram ms (--send)"],
-                [(options.sites, f"{statistics.median(waits):.3f}", f"{last:.3f}", f"{last / options.sites:.3f}")])
 
 
-JOBS = {"news": follow_news, "known": time_known, "sweeps": measure_sweeps, "quiet": measure_quiet, "late": measure_late}
+def measure_costs(options, folder, asker):
+    """What the simulation of the first hop needs: what a short datagram takes its sender, and a short frame its receiver."""
+    few, many = costs_of(options, folder, asker, 2), costs_of(options, folder, asker, 17)
+    heads = ["Peers", "Learns and sends ms", "A peer takes ms", "Of a question ms", "An answer takes ms"]
+    print_table(heads, [(peers, *(f"{it:.4f}" for it in row)) for peers, row in ((1, few), (16, many))])
+    sent, taken, question, answer = many
+    print(f"\n--send {(sent - few[0]) / 15:.4f} --take {taken + answer - question:.4f}")
+
+
+JOBS = {"news": follow_news, "costs": measure_costs, "sweeps": measure_sweeps, "quiet": measure_quiet, "late": measure_late}
 
 
 def options_of():
