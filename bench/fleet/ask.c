@@ -1,7 +1,7 @@
 /* Asks the sites of a fleet on loopback, at a rate, or about one name until all have it.
  *
- * usage: ask load PORT SITES RATE SECONDS NAMES SLOW
- *        ask news PORT SITES LEARNER NAME MICROSECONDS SECONDS [SITE]
+ * usage: ask load PORT SITES RATE SECONDS NAMES SLOW [awake]
+ *        ask news PORT SITES LEARNER NAME MICROSECONDS SECONDS [SITE|all]
  *
  * The sites listen at PORT and the ports behind it. `load` asks each of them RATE questions a second for names that it
  * knows, of number 0 to NAMES - 1, evenly, whether they are answered or not, and waits three seconds for the last
@@ -10,7 +10,8 @@
  * OTHER answers have a code or no record. `news` has site LEARNER learn the name of this number, and then asks each
  * other site that lacks it, four times in two milliseconds and then once in so many microseconds, for SECONDS at most. It
  * prints how long LEARNER took, and for each site how long after that it had the name (`learnt MILLISECONDS`, `had SITE
- * MILLISECONDS`). With SITE that one alone is asked, and this program never sleeps: nothing delays the news but its own way.
+ * MILLISECONDS`). With a last word this program never sleeps, and with SITE it asks that one alone: then nothing delays
+ * the news but its own way.
  *
  * An answer's time is from the call that sent its question to its arrival at this program's socket, as the kernel noted
  * it, so a delay of this program adds nothing.
@@ -150,7 +151,7 @@ static void print_all(void) {
            waited ? waits[waited - 1 - waited / 1000] : 0, slowest);
 }
 
-static void load(double rate, double seconds, long names, double slow) {
+static void load(double rate, double seconds, long names, double slow, int sleeps) {
     long whole = (long)(rate * seconds) * count, number = 0;
     double began = now(), step = seconds / (double)whole;
     waits = malloc(sizeof *waits * (size_t)(whole + 1));
@@ -159,7 +160,7 @@ static void load(double rate, double seconds, long names, double slow) {
         for (; number < whole && began + (double)number * step <= now(); number++) {
             ask(&sites[number % count], number / count * 7919 % names);
         }
-        wait_until(number < whole ? began + (double)number * step : now() + 0.1);
+        if (sleeps) wait_until(number < whole ? began + (double)number * step : now() + 0.1);
         for (int at = 0; at < count; at++) take_answers(&sites[at], at, began, slow);
     }
     print_all();
@@ -209,17 +210,17 @@ static void follow(int learner, long name, double most, double seconds, int alon
 }
 
 int main(int argc, char **words) {
-    int is_load = argc == 8 && strcmp(words[1], "load") == 0;
-    if (!is_load && ((argc != 8 && argc != 9) || strcmp(words[1], "news") != 0)) {
-        fprintf(stderr, "usage: ask load PORT SITES RATE SECONDS NAMES SLOW\n"
-                        "       ask news PORT SITES LEARNER NAME MICROSECONDS SECONDS [SITE]\n");
+    int is_load = argc > 1 && strcmp(words[1], "load") == 0;
+    if ((argc != 8 && argc != 9) || (!is_load && strcmp(words[1], "news") != 0)) {
+        fprintf(stderr, "usage: ask load PORT SITES RATE SECONDS NAMES SLOW [awake]\n"
+                        "       ask news PORT SITES LEARNER NAME MICROSECONDS SECONDS [SITE|all]\n");
         return 2;
     }
     count = atoi(words[3]);
     if (count < 1 || count > MOST_SITES) return 2;
     for (int at = 0; at < count; at++) sites[at].socket = socket_to(atoi(words[2]) + at);
     if (is_load) {
-        load(atof(words[4]), atof(words[5]), atol(words[6]), atof(words[7]));
+        load(atof(words[4]), atof(words[5]), atol(words[6]), atof(words[7]), argc == 8);
     } else {
         int alone = argc == 8 || strcmp(words[8], "all") == 0 ? -1 : atoi(words[8]) % count;
         follow(atoi(words[4]) % count, atol(words[5]), atof(words[6]) / 1e6, atof(words[7]), alone, argc == 8);

@@ -52,6 +52,7 @@ class Scenario:
     restarts: float = option(0.0, "restarts of each site in an hour")
     send: float = option(0.06, "milliseconds that a datagram takes its sender")
     take: float = option(0.06, "milliseconds that a frame of at most 512 octets takes its receiver")
+    answer: float = option(0.06, "milliseconds that an answer to a client takes once its question has come")
     processors: int = option(0, "processors that all sites share; 0: each has its own")
     link: int = option(0, "octets of the link for each datagram; loopback counts 14")
     rounds: int = option(64, "how many news, or late sites, are followed")
@@ -124,7 +125,7 @@ class Sweep:
         self.frames = math.ceil(scenario.names / self.entries)
         self.octets = scenario.names * scenario.entry + self.frames * (HEAD + HEADERS + scenario.link)
         self.is_short = scenario.names * scenario.entry + HEAD <= SHORT
-        self.send, self.take = scenario.send / 1000, scenario.take / 1000
+        self.send, self.take, self.answer = scenario.send / 1000, scenario.take / 1000, scenario.answer / 1000
 
     def arrival(self, number):
         """How many seconds after the begin of a sweep its datagram of this number arrives, of those to all peers."""
@@ -230,10 +231,7 @@ class Run:
             self.push(moment, self.receive, peer, news, is_short)
 
     def receive(self, now, site, news, is_short):
-        """A frame comes in, once its receiver is idle."""
-        if now < self.idle[site]:
-            self.push(self.idle[site], self.receive, site, news, is_short)
-            return
+        """A frame comes in, behind what its receiver is at."""
         news &= ~self.held[site]
         done = self.work(now, site, self.sweep.take if is_short else NEW if news else KNOWN)
         self.take(done, site, news)
@@ -295,8 +293,10 @@ class Run:
                   lambda now: self.poll(now, [it for it in sites if not self.known[it]], asked + 1))
 
     def ask(self, now, site):
-        self.idle[site] = max(now, self.idle[site]) + self.sweep.send
-        self.note(self.idle[site], site, self.held[site])
+        """A question of the client comes in. It takes its site as long as a datagram its sender, its answer longer."""
+        begin = max(now, self.idle[site])
+        self.idle[site] = begin + self.sweep.send
+        self.note(begin + self.sweep.answer, site, self.held[site])
         self.end_turn(self.idle[site], site)
 
 

@@ -240,18 +240,19 @@ def measure_late(options, folder, asker):
     keep(options, "share", statistics.median(run[-1] for run, _ in runs), names=options.names)
 
 
-def ran_for(options, site, action):
-    """The milliseconds of processor time that a site takes for each round of an action."""
+def ran_for(site, times, action):
+    """The milliseconds of processor time that a site takes for each time of an action that is done so often."""
     before = site.processor()[0]
     action()
-    return 1000 * (site.processor()[0] - before) / options.rounds
+    return 1000 * (site.processor()[0] - before) / times
 
 
 def costs_of(options, folder, asker, sites):
-    """What a site of a mesh takes in ms: processor time to learn a name and send it to its peers, and of a peer to take it;
-    processor time of a question for a known name, and how long its answer takes. All sites sleep in between."""
+    """What a site of a mesh takes in ms: processor time to learn a name and send it to its peers, and of a peer to take it.
+    Then, where a client asks it as often as `news --one` does: processor time of a question for a known name, and how long
+    its answer takes."""
     group = Fleet(argparse.Namespace(**{**vars(options), "arrangement": "mesh", "sites": sites}), folder)
-    client, times = fleet.catchup.bound(0), []
+    client, rate, seconds, asked = fleet.catchup.bound(0), 1_000_000 // STEP_OF_ONE, 2, []
 
     def learn():
         for number in range(options.rounds):
@@ -259,25 +260,29 @@ def costs_of(options, folder, asker, sites):
             group.ask(client, group.sites[0], [fleet.catchup.name_of(number)], True)
 
     def ask():
-        times.extend(asker.words("load", FIRST, 1, 1 / PAUSE, options.rounds * PAUSE, 1, SLOW)[-1])
+        asked.extend(asker.words("load", FIRST, 1, rate, seconds, 1, SLOW, "awake")[-1])
 
     try:
         group.start()
         taken = []
-        sent = ran_for(options, group.sites[0], lambda: taken.append(ran_for(options, group.sites[1], learn)))
-        return sent, taken[0], ran_for(options, group.sites[0], ask), float(times[4])
+        sent = ran_for(group.sites[0], options.rounds,
+                       lambda: taken.append(ran_for(group.sites[1], options.rounds, learn)))
+        return sent, taken[0], ran_for(group.sites[0], rate * seconds, ask), float(asked[4])
     finally:
         client.close()
         group.end()
 
 
 def measure_costs(options, folder, asker):
-    """What the simulation of the first hop needs: what a short datagram takes its sender, and a short frame its receiver."""
+    """What the simulation of the first hop needs: what a short datagram takes its sender, a short frame its receiver, and
+    an answer to come once its question has."""
     few, many = costs_of(options, folder, asker, 2), costs_of(options, folder, asker, 17)
     heads = ["Peers", "Learns and sends ms", "A peer takes ms", "Of a question ms", "An answer takes ms"]
     print_table(heads, [(peers, *(f"{it:.4f}" for it in row)) for peers, row in ((1, few), (16, many))])
-    sent, taken, question, answer = many
-    print(f"\n--send {(sent - few[0]) / 15:.4f} --take {taken + answer - question:.4f}")
+    sent, taken, question, waited = many
+    send = (sent - few[0]) / 15
+    answer = waited - send
+    print(f"\n--send {send:.4f} --take {taken + answer - question:.4f} --answer {answer:.4f}")
 
 
 JOBS = {"news": follow_news, "costs": measure_costs, "sweeps": measure_sweeps, "quiet": measure_quiet, "late": measure_late}
