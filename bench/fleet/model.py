@@ -17,6 +17,8 @@ BURST, PAUSE, SHORT = 2, 0.001, 512
 LONGEST_FRAME, HEAD, HEADERS = 16384, 5, 28
 # How many seconds a frame of over SHORT octets takes its receiver, where all of it is known, and where something is new.
 KNOWN, NEW = 0.0001, 0.0003
+# How many seconds a processor is idle before it sleeps.
+ASLEEP = 0.001
 # How many frames wait to be sent at most, each once for all peers.
 MOST_LEAVING = 4095
 # How many times a client that measures asks quickly at first, and how many seconds apart.
@@ -51,6 +53,7 @@ class Scenario:
     loss: float = option(0.0, "the share of frames that get lost")
     restarts: float = option(0.0, "restarts of each site in an hour")
     send: float = option(0.06, "milliseconds that a datagram takes its sender")
+    wake: float = option(0.0, "milliseconds that a processor that sleeps takes to wake")
     take: float = option(0.06, "milliseconds that a frame of at most 512 octets takes its receiver")
     answer: float = option(0.06, "milliseconds that an answer to a client takes once its question has come")
     processors: int = option(0, "processors that all sites share; 0: each has its own")
@@ -125,7 +128,8 @@ class Sweep:
         self.frames = math.ceil(scenario.names / self.entries)
         self.octets = scenario.names * scenario.entry + self.frames * (HEAD + HEADERS + scenario.link)
         self.is_short = scenario.names * scenario.entry + HEAD <= SHORT
-        self.send, self.take, self.answer = scenario.send / 1000, scenario.take / 1000, scenario.answer / 1000
+        self.send, self.wake, self.take, self.answer = (
+            it / 1000 for it in (scenario.send, scenario.wake, scenario.take, scenario.answer))
 
     def arrival(self, number):
         """How many seconds after the begin of a sweep its datagram of this number arrives, of those to all peers."""
@@ -233,14 +237,16 @@ class Run:
     def receive(self, now, site, news, is_short):
         """A frame comes in, behind what its receiver is at."""
         news &= ~self.held[site]
-        done = self.work(now, site, self.sweep.take if is_short else NEW if news else KNOWN)
+        done = self.work(now, site, self.sweep.take if is_short else NEW if news else KNOWN, self.sweep.wake)
         self.take(done, site, news)
         if now >= self.due[site]:
             self.end_turn(done, site)
 
-    def work(self, now, site, seconds):
-        """A site works so long, once it and a processor are idle. Gives the moment at which that is done."""
-        begin = max(now, self.idle[site], heapq.heappop(self.free) if self.free else 0)
+    def work(self, now, site, seconds, wake=0):
+        """A site works so long, once it and a processor are idle. One that sleeps has to wake first. Gives the moment at
+        which that is done."""
+        free = heapq.heappop(self.free) if self.free else self.idle[site]
+        begin = max(now + (wake if now > free + ASLEEP else 0), self.idle[site], free)
         self.idle[site] = begin + seconds
         if self.scenario.processors:
             heapq.heappush(self.free, self.idle[site])
@@ -294,10 +300,9 @@ class Run:
 
     def ask(self, now, site):
         """A question of the client comes in. It takes its site as long as a datagram its sender, its answer longer."""
-        begin = max(now, self.idle[site])
-        self.idle[site] = begin + self.sweep.send
-        self.note(begin + self.sweep.answer, site, self.held[site])
-        self.end_turn(self.idle[site], site)
+        done = self.work(now, site, self.sweep.send, self.sweep.wake)
+        self.note(done - self.sweep.send + self.sweep.answer, site, self.held[site])
+        self.end_turn(done, site)
 
 
 @functools.lru_cache(1)

@@ -23,6 +23,8 @@ FIRST_NEWS = 9_000_000
 STEPS = {"mesh": 500, "ring": 20_000, "tree": 20_000}
 # And where it alone is asked.
 STEP_OF_ONE = 20
+# And where an answer comes before the second question.
+ONCE = 500
 # The seconds between two news where news does not wait for sweeps.
 PAUSE = 0.05
 # An answer that takes as many milliseconds is said to be slow.
@@ -240,49 +242,44 @@ def measure_late(options, folder, asker):
     keep(options, "share", statistics.median(run[-1] for run, _ in runs), names=options.names)
 
 
-def ran_for(site, times, action):
-    """The milliseconds of processor time that a site takes for each time of an action that is done so often."""
-    before = site.processor()[0]
-    action()
-    return 1000 * (site.processor()[0] - before) / times
+def ran_for(group, rounds, action):
+    """The milliseconds of processor time that each site takes for an action, which comes again and again after a pause."""
+    before = [site.processor()[0] for site in group.sites]
+    for number in range(rounds):
+        time.sleep(PAUSE)
+        action(number)
+    return [1000 * (site.processor()[0] - then) / rounds for site, then in zip(group.sites, before)]
 
 
 def costs_of(options, folder, asker, sites):
-    """What a site of a mesh takes in ms: processor time to learn a name and send it to its peers, and of a peer to take it.
-    Then, where a client asks it as often as `news --one` does: processor time of a question for a known name, and how long
-    its answer takes."""
-    group = Fleet(argparse.Namespace(**{**vars(options), "arrangement": "mesh", "sites": sites}), folder)
-    client, rate, seconds, asked = fleet.catchup.bound(0), 1_000_000 // STEP_OF_ONE, 2, []
+    """What a mesh takes in ms: processor time of a site that learns a name and sends it, and of a peer that takes it; how
+    long a site that is asked once takes to wake; how long an answer takes where one is asked as often as by `news --one`."""
+    group, waits = Fleet(argparse.Namespace(**{**vars(options), "arrangement": "mesh", "sites": sites}), folder), []
 
-    def learn():
-        for number in range(options.rounds):
-            time.sleep(PAUSE)
-            group.ask(client, group.sites[0], [fleet.catchup.name_of(number)], True)
-
-    def ask():
-        asked.extend(asker.words("load", FIRST, 1, rate, seconds, 1, SLOW, "awake")[-1])
+    def follow(name, step):
+        lines = asker.words("news", FIRST, sites, 0, name, step, 2, 1)
+        waits.extend(float(it[2]) for it in lines if it[0] == "had")
 
     try:
         group.start()
-        taken = []
-        sent = ran_for(group.sites[0], options.rounds,
-                       lambda: taken.append(ran_for(group.sites[1], options.rounds, learn)))
-        return sent, taken[0], ran_for(group.sites[0], rate * seconds, ask), float(asked[4])
+        follow(FIRST_NEWS, ONCE)
+        waits.clear()
+        known = ran_for(group, options.rounds, lambda _: follow(FIRST_NEWS, ONCE))
+        wake = statistics.median(waits) - known[1]
+        learnt = ran_for(group, options.rounds, lambda number: follow(FIRST_NEWS + 1 + number, STEP_OF_ONE))
+        asked = asker.words("load", FIRST, 1, 1_000_000 // STEP_OF_ONE, 2, 1, SLOW, "awake")[-1]
+        return learnt[0], statistics.mean(learnt[2:] or learnt[1:]), wake, float(asked[4])
     finally:
-        client.close()
         group.end()
 
 
 def measure_costs(options, folder, asker):
-    """What the simulation of the first hop needs: what a short datagram takes its sender, a short frame its receiver, and
-    an answer to come once its question has."""
-    few, many = costs_of(options, folder, asker, 2), costs_of(options, folder, asker, 17)
-    heads = ["Peers", "Learns and sends ms", "A peer takes ms", "Of a question ms", "An answer takes ms"]
-    print_table(heads, [(peers, *(f"{it:.4f}" for it in row)) for peers, row in ((1, few), (16, many))])
-    sent, taken, question, waited = many
-    send = (sent - few[0]) / 15
-    answer = waited - send
-    print(f"\n--send {send:.4f} --take {taken + answer - question:.4f} --answer {answer:.4f}")
+    """What the simulation of the first hop needs, of the peers that are not asked where there are some."""
+    few, many = (costs_of(options, folder, asker, it) for it in (2, options.sites))
+    print_table(["Sites", "Learns and sends ms", "A peer takes ms", "Wakes in ms", "An answer takes ms"],
+                [(sites, *(f"{it:.4f}" for it in row)) for sites, row in ((2, few), (options.sites, many))])
+    send = (many[0] - few[0]) / (options.sites - 2)
+    print(f"\n--send {send:.4f} --wake {many[2]:.4f} --take {many[1]:.4f} --answer {many[3] - send:.4f}")
 
 
 JOBS = {"news": follow_news, "costs": measure_costs, "sweeps": measure_sweeps, "quiet": measure_quiet, "late": measure_late}
