@@ -36,7 +36,7 @@ static int flooding;
 
 /* What was sent, and what came back. */
 static struct {
-    long anyone, peer, upstream, solicited, queries, frames, replies;
+    long anyone, peer, passed_over, upstream, solicited, queries, frames, replies;
     long asked, right, otherwise, unanswered, retried;
     long fresh, fresh_right, fresh_failed, fresh_otherwise, fresh_unanswered;
     double slowest;
@@ -182,6 +182,26 @@ static void forge(struct message *m) {
     word = kept;
 }
 
+/* Whether a frame may hold a flush or a name error of the root: a site has to believe its peer that no name is left. */
+static int takes_all(const struct message *m) {
+    const unsigned char *octets = m->octets;
+    for (int at = 5; at + 17 <= m->length; at++) {
+        int is_kind = octets[at] == 1 || octets[at] == 4, is_rank = octets[at + 1] >= 1 && octets[at + 1] <= 3;
+        int is_stamp = octets[at + 2] == 0 && octets[at + 3] == 0, is_life = octets[at + 10] == 0;
+        if (is_kind && is_rank && is_stamp && is_life && memcmp(octets + at + 14, "\0\0\0", 3) == 0) return 1;
+    }
+    return 0;
+}
+
+static void make_frame(struct message *m) {
+    if (any(2) == 0) {
+        forge(m);
+    } else {
+        copy(m, frames[any((uint32_t)framed)]);
+        change_some(m);
+    }
+}
+
 static void make(struct message *m, int *from) {
     uint32_t who = any(10);
     if (who < 6) {
@@ -191,12 +211,7 @@ static void make(struct message *m, int *from) {
         seen.anyone++;
     } else if (who < 8) {
         *from = peer;
-        if (any(2) == 0) {
-            forge(m);
-        } else {
-            copy(m, frames[any((uint32_t)framed)]);
-            change_some(m);
-        }
+        for (make_frame(m); takes_all(m); make_frame(m)) seen.passed_over++;
         seen.peer++;
     } else {
         *from = upstream;
@@ -247,7 +262,7 @@ static int question_end(const unsigned char *octets, int length) {
 }
 
 /* Answers the site's queries: for a name below "behaved." as it should be, for others mostly with a failure, and
- * sometimes with a real reply that was changed. */
+ * sometimes with a real reply that was changed. For the root always with a failure: a site has to believe a name error. */
 static void serve_upstream(void) {
     static unsigned char octets[LONGEST];
     static struct message m;
@@ -266,7 +281,7 @@ static void serve_upstream(void) {
             memcpy(octets + end, "\xc0\x0c\0\1\0\1\0\1\x51\x80\0\4", 12);
             put_long(octets + end + 12, address_of(number));
             send_to_site(upstream, octets, end + 16);
-        } else if (any(64) == 0) {
+        } else if (octets[12] != 0 && any(64) == 0) {
             copy(&m, replies[any((uint32_t)replied)]);
             int other = question_end(m.octets, m.length);
             if (other > 0 && m.length - other < 400) {
@@ -477,6 +492,7 @@ static void run(int pid, double seconds, long most, double began) {
 static void report(int pid, double began, long before) {
     printf("sent %ld in %.1f s: %ld from anyone, %ld from the peer, %ld from the upstream, %ld replies to its queries\n",
            sent(), now() - began, seen.anyone, seen.peer, seen.upstream, seen.solicited);
+    printf("frames passed over, as they could take all names away: %ld\n", seen.passed_over);
     printf("dropped by the system before the site: %ld\n", dropped());
     printf("the site sent %ld replies to strangers, %ld queries, %ld frames\n", seen.replies, seen.queries, seen.frames);
     printf("known names: asked %ld, right %ld, otherwise %ld, unanswered %ld\n", seen.asked, seen.right, seen.otherwise,
