@@ -302,9 +302,10 @@ def options_of():
     words.add_argument("--slow", help="a file to which slow answers of `sweeps` are added: site, second, milliseconds")
     words.add_argument("--tsv", help="a file to which what a simulation is compared with is added")
     options = words.parse_args()
-    most = 17 if options.arrangement == "mesh" else fleet.MOST_SITES
-    if not 2 <= options.sites <= most:
-        words.error(f"2 to {most} sites")
+    is_costs = options.job == "costs"
+    least, most = 3 if is_costs else 2, 17 if is_costs or options.arrangement == "mesh" else fleet.MOST_SITES
+    if not least <= options.sites <= most:
+        words.error(f"{least} to {most} sites")
     # An entry for a name as n0000001.test. with one address.
     options.program, options.entry = os.path.abspath(options.program), 24 + 15
     return options

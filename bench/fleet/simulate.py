@@ -117,13 +117,15 @@ def print_compared(scenario, path):
         sys.exit(1)
 
 
+# The options that say what short datagrams cost.
+COSTS = "send wake take answer processors"
 # What each command does, its options, and what is the default of some.
 COMMANDS = {
-    "news": (print_news, "degree sweep spread names entry questions polled loss restarts send wake take answer processors rounds seed", {}),
+    "news": (print_news, "degree sweep spread names entry questions polled loss restarts " + COSTS + " rounds seed", {}),
     "traffic": (print_traffic, "degree sweep names entry questions link seed", {}),
     "late": (print_late, "degree sweep names entry loss rounds seed", {"names": 100_000}),
     "large": (print_large, "names entry questions send rounds seed", {"names": 100_000}),
-    "compare": (print_compared, "send wake take answer processors rounds seed", {"rounds": 512}),
+    "compare": (print_compared, COSTS + " rounds seed", {"rounds": 512}),
 }
 
 
