@@ -55,7 +55,8 @@ class Scenario:
     send: float = option(0.06, "milliseconds that a datagram takes its sender")
     wake: float = option(0.0, "milliseconds that a processor that sleeps takes to wake")
     take: float = option(0.06, "milliseconds that a frame of at most 512 octets takes its receiver")
-    answer: float = option(0.06, "milliseconds that an answer to a client takes once its question has come")
+    question: float = option(0.06, "milliseconds that a question of a client that measures takes its site")
+    answer: float = option(0.06, "milliseconds that an answer to it takes once its question has come")
     processors: int = option(0, "processors that all sites share; 0: each has its own")
     link: int = option(0, "octets of the link for each datagram; loopback counts 14")
     rounds: int = option(64, "how many news, or late sites, are followed")
@@ -128,8 +129,8 @@ class Sweep:
         self.frames = math.ceil(scenario.names / self.entries)
         self.octets = scenario.names * scenario.entry + self.frames * (HEAD + HEADERS + scenario.link)
         self.is_short = scenario.names * scenario.entry + HEAD <= SHORT
-        self.send, self.wake, self.take, self.answer = (
-            it / 1000 for it in (scenario.send, scenario.wake, scenario.take, scenario.answer))
+        self.send, self.wake, self.take, self.question, self.answer = (
+            getattr(scenario, it) / 1000 for it in ("send", "wake", "take", "question", "answer"))
 
     def arrival(self, number):
         """How many seconds after the begin of a sweep its datagram of this number arrives, of those to all peers."""
@@ -262,8 +263,11 @@ class Run:
         if self.polls:
             self.work(now, site, self.sweep.send * len(self.fleet.peers[site]))
             self.note(now, site, 1 << one)
-            others = [it for it in range(self.scenario.sites) if it != site]
-            self.poll(now, others if self.scenario.polled == "all" else [self.words.choice(self.fleet.peers[site])], 0)
+            asks_all = self.scenario.polled == "all"
+            asked = [it for it in range(self.scenario.sites) if it != site] if asks_all else [
+                self.words.choice(self.fleet.peers[site])]
+            # A client that asks all sleeps until it has the answer of who learnt the news.
+            self.push(now + self.sweep.wake * asks_all, self.poll, asked, 0)
 
     def take(self, now, site, news):
         self.held[site] |= news
@@ -291,17 +295,17 @@ class Run:
         self.push(now + self.words.expovariate(self.scenario.restarts / 3600), self.restart, site)
 
     def poll(self, now, sites, asked):
-        """The client asks each of the sites, and some time later those that did not answer."""
+        """The client asks each of the sites that did not answer yet, and some time later again."""
+        sites = [it for it in sites if not self.known[it]]
         for place, site in enumerate(sites):
             self.push(now + self.sweep.send * (place + 1), self.ask, site)
         step = min(1 / self.polls, QUICKLY) if asked < QUICK else 1 / self.polls
-        self.push(now + max(step, len(sites) * self.sweep.send),
-                  lambda now: self.poll(now, [it for it in sites if not self.known[it]], asked + 1))
+        self.push(now + max(step, len(sites) * self.sweep.send), self.poll, sites, asked + 1)
 
     def ask(self, now, site):
-        """A question of the client comes in. It takes its site as long as a datagram its sender, its answer longer."""
-        done = self.work(now, site, self.sweep.send, self.sweep.wake)
-        self.note(done - self.sweep.send + self.sweep.answer, site, self.held[site])
+        """A question of the client comes in."""
+        done = self.work(now, site, self.sweep.question, self.sweep.wake)
+        self.note(done - self.sweep.question + self.sweep.answer, site, self.held[site])
         self.end_turn(done, site)
 
 

@@ -2,6 +2,7 @@
 """What a fleet of sites on loopback does: how news travels, what sweeps cost, what a late site has. See README.md."""
 
 import argparse
+import itertools
 import os
 import random
 import statistics
@@ -245,41 +246,49 @@ def measure_late(options, folder, asker):
 def ran_for(group, rounds, action):
     """The milliseconds of processor time that each site takes for an action, which comes again and again after a pause."""
     before = [site.processor()[0] for site in group.sites]
-    for number in range(rounds):
+    for _ in range(rounds):
         time.sleep(PAUSE)
-        action(number)
+        action()
     return [1000 * (site.processor()[0] - then) / rounds for site, then in zip(group.sites, before)]
 
 
 def costs_of(options, folder, asker, sites):
-    """What a mesh takes in ms: processor time of a site that learns a name and sends it, and of a peer that takes it; how
-    long a site that is asked once takes to wake; how long an answer takes where one is asked as often as by `news --one`."""
-    group, waits = Fleet(argparse.Namespace(**{**vars(options), "arrangement": "mesh", "sites": sites}), folder), []
+    """What a mesh takes in ms: processor time of a site that learns a name and sends it, and of a peer that takes it; of a
+    peer that is asked meanwhile, too; how long a site that sleeps takes to wake; processor time of a question, and how
+    long its answer takes, where a site is asked as often as by `news --one`."""
+    group = Fleet(argparse.Namespace(**{**vars(options), "arrangement": "mesh", "sites": sites}), folder)
+    waits, asked, names, rate, seconds = [], [], itertools.count(FIRST_NEWS), 1_000_000 // STEP_OF_ONE, 2
 
-    def follow(name, step):
-        lines = asker.words("news", FIRST, sites, 0, name, step, 2, 1)
+    def follow(name, step, *alone):
+        lines = asker.words("news", FIRST, sites, 0, name, step, 2, *alone)
         waits.extend(float(it[2]) for it in lines if it[0] == "had")
 
     try:
         group.start()
-        follow(FIRST_NEWS, ONCE)
+        follow(next(names), ONCE, 1)
         waits.clear()
-        known = ran_for(group, options.rounds, lambda _: follow(FIRST_NEWS, ONCE))
+        known = ran_for(group, options.rounds, lambda: follow(FIRST_NEWS, ONCE, 1))
         wake = statistics.median(waits) - known[1]
-        learnt = ran_for(group, options.rounds, lambda number: follow(FIRST_NEWS + 1 + number, STEP_OF_ONE))
-        asked = asker.words("load", FIRST, 1, 1_000_000 // STEP_OF_ONE, 2, 1, SLOW, "awake")[-1]
-        return learnt[0], statistics.mean(learnt[2:] or learnt[1:]), wake, float(asked[4])
+        learnt = ran_for(group, options.rounds, lambda: follow(next(names), STEP_OF_ONE, 1))
+        both = ran_for(group, options.rounds, lambda: follow(next(names), STEPS["mesh"]))
+        ran = ran_for(group, 1, lambda: asked.extend(asker.words("load", FIRST, 1, rate, seconds, 1, SLOW, "awake")[-1]))
+        return (learnt[0], statistics.mean(learnt[2:] or learnt[1:]), statistics.mean(both[1:]), wake,
+                ran[0] / rate / seconds, float(asked[4]))
     finally:
         group.end()
 
 
 def measure_costs(options, folder, asker):
-    """What the simulation of the first hop needs, of the peers that are not asked where there are some."""
+    """What the simulation of the first hop needs, for `news --one` and for `news`."""
     few, many = (costs_of(options, folder, asker, it) for it in (2, options.sites))
-    print_table(["Sites", "Learns and sends ms", "A peer takes ms", "Wakes in ms", "An answer takes ms"],
+    print_table(["Sites", "Learns and sends ms", "A peer takes ms", "Is asked, too, ms", "Wakes in ms", "Of a question ms",
+                 "An answer takes ms"],
                 [(sites, *(f"{it:.4f}" for it in row)) for sites, row in ((2, few), (options.sites, many))])
-    send = (many[0] - few[0]) / (options.sites - 2)
-    print(f"\n--send {send:.4f} --wake {many[2]:.4f} --take {many[1]:.4f} --answer {many[3] - send:.4f}")
+    send, (_, take, both, wake, question, waited) = (many[0] - few[0]) / (options.sites - 2), many
+    print()
+    for asks, each in (("one", question), ("all", both - take)):
+        print(f"{asks}: --send {send:.4f} --wake {wake:.4f} --take {take:.4f} --question {each:.4f} "
+              f"--answer {waited - send:.4f}")
 
 
 JOBS = {"news": follow_news, "costs": measure_costs, "sweeps": measure_sweeps, "quiet": measure_quiet, "late": measure_late}
