@@ -90,17 +90,19 @@ def phases(options):
 def follow_news(options, folder, asker):
     """How long after a site learnt a name the others had it, by hops, and all of them; or one of its peers alone."""
     whole, by_hops, missing = [], {}, 0
-    waits_for_sweeps = options.arrangement != "mesh" and not options.one
-    group = Fleet(options, folder)
+    waits_for_sweeps = options.arrangement != "mesh" and not (options.one or options.known)
+    group, client = Fleet(options, folder), fleet.catchup.bound(0)
     try:
         group.start()
+        for site in group.sites if options.known else ():
+            group.ask(client, site, [fleet.catchup.name_of(FIRST_NEWS)], True)
         for phase in phases(options):
             time.sleep((phase - time.time()) % options.sweep if waits_for_sweeps else PAUSE)
             learner = random.randrange(options.sites)
             hops = fleet.hops_from(group.peers, learner)
             patience = options.sweep * (max(hops.values()) + 2) if waits_for_sweeps else 2
             asked = [random.choice(group.peers[learner])] if options.one else []
-            name = FIRST_NEWS + random.randrange(900_000)
+            name = FIRST_NEWS if options.known else FIRST_NEWS + random.randrange(1, 900_000)
             lines = asker.words("news", FIRST, options.sites, learner, name, step_of(options), patience, *asked)
             had = {int(it[1]): float(it[2]) / 1000 for it in lines if it[0] == "had"}
             missing += (len(asked) or options.sites - 1) - len(had)
@@ -109,6 +111,7 @@ def follow_news(options, folder, asker):
             if had and len(had) == options.sites - 1:
                 whole.append(max(had.values()))
     finally:
+        client.close()
         group.end()
     print_news(options, whole, by_hops, missing)
 
@@ -125,6 +128,8 @@ def print_news(options, whole, by_hops, missing):
     if whole:
         print(f"\neverywhere after {statistics.median(whole):.5f} s, at most {max(whole):.5f}, in {len(whole)} rounds")
     print(f"{missing} times a site had it not in time")
+    if options.known:
+        return
     measure = {"questions": 1_000_000 // step_of(options), "asked": "one" if options.one else "all"}
     for hops, some in sorted(by_hops.items()):
         keep(options, "news", statistics.median(some), hops, **measure)
@@ -307,6 +312,7 @@ def options_of():
     words.add_argument("--seconds", type=int, default=65, help="how long clients ask (65)")
     words.add_argument("--rounds", type=int, default=20, help="how many news are followed (20)")
     words.add_argument("--one", action="store_true", help="`news` asks one peer of who learnt it, not all sites")
+    words.add_argument("--known", action="store_true", help="`news` asks for a name that all know: how long answers take")
     words.add_argument("--runs", type=int, default=1, help="how many times a fleet is started (1)")
     words.add_argument("--slow", help="a file to which slow answers of `sweeps` are added: site, second, milliseconds")
     words.add_argument("--tsv", help="a file to which what a simulation is compared with is added")
