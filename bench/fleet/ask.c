@@ -2,6 +2,7 @@
  *
  * usage: ask load PORT SITES RATE SECONDS NAMES SLOW [awake]
  *        ask news PORT SITES LEARNER NAME MICROSECONDS SECONDS [SITE|all]
+ *        ask learn PORT SITES LEARNER NAME SECONDS
  *
  * The sites listen at PORT and the ports behind it. `load` asks each of them RATE questions a second for names that it
  * knows, of number 0 to NAMES - 1, evenly, whether they are answered or not, and waits three seconds for the last
@@ -11,7 +12,9 @@
  * other site that lacks it, four times in two milliseconds and then once in so many microseconds, for SECONDS at most. It
  * prints how long LEARNER took, and for each site how long after that it had the name (`learnt MILLISECONDS`, `had SITE
  * MILLISECONDS`). With a last word this program never sleeps, and with SITE it asks that one alone: then nothing delays
- * the news but its own way.
+ * the news but its own way. `learn` has LEARNER learn the name and asks nobody else. It prints how long that took, and when
+ * the answer came (`at SECONDS`, of the day's clock), and stays on its processor for SECONDS: then nothing at all delays
+ * the news.
  *
  * An answer's time is from the call that sent its question to its arrival at this program's socket, as the kernel noted
  * it, so a delay of this program adds nothing.
@@ -40,10 +43,14 @@ static int count;
 static double *waits;
 static long waited;
 
-static double now(void) {
+static double time_of(clockid_t clock) {
     struct timespec t;
-    clock_gettime(CLOCK_REALTIME, &t);
+    clock_gettime(clock, &t);
     return (double)t.tv_sec + (double)t.tv_nsec / 1e9;
+}
+
+static double now(void) {
+    return time_of(CLOCK_REALTIME);
 }
 
 static void fail(const char *what) {
@@ -166,28 +173,26 @@ static void load(double rate, double seconds, long names, double slow, int sleep
     print_all();
 }
 
-/* Has a site learn a name; when it had answered, or 0 where it did not. */
+/* Has a site learn a name; when it had answered. */
 static double learn(struct site *site, long name, int sleeps) {
     unsigned char octets[LENGTH], reply[LATEST];
     double sent = now(), when;
     write_question(octets, 1, name, 1);
-    if (send(site->socket, octets, LENGTH, 0) != LENGTH) return 0;
+    if (send(site->socket, octets, LENGTH, 0) != LENGTH) fail("question");
     while (now() < sent + PATIENCE) {
         if (sleeps) wait_until(sent + PATIENCE);
-        int length = take(site->socket, reply, &when);
-        if (is_answer(reply, length)) {
-            printf("learnt %.3f\n", 1000 * (when - sent));
-            return when;
-        }
+        if (is_answer(reply, take(site->socket, reply, &when))) return when;
     }
-    return 0;
+    fputs("no answer\n", stderr);
+    exit(1);
 }
 
+/* Nothing is printed before all have the name: that would get in its way. */
 static void follow(int learner, long name, double most, double seconds, int alone, int sleeps) {
     unsigned char octets[LENGTH], reply[LATEST];
     int left = alone < 0 ? count - 1 : 1, asked = 0;
-    double when, learnt = learn(&sites[learner], name, sleeps), next = now(), step = 0;
-    if (learnt == 0) fail("no answer");
+    double when, had[MOST_SITES] = {0}, learnt = learn(&sites[learner], name, sleeps), next = now(), step = 0;
+    double ran = time_of(CLOCK_PROCESS_CPUTIME_ID);
     for (int at = 0; at < count; at++) sites[at].answered = at == learner || (alone >= 0 && at != alone);
     write_question(octets, 2, name, 0);
     for (; left > 0 && now() < learnt + seconds; next += step) {
@@ -202,18 +207,34 @@ static void follow(int learner, long name, double most, double seconds, int alon
                     if (sites[at].answered || !is_answer(reply, length)) continue;
                     sites[at].answered = 1;
                     left--;
-                    printf("had %d %.3f\n", at, 1000 * (when - learnt));
+                    had[at] = when;
                 }
             }
         } while (left > 0 && now() < next + step);
     }
+    printf("ran %.4f\n", 1000 * (time_of(CLOCK_PROCESS_CPUTIME_ID) - ran));
+    for (int at = 0; at < count; at++) {
+        if (had[at] > 0) printf("had %d %.4f\n", at, 1000 * (had[at] - learnt));
+    }
+}
+
+/* Has a site learn a name, and tells when that was. */
+static void learn_alone(int learner, long name, double seconds) {
+    double learnt = learn(&sites[learner], name, 1);
+    usleep((useconds_t)(seconds * 1e6));
+    printf("at %.7f\n", learnt);
+}
+
+static int is_command(int argc, char **words, const char *name, int least, int most) {
+    return argc >= least && argc <= most && strcmp(words[1], name) == 0;
 }
 
 int main(int argc, char **words) {
-    int is_load = argc > 1 && strcmp(words[1], "load") == 0;
-    if ((argc != 8 && argc != 9) || (!is_load && strcmp(words[1], "news") != 0)) {
+    int is_load = is_command(argc, words, "load", 8, 9), is_learn = is_command(argc, words, "learn", 7, 7);
+    if (!is_load && !is_learn && !is_command(argc, words, "news", 8, 9)) {
         fprintf(stderr, "usage: ask load PORT SITES RATE SECONDS NAMES SLOW [awake]\n"
-                        "       ask news PORT SITES LEARNER NAME MICROSECONDS SECONDS [SITE|all]\n");
+                        "       ask news PORT SITES LEARNER NAME MICROSECONDS SECONDS [SITE|all]\n"
+                        "       ask learn PORT SITES LEARNER NAME SECONDS\n");
         return 2;
     }
     count = atoi(words[3]);
@@ -221,6 +242,8 @@ int main(int argc, char **words) {
     for (int at = 0; at < count; at++) sites[at].socket = socket_to(atoi(words[2]) + at);
     if (is_load) {
         load(atof(words[4]), atof(words[5]), atol(words[6]), atof(words[7]), argc == 8);
+    } else if (is_learn) {
+        learn_alone(atoi(words[4]) % count, atol(words[5]), atof(words[6]));
     } else {
         int alone = argc == 8 || strcmp(words[8], "all") == 0 ? -1 : atoi(words[8]) % count;
         follow(atoi(words[4]) % count, atol(words[5]), atof(words[6]) / 1e6, atof(words[7]), alone, argc == 8);

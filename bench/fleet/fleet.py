@@ -185,6 +185,29 @@ class Fleet:
         return 100 * found / len(names)
 
 
+class Watch:
+    """Has perf note when each site goes to sleep."""
+
+    def __init__(self, sites, folder):
+        self.sites, self.path = sites, os.path.join(folder, "switches")
+        numbers = ",".join(str(site.process.pid) for site in sites)
+        self.process = subprocess.Popen(["perf", "record", "-q", "-k", "CLOCK_REALTIME", "-e", "dummy:u", "--switch-events",
+                                         "-p", numbers, "-o", self.path], stdin=subprocess.DEVNULL)
+        time.sleep(1)
+
+    def end(self):
+        """These moments, in order, for each site."""
+        self.process.send_signal(signal.SIGINT)
+        self.process.wait()
+        told = subprocess.run(["perf", "script", "-i", self.path, "--show-switch-events", "--ns", "-F", "pid,time"],
+                              stdout=subprocess.PIPE, text=True, check=True).stdout
+        moments = {site.process.pid: [] for site in self.sites}
+        # The line of a site that another process pushes from its processor ends otherwise.
+        for number, moment in re.findall(r"(\d+) +([\d.]+): PERF_RECORD_SWITCH OUT *$", told, re.MULTILINE):
+            moments[int(number)].append(float(moment))
+        return [moments[site.process.pid] for site in self.sites]
+
+
 def dropped_at(sites):
     """How many datagrams the system dropped at the sockets of sites."""
     ports = {f"{HOST_ROW}:{site.port:04X}" for site in sites}

@@ -49,7 +49,7 @@ class Scenario:
     names: int = option(0, "names that every site holds")
     entry: int = option(48, "octets of the entry of each name")
     questions: float = option(0.0, "questions a second at each site")
-    polled: str = option("", "a client asks all sites without the news in turn, or one peer of who learnt it")
+    polled: bool = option(False, "the questions are a client's, which asks each site in turn that lacks the news")
     loss: float = option(0.0, "the share of frames that get lost")
     restarts: float = option(0.0, "restarts of each site in an hour")
     send: float = option(0.06, "milliseconds that a datagram takes its sender")
@@ -57,6 +57,7 @@ class Scenario:
     take: float = option(0.06, "milliseconds that a frame of at most 512 octets takes its receiver")
     question: float = option(0.06, "milliseconds that a question of a client that measures takes its site")
     answer: float = option(0.06, "milliseconds that an answer to it takes once its question has come")
+    client: float = option(0.0, "milliseconds that an answer takes that client")
     processors: int = option(0, "processors that all sites share; 0: each has its own")
     link: int = option(0, "octets of the link for each datagram; loopback counts 14")
     rounds: int = option(64, "how many news, or late sites, are followed")
@@ -129,8 +130,8 @@ class Sweep:
         self.frames = math.ceil(scenario.names / self.entries)
         self.octets = scenario.names * scenario.entry + self.frames * (HEAD + HEADERS + scenario.link)
         self.is_short = scenario.names * scenario.entry + HEAD <= SHORT
-        self.send, self.wake, self.take, self.question, self.answer = (
-            getattr(scenario, it) / 1000 for it in ("send", "wake", "take", "question", "answer"))
+        self.send, self.wake, self.take, self.question, self.answer, self.client = (
+            getattr(scenario, it) / 1000 for it in ("send", "wake", "take", "question", "answer", "client"))
 
     def arrival(self, number):
         """How many seconds after the begin of a sweep its datagram of this number arrives, of those to all peers."""
@@ -159,18 +160,17 @@ class Run:
         self.polls = scenario.questions if scenario.polled else 0
         self.rate = scenario.questions - self.polls
         self.held, self.known, self.turns = ([0] * scenario.sites for _ in range(3))
-        # When each site is idle again, when its sweep has left, and when its turn ends.
-        self.idle, self.left, self.end = ([0.0] * scenario.sites for _ in range(3))
+        # When each site is idle again, when its sweep has left, and when its turn ends. The client that measures comes last.
+        self.idle, self.left, self.end = ([0.0] * (scenario.sites + 1) for _ in range(3))
         self.due = [scenario.spread * it * scenario.sweep // scenario.sites for it in range(scenario.sites)]
         sweeps = max(LEAST_SWEEPS, min(scenario.rounds, SWEEPS_OF_SITES // scenario.sites))
         self.begun = [1 + sweeps * scenario.sweep * self.words.random() for _ in range(news)]
         self.learners = [self.words.randrange(scenario.sites) for _ in range(news)]
         # In which frame of a sweep each news is: a sweep is in the order of names.
         self.places = [self.words.randrange(max(1, self.sweep.frames)) for _ in range(news)]
-        awaited = 2 if scenario.polled == "one" else scenario.sites
-        self.arrivals, self.missing, self.lives = [[] for _ in range(news)], news * awaited, 0
-        # When each processor is idle again, if sites share some.
-        self.free = [0.0] * scenario.processors
+        self.arrivals, self.missing, self.lives = [[] for _ in range(news)], news * scenario.sites, 0
+        # When each processor is idle again, if sites share some, and on which each site is.
+        self.free, self.places_of = [0.0] * scenario.processors, [0] * (scenario.sites + 1)
         for one, begun in enumerate(self.begun):
             self.push(begun, self.learn, one)
         for site in range(scenario.sites):
@@ -244,14 +244,22 @@ class Run:
             self.end_turn(done, site)
 
     def work(self, now, site, seconds, wake=0):
-        """A site works so long, once it and a processor are idle. One that sleeps has to wake first. Gives the moment at
-        which that is done."""
-        free = heapq.heappop(self.free) if self.free else self.idle[site]
-        begin = max(now + (wake if now > free + ASLEEP else 0), self.idle[site], free)
-        self.idle[site] = begin + seconds
-        if self.scenario.processors:
-            heapq.heappush(self.free, self.idle[site])
+        """A site works so long once its processor is idle. One that sleeps has to wake first. Gives the moment at which that
+        is done."""
+        free = self.idle[site]
+        if self.free:
+            if free <= now:
+                self.places_of[site] = self.place(now)
+            free = max(free, self.free[self.places_of[site]])
+        self.idle[site] = max(now + (wake if now > free + ASLEEP else 0), free) + seconds
+        if self.free:
+            self.free[self.places_of[site]] = self.idle[site]
         return self.idle[site]
+
+    def place(self, now):
+        """The processor that has been idle longest, or one by chance where none is idle."""
+        least = min(range(len(self.free)), key=self.free.__getitem__)
+        return least if self.free[least] <= now else self.words.randrange(len(self.free))
 
     def learn(self, now, one):
         """A site learns news from an upstream, and tells its peers at once."""
@@ -259,15 +267,11 @@ class Run:
         self.take(now, site, 1 << one)
         for place, peer in enumerate(self.fleet.peers[site]):
             self.send(now + self.sweep.send * (place + 1), peer, 1 << one, True)
+        self.work(now, site, self.sweep.send * len(self.fleet.peers[site]))
         self.end_turn(now, site)
         if self.polls:
-            self.work(now, site, self.sweep.send * len(self.fleet.peers[site]))
             self.note(now, site, 1 << one)
-            asks_all = self.scenario.polled == "all"
-            asked = [it for it in range(self.scenario.sites) if it != site] if asks_all else [
-                self.words.choice(self.fleet.peers[site])]
-            # A client that asks all sleeps until it has the answer of who learnt the news.
-            self.push(now + self.sweep.wake * asks_all, self.poll, asked, 0)
+            self.poll(now, [it for it in range(self.scenario.sites) if it != site], 0)
 
     def take(self, now, site, news):
         self.held[site] |= news
@@ -296,16 +300,19 @@ class Run:
 
     def poll(self, now, sites, asked):
         """The client asks each of the sites that did not answer yet, and some time later again."""
-        sites = [it for it in sites if not self.known[it]]
-        for place, site in enumerate(sites):
-            self.push(now + self.sweep.send * (place + 1), self.ask, site)
+        sites, client, done = [it for it in sites if not self.known[it]], self.scenario.sites, now
+        for site in sites:
+            done = self.work(now, client, self.sweep.send, self.sweep.wake)
+            self.push(done, self.ask, site)
         step = min(1 / self.polls, QUICKLY) if asked < QUICK else 1 / self.polls
-        self.push(now + max(step, len(sites) * self.sweep.send), self.poll, sites, asked + 1)
+        if sites:
+            self.push(max(now + step, done), self.poll, sites, asked + 1)
 
     def ask(self, now, site):
         """A question of the client comes in."""
         done = self.work(now, site, self.sweep.question, self.sweep.wake)
         self.note(done - self.sweep.question + self.sweep.answer, site, self.held[site])
+        self.push(done, self.work, self.scenario.sites, self.sweep.client)
         self.end_turn(done, site)
 
 
@@ -320,8 +327,7 @@ def news_of(scenario):
             hops = fleet.hops_from(learner)
             for moment, site in arrivals:
                 by_hops.setdefault(hops[site], []).append(moment)
-            if scenario.polled != "one":
-                everywhere.append(after(arrivals, scenario.sites))
+            everywhere.append(after(arrivals, scenario.sites))
     return by_hops, everywhere
 
 

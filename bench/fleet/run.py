@@ -2,7 +2,9 @@
 """What a fleet of sites on loopback does: how news travels, what sweeps cost, what a late site has. See README.md."""
 
 import argparse
+import bisect
 import itertools
+import math
 import os
 import random
 import statistics
@@ -22,10 +24,10 @@ HERE = Path(__file__).resolve().parent
 FIRST_NEWS = 9_000_000
 # How often a site that lacks the news is asked for it, in microseconds: where all are peers, and elsewhere.
 STEPS = {"mesh": 500, "ring": 20_000, "tree": 20_000}
-# And where it alone is asked.
-STEP_OF_ONE = 20
-# And where an answer comes before the second question.
-ONCE = 500
+# How many seconds the client does nothing where nobody asks; by then peers have taken the news.
+AFTERWARDS = 0.01
+# How often and for how many seconds a site is asked, to see how soon an answer comes from one that is awake.
+OFTEN, LONG = 50_000, 2
 # The seconds between two news where news does not wait for sweeps.
 PAUSE = 0.05
 # An answer that takes as many milliseconds is said to be slow.
@@ -35,7 +37,7 @@ KNOWN = 1000
 # How many seconds a sweep may be on its way.
 ON_ITS_WAY = 4
 # The columns of the table that a simulation is compared with.
-COLUMNS = "kind arrangement sites degree sweep spread names entry questions asked hops value".split()
+COLUMNS = "kind arrangement sites degree sweep spread names entry questions polled hops value".split()
 
 
 def middle(numbers, places=1):
@@ -52,13 +54,13 @@ def print_table(heads, rows):
         print("| " + " | ".join(str(it) for it in row) + " |", flush=True)
 
 
-def keep(options, kind, value, hops="", names=0, questions=0, asked=""):
+def keep(options, kind, value, hops="", names=0, questions=0, polled=0):
     """Adds a row to the table that a simulation is compared with."""
     if not options.tsv:
         return
     degree = len(fleet.ARRANGEMENTS[options.arrangement](options.sites)[0])
     row = [kind, options.arrangement, options.sites, degree, options.sweep, int(options.spread), names,
-           options.entry, questions, asked, hops, f"{value:.6g}"]
+           options.entry, questions, polled, hops, f"{value:.6g}"]
     is_new = not os.path.exists(options.tsv)
     with open(options.tsv, "a") as file:
         if is_new:
@@ -71,7 +73,7 @@ class Asker:
 
     def __init__(self, folder):
         self.path = os.path.join(folder, "ask")
-        subprocess.run(["cc", "-O2", "-Wall", "-o", self.path, HERE / "ask.c"], check=True)
+        subprocess.run(["cc", "-O2", "-Wall", "-Wl,-z,now", "-o", self.path, HERE / "ask.c"], check=True)
 
     def words(self, *words):
         """The lines that it prints, as lists of words."""
@@ -88,49 +90,67 @@ def phases(options):
 
 
 def follow_news(options, folder, asker):
-    """How long after a site learnt a name the others had it, by hops, and all of them; or one of its peers alone."""
-    whole, by_hops, missing = [], {}, 0
-    waits_for_sweeps = options.arrangement != "mesh" and not (options.one or options.known)
-    group, client = Fleet(options, folder), fleet.catchup.bound(0)
+    """How long after a site learnt a name the others had it, by hops, and all of them; or its peers, where nobody asks."""
+    rounds, group, client = [], Fleet(options, folder), fleet.catchup.bound(0)
+    waits_for_sweeps = options.arrangement != "mesh" and not (options.known or options.watched)
     try:
         group.start()
         for site in group.sites if options.known else ():
             group.ask(client, site, [fleet.catchup.name_of(FIRST_NEWS)], True)
+        watch = fleet.Watch(group.sites, folder) if options.watched else None
         for phase in phases(options):
             time.sleep((phase - time.time()) % options.sweep if waits_for_sweeps else PAUSE)
-            learner = random.randrange(options.sites)
-            hops = fleet.hops_from(group.peers, learner)
-            patience = options.sweep * (max(hops.values()) + 2) if waits_for_sweeps else 2
-            asked = [random.choice(group.peers[learner])] if options.one else []
-            name = FIRST_NEWS if options.known else FIRST_NEWS + random.randrange(1, 900_000)
-            lines = asker.words("news", FIRST, options.sites, learner, name, step_of(options), patience, *asked)
-            had = {int(it[1]): float(it[2]) / 1000 for it in lines if it[0] == "had"}
-            missing += (len(asked) or options.sites - 1) - len(had)
-            for site, seconds in had.items():
-                by_hops.setdefault(hops[site], []).append(seconds)
-            if had and len(had) == options.sites - 1:
-                whole.append(max(had.values()))
+            rounds.append(tell_news(options, group, asker, waits_for_sweeps))
+        if watch:
+            slept = watch.end()
+            rounds = [(learner, {it: after(slept[it], learnt) for it in group.peers[learner]}) for learner, learnt in rounds]
     finally:
         client.close()
         group.end()
-    print_news(options, whole, by_hops, missing)
+    print_news(options, group, rounds)
 
 
-def step_of(options):
-    """The microseconds between two questions for news."""
-    return STEP_OF_ONE if options.one else STEPS[options.arrangement]
+def tell_news(options, group, asker, waits_for_sweeps):
+    """Has a site learn a name. Gives the site and how many seconds later others had it; or, where nobody asks, when the
+    site had learnt it."""
+    learner = random.randrange(options.sites)
+    name = FIRST_NEWS if options.known else FIRST_NEWS + random.randrange(1, 900_000)
+    if options.watched:
+        return learner, learn_alone(options, asker, learner, name)
+    patience = options.sweep * (max(fleet.hops_from(group.peers, learner).values()) + 2) if waits_for_sweeps else 2
+    lines = asker.words("news", FIRST, options.sites, learner, name, STEPS[options.arrangement], patience)
+    return learner, {int(it[1]): float(it[2]) / 1000 for it in lines if it[0] == "had"}
 
 
-def print_news(options, whole, by_hops, missing):
-    rows = [(hops, len(some), f"{statistics.median(some):.5f}", f"{max(some):.5f}")
+def learn_alone(options, asker, learner, name):
+    """Has a site learn a name while nobody else asks. Gives the moment of its answer."""
+    return float(asker.words("learn", FIRST, options.sites, learner, name, AFTERWARDS)[-1][1])
+
+
+def after(moments, moment):
+    """How many seconds after a moment the next of these is."""
+    at = bisect.bisect(moments, moment)
+    return moments[at] - moment if at < len(moments) else math.inf
+
+
+def print_news(options, group, rounds):
+    by_hops, whole, missing = {}, [], 0
+    for learner, had in rounds:
+        hops = fleet.hops_from(group.peers, learner)
+        for site, seconds in had.items():
+            by_hops.setdefault(hops[site], []).append(seconds)
+        missing += (len(group.peers[learner]) if options.watched else options.sites - 1) - len(had)
+        if len(had) == options.sites - 1:
+            whole.append(max(had.values()))
+    rows = [(hops, len(some), f"{statistics.median(some):.6f}", f"{max(some):.6f}")
             for hops, some in sorted(by_hops.items())]
     print_table(["Hops", "Samples", "Median s", "Greatest s"], rows)
     if whole:
-        print(f"\neverywhere after {statistics.median(whole):.5f} s, at most {max(whole):.5f}, in {len(whole)} rounds")
+        print(f"\neverywhere after {statistics.median(whole):.6f} s, at most {max(whole):.6f}, in {len(whole)} rounds")
     print(f"{missing} times a site had it not in time")
     if options.known:
         return
-    measure = {"questions": 1_000_000 // step_of(options), "asked": "one" if options.one else "all"}
+    measure = {} if options.watched else {"questions": 1_000_000 // STEPS[options.arrangement], "polled": 1}
     for hops, some in sorted(by_hops.items()):
         keep(options, "news", statistics.median(some), hops, **measure)
     if whole:
@@ -258,42 +278,39 @@ def ran_for(group, rounds, action):
 
 
 def costs_of(options, folder, asker, sites):
-    """What a mesh takes in ms: processor time of a site that learns a name and sends it, and of a peer that takes it; of a
-    peer that is asked meanwhile, too; how long a site that sleeps takes to wake; processor time of a question, and how
-    long its answer takes, where a site is asked as often as by `news --one`."""
-    group = Fleet(argparse.Namespace(**{**vars(options), "arrangement": "mesh", "sites": sites}), folder)
-    waits, asked, names, rate, seconds = [], [], itertools.count(FIRST_NEWS), 1_000_000 // STEP_OF_ONE, 2
+    """What a mesh takes in ms: processor time of a site that learns a name and sends it, and of a peer that takes it, where
+    nobody asks; how soon the first peer has it; processor time of a peer where a client asks all, too, and of that client
+    for each; and how soon an answer comes from a site that is awake."""
+    options = argparse.Namespace(**{**vars(options), "arrangement": "mesh", "sites": sites})
+    group, names, learnt, client = Fleet(options, folder), itertools.count(FIRST_NEWS), [], []
 
-    def follow(name, step, *alone):
-        lines = asker.words("news", FIRST, sites, 0, name, step, 2, *alone)
-        waits.extend(float(it[2]) for it in lines if it[0] == "had")
+    def follow():
+        lines = asker.words("news", FIRST, sites, 0, next(names), STEPS["mesh"], 2)
+        client.append(float(lines[0][1]) / (sites - 1))
 
     try:
         group.start()
-        follow(next(names), ONCE, 1)
-        waits.clear()
-        known = ran_for(group, options.rounds, lambda: follow(FIRST_NEWS, ONCE, 1))
-        wake = statistics.median(waits) - known[1]
-        learnt = ran_for(group, options.rounds, lambda: follow(next(names), STEP_OF_ONE, 1))
-        both = ran_for(group, options.rounds, lambda: follow(next(names), STEPS["mesh"]))
-        ran = ran_for(group, 1, lambda: asked.extend(asker.words("load", FIRST, 1, rate, seconds, 1, SLOW, "awake")[-1]))
-        return (learnt[0], statistics.mean(learnt[2:] or learnt[1:]), statistics.mean(both[1:]), wake,
-                ran[0] / rate / seconds, float(asked[4]))
+        watch = fleet.Watch(group.sites, folder)
+        ran = ran_for(group, options.rounds, lambda: learnt.append(learn_alone(options, asker, 0, next(names))))
+        slept = watch.end()
+        both = ran_for(group, options.rounds, follow)
+        waited = float(asker.words("load", FIRST, 1, OFTEN, LONG, 1, SLOW, "awake")[-1][4])
+        first = 1000 * statistics.median(min(after(it, moment) for it in slept[1:]) for moment in learnt)
+        return ran[0], statistics.mean(ran[1:]), first, statistics.mean(both[1:]), statistics.mean(client), waited
     finally:
         group.end()
 
 
 def measure_costs(options, folder, asker):
-    """What the simulation of the first hop needs, for `news --one` and for `news`."""
+    """What the simulation of the first hop needs. A sleeping processor wakes in what is left of the time after which the
+    peer has the news in a mesh of two."""
     few, many = (costs_of(options, folder, asker, it) for it in (2, options.sites))
-    print_table(["Sites", "Learns and sends ms", "A peer takes ms", "Is asked, too, ms", "Wakes in ms", "Of a question ms",
-                 "An answer takes ms"],
+    print_table(["Sites", "Learns and sends ms", "A peer takes ms", "The first has it after ms", "Is asked, too, ms",
+                 "The client for each ms", "An answer takes ms"],
                 [(sites, *(f"{it:.4f}" for it in row)) for sites, row in ((2, few), (options.sites, many))])
-    send, (_, take, both, wake, question, waited) = (many[0] - few[0]) / (options.sites - 2), many
-    print()
-    for asks, each in (("one", question), ("all", both - take)):
-        print(f"{asks}: --send {send:.4f} --wake {wake:.4f} --take {take:.4f} --question {each:.4f} "
-              f"--answer {waited - send:.4f}")
+    send, (_, take, _, both, client, waited) = (many[0] - few[0]) / (options.sites - 2), many
+    print(f"\n--send {send:.4f} --wake {few[2] - few[1] - send:.4f} --take {take:.4f} --question {both - take:.4f} "
+          f"--answer {waited - send:.4f} --client {client - send:.4f} --processors {os.cpu_count()}")
 
 
 JOBS = {"news": follow_news, "costs": measure_costs, "sweeps": measure_sweeps, "quiet": measure_quiet, "late": measure_late}
@@ -311,7 +328,7 @@ def options_of():
     words.add_argument("--questions", type=int, default=200, help="questions a second to each site (200)")
     words.add_argument("--seconds", type=int, default=65, help="how long clients ask (65)")
     words.add_argument("--rounds", type=int, default=20, help="how many news are followed (20)")
-    words.add_argument("--one", action="store_true", help="`news` asks one peer of who learnt it, not all sites")
+    words.add_argument("--watched", action="store_true", help="`news` asks no site; perf tells when peers have taken it")
     words.add_argument("--known", action="store_true", help="`news` asks for a name that all know: how long answers take")
     words.add_argument("--runs", type=int, default=1, help="how many times a fleet is started (1)")
     words.add_argument("--slow", help="a file to which slow answers of `sweeps` are added: site, second, milliseconds")

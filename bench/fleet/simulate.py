@@ -40,8 +40,8 @@ def short(value):
 def print_news(scenario):
     by_hops, everywhere = news_of(scenario)
     print_heads("Hops, Samples, Median s, Greatest s")
-    for hops, moments in [*sorted(by_hops.items()), *[("everywhere", everywhere)] * bool(everywhere)]:
-        print_row(hops, len(moments), f"{statistics.median(moments):.5f}", f"{max(moments):.5f}")
+    for hops, moments in [*sorted(by_hops.items()), ("everywhere", everywhere)]:
+        print_row(hops, len(moments), f"{statistics.median(moments):.6f}", f"{max(moments):.6f}")
 
 
 def print_traffic(scenario):
@@ -91,7 +91,7 @@ def compared(row, scenario):
     """What was measured by a row, and what is simulated."""
     numbers = {it: int(row[it]) for it in ("sites", "degree", "sweep", "names", "entry")}
     scenario = replace(scenario, arrangement=row["arrangement"], spread=row["spread"] == "1",
-                       questions=float(row["questions"]), polled=row["asked"], link=14, **numbers)
+                       questions=float(row["questions"]), polled=row["polled"] == "1", link=14, **numbers)
     if row["kind"] == "octets":
         return float(row["value"]), traffic_of(scenario, Fleet(scenario))[0]
     if row["kind"] == "share":
@@ -118,7 +118,7 @@ def print_compared(scenario, path):
 
 
 # The options that say what short datagrams cost.
-COSTS = "send wake take question answer processors"
+COSTS = "send wake take question answer client processors"
 # What each command does, its options, and what is the default of some.
 COMMANDS = {
     "news": (print_news, "degree sweep spread names entry questions polled loss restarts " + COSTS + " rounds seed", {}),
@@ -141,7 +141,7 @@ def options_of():
             command.add_argument("sites", type=int)
         for it in fields(Scenario):
             if it.name in takes.split():
-                kind = {bool: {"action": "store_true"}, str: {"choices": ("all", "one")}}.get(it.type, {"type": it.type})
+                kind = {"action": "store_true"} if it.type is bool else {"type": it.type}
                 command.add_argument(f"--{it.name}", default=it.default, help=it.metadata["help"], **kind)
         command.set_defaults(**defaults)
     return vars(words.parse_args())
