@@ -53,12 +53,12 @@ class Scenario:
     loss: float = option(0.0, "the share of frames that get lost")
     restarts: float = option(0.0, "restarts of each site in an hour")
     send: float = option(0.06, "milliseconds that a datagram takes its sender")
-    wake: float = option(0.0, "milliseconds that a processor that sleeps takes to wake")
+    wake: float = option(0.0, "milliseconds that a frame or a question takes longer where the processor sleeps")
     take: float = option(0.06, "milliseconds that a frame of at most 512 octets takes its receiver")
     question: float = option(0.06, "milliseconds that a question of a client that measures takes its site")
     answer: float = option(0.06, "milliseconds that an answer to it takes once its question has come")
     client: float = option(0.0, "milliseconds that an answer takes that client")
-    processors: int = option(0, "processors that all sites share; 0: each has its own")
+    processors: int = option(0, "processors that all sites and the client share; 0: each has its own")
     link: int = option(0, "octets of the link for each datagram; loopback counts 14")
     rounds: int = option(64, "how many news, or late sites, are followed")
     seed: int = option(1, "of what is drawn by chance")
@@ -169,8 +169,8 @@ class Run:
         # In which frame of a sweep each news is: a sweep is in the order of names.
         self.places = [self.words.randrange(max(1, self.sweep.frames)) for _ in range(news)]
         self.arrivals, self.missing, self.lives = [[] for _ in range(news)], news * scenario.sites, 0
-        # When each processor is idle again, if sites share some, and on which each site is.
-        self.free, self.places_of = [0.0] * scenario.processors, [0] * (scenario.sites + 1)
+        # When each processor is idle again, if all share some.
+        self.free = [0.0] * scenario.processors
         for one, begun in enumerate(self.begun):
             self.push(begun, self.learn, one)
         for site in range(scenario.sites):
@@ -244,22 +244,14 @@ class Run:
             self.end_turn(done, site)
 
     def work(self, now, site, seconds, wake=0):
-        """A site works so long once its processor is idle. One that sleeps has to wake first. Gives the moment at which that
-        is done."""
-        free = self.idle[site]
-        if self.free:
-            if free <= now:
-                self.places_of[site] = self.place(now)
-            free = max(free, self.free[self.places_of[site]])
-        self.idle[site] = max(now + (wake if now > free + ASLEEP else 0), free) + seconds
-        if self.free:
-            self.free[self.places_of[site]] = self.idle[site]
+        """A site works so long, once it and a processor are idle. One that sleeps has to wake first. Gives the moment at
+        which that is done."""
+        free = heapq.heappop(self.free) if self.free else self.idle[site]
+        begin = max(now + (wake if now > free + ASLEEP else 0), self.idle[site], free)
+        self.idle[site] = begin + seconds
+        if self.scenario.processors:
+            heapq.heappush(self.free, self.idle[site])
         return self.idle[site]
-
-    def place(self, now):
-        """The processor that has been idle longest, or one by chance where none is idle."""
-        least = min(range(len(self.free)), key=self.free.__getitem__)
-        return least if self.free[least] <= now else self.words.randrange(len(self.free))
 
     def learn(self, now, one):
         """A site learns news from an upstream, and tells its peers at once."""

@@ -23,7 +23,9 @@ HERE = Path(__file__).resolve().parent
 # News have names of their own, behind those that all sites have.
 FIRST_NEWS = 9_000_000
 # How often a site that lacks the news is asked for it, in microseconds: where all are peers, and elsewhere.
-STEPS = {"mesh": 500, "ring": 20_000, "tree": 20_000}
+STEPS = {"mesh": 100, "ring": 20_000, "tree": 20_000}
+# And how often where most have answered before they are asked again.
+ONCE = 500
 # How many seconds the client does nothing where nobody asks; by then peers have taken the news.
 AFTERWARDS = 0.01
 # How often and for how many seconds a site is asked, to see how soon an answer comes from one that is awake.
@@ -285,7 +287,7 @@ def costs_of(options, folder, asker, sites):
     group, names, learnt, client = Fleet(options, folder), itertools.count(FIRST_NEWS), [], []
 
     def follow():
-        lines = asker.words("news", FIRST, sites, 0, next(names), STEPS["mesh"], 2)
+        lines = asker.words("news", FIRST, sites, 0, next(names), ONCE, 2)
         client.append(float(lines[0][1]) / (sites - 1))
 
     try:
@@ -302,14 +304,14 @@ def costs_of(options, folder, asker, sites):
 
 
 def measure_costs(options, folder, asker):
-    """What the simulation of the first hop needs. A sleeping processor wakes in what is left of the time after which the
-    peer has the news in a mesh of two."""
+    """What the simulation of the first hop needs. What a processor that sleeps costs is what is left of the time until the
+    first peer has the news."""
     few, many = (costs_of(options, folder, asker, it) for it in (2, options.sites))
     print_table(["Sites", "Learns and sends ms", "A peer takes ms", "The first has it after ms", "Is asked, too, ms",
                  "The client for each ms", "An answer takes ms"],
                 [(sites, *(f"{it:.4f}" for it in row)) for sites, row in ((2, few), (options.sites, many))])
-    send, (_, take, _, both, client, waited) = (many[0] - few[0]) / (options.sites - 2), many
-    print(f"\n--send {send:.4f} --wake {few[2] - few[1] - send:.4f} --take {take:.4f} --question {both - take:.4f} "
+    send, (_, take, first, both, client, waited) = (many[0] - few[0]) / (options.sites - 2), many
+    print(f"\n--send {send:.4f} --wake {first - take - send:.4f} --take {take:.4f} --question {both - take:.4f} "
           f"--answer {waited - send:.4f} --client {client - send:.4f} --processors {os.cpu_count()}")
 
 
