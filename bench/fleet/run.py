@@ -271,34 +271,42 @@ def measure_late(options, folder, asker):
 
 
 def ran_for(group, rounds, action):
-    """The milliseconds of processor time that each site takes for an action, which comes again and again after a pause."""
-    before = [site.processor()[0] for site in group.sites]
-    for _ in range(rounds):
+    """The milliseconds of processor time that a site takes while another one learns a name by an action: the median. Sites
+    learn in turn, each after a pause."""
+    others = []
+    for site in itertools.islice(itertools.cycle(group.sites), rounds):
+        before = [it.processor()[0] for it in group.sites]
         time.sleep(PAUSE)
-        action()
-    return [1000 * (site.processor()[0] - then) / rounds for site, then in zip(group.sites, before)]
+        action(site.index)
+        ran = [1000 * (it.processor()[0] - then) for it, then in zip(group.sites, before)]
+        others.append(statistics.mean(ran[: site.index] + ran[site.index + 1 :]))
+    return statistics.median(others)
 
 
 def costs_of(options, folder, asker, sites):
-    """What a mesh takes in ms: processor time of a site that learns a name and sends it, and of a peer that takes it, where
-    nobody asks; how soon the first peer has it; processor time of a peer where a client asks all, too, and of that client
-    for each; and how soon an answer comes from a site that is awake."""
+    """What a mesh takes in ms: how long a site works after its answer, while it sends what it learnt, and processor time of
+    a peer that takes it, where nobody asks; how soon the first peer has it; processor time of a peer where a client asks
+    all, too, and of that client for each; and how soon an answer comes from a site that is awake."""
     options = argparse.Namespace(**{**vars(options), "arrangement": "mesh", "sites": sites})
     group, names, learnt, client = Fleet(options, folder), itertools.count(FIRST_NEWS), [], []
 
-    def follow():
-        lines = asker.words("news", FIRST, sites, 0, next(names), ONCE, 2)
+    def learn(learner):
+        learnt.append((learner, learn_alone(options, asker, learner, next(names))))
+
+    def follow(learner):
+        lines = asker.words("news", FIRST, sites, learner, next(names), ONCE, 2)
         client.append(float(lines[0][1]) / (sites - 1))
 
     try:
         group.start()
         watch = fleet.Watch(group.sites, folder)
-        ran = ran_for(group, options.rounds, lambda: learnt.append(learn_alone(options, asker, 0, next(names))))
+        take = ran_for(group, options.rounds, learn)
         slept = watch.end()
         both = ran_for(group, options.rounds, follow)
         waited = float(asker.words("load", FIRST, 1, OFTEN, LONG, 1, SLOW, "awake")[-1][4])
-        first = 1000 * statistics.median(min(after(it, moment) for it in slept[1:]) for moment in learnt)
-        return ran[0], statistics.mean(ran[1:]), first, statistics.mean(both[1:]), statistics.mean(client), waited
+        works = statistics.median(after(slept[learner], moment) for learner, moment in learnt)
+        first = statistics.median(min(after(slept[it], moment) for it in group.peers[learner]) for learner, moment in learnt)
+        return 1000 * works, take, 1000 * first, both, statistics.median(client), waited
     finally:
         group.end()
 
@@ -307,7 +315,7 @@ def measure_costs(options, folder, asker):
     """What the simulation of the first hop needs. What a processor that sleeps costs is what is left of the time until the
     first peer has the news."""
     few, many = (costs_of(options, folder, asker, it) for it in (2, options.sites))
-    print_table(["Sites", "Learns and sends ms", "A peer takes ms", "The first has it after ms", "Is asked, too, ms",
+    print_table(["Sites", "Sends for ms", "A peer takes ms", "The first has it after ms", "Is asked, too, ms",
                  "The client for each ms", "An answer takes ms"],
                 [(sites, *(f"{it:.4f}" for it in row)) for sites, row in ((2, few), (options.sites, many))])
     send, (_, take, first, both, client, waited) = (many[0] - few[0]) / (options.sites - 2), many
