@@ -1,20 +1,19 @@
 /* Asks the sites of a fleet on loopback, at a rate, or about one name until all have it.
  *
  * usage: ask load PORT SITES RATE SECONDS NAMES SLOW [awake]
- *        ask news PORT SITES LEARNER NAME MICROSECONDS SECONDS [SITE|all]
+ *        ask news PORT SITES LEARNER NAME MICROSECONDS SECONDS
  *        ask learn PORT SITES LEARNER NAME SECONDS
  *
  * The sites listen at PORT and the ports behind it. `load` asks each of them RATE questions a second for names that it
  * knows, of number 0 to NAMES - 1, evenly, whether they are answered or not, and waits three seconds for the last
  * answers. It prints a line for each answer that took SLOW milliseconds or more (`slow SITE SECOND MILLISECONDS`), then
  * one for each site (`site SITE ASKED ANSWERED OTHER SLOWEST`), then all (`all ASKED ANSWERED OTHER MEDIAN P999 SLOWEST`).
- * OTHER answers have a code or no record. `news` has site LEARNER learn the name of this number, and then asks each
- * other site that lacks it, four times in two milliseconds and then once in so many microseconds, for SECONDS at most. It
- * prints how long LEARNER took, and for each site how long after that it had the name (`learnt MILLISECONDS`, `had SITE
- * MILLISECONDS`). With a last word this program never sleeps, and with SITE it asks that one alone: then nothing delays
- * the news but its own way. `learn` has LEARNER learn the name and asks nobody else. It prints how long that took, and when
- * the answer came (`at SECONDS`, of the day's clock), and stays on its processor for SECONDS: then nothing at all delays
- * the news.
+ * OTHER answers have a code or no record. With a last word this program never sleeps. `news` has site LEARNER learn the
+ * name of this number, and then asks each other site that lacks it, four times in two milliseconds at least and then once
+ * in so many microseconds, for SECONDS at most. It prints the processor time that it took to do so, and for each site how
+ * long after LEARNER it had the name (`ran MILLISECONDS`, `had SITE MILLISECONDS`). `learn` has LEARNER learn the name,
+ * asks nobody else, and prints SECONDS later when the answer came (`at SECONDS`, of the day's clock): by then the news has
+ * gone its way, and nothing has delayed it.
  *
  * An answer's time is from the call that sent its question to its arrival at this program's socket, as the kernel noted
  * it, so a delay of this program adds nothing.
@@ -174,13 +173,13 @@ static void load(double rate, double seconds, long names, double slow, int sleep
 }
 
 /* Has a site learn a name; when it had answered. */
-static double learn(struct site *site, long name, int sleeps) {
+static double learn(struct site *site, long name) {
     unsigned char octets[LENGTH], reply[LATEST];
     double sent = now(), when;
     write_question(octets, 1, name, 1);
     if (send(site->socket, octets, LENGTH, 0) != LENGTH) fail("question");
     while (now() < sent + PATIENCE) {
-        if (sleeps) wait_until(sent + PATIENCE);
+        wait_until(sent + PATIENCE);
         if (is_answer(reply, take(site->socket, reply, &when))) return when;
     }
     fputs("no answer\n", stderr);
@@ -188,12 +187,12 @@ static double learn(struct site *site, long name, int sleeps) {
 }
 
 /* Nothing is printed before all have the name: that would get in its way. */
-static void follow(int learner, long name, double most, double seconds, int alone, int sleeps) {
+static void follow(int learner, long name, double most, double seconds) {
     unsigned char octets[LENGTH], reply[LATEST];
-    int left = alone < 0 ? count - 1 : 1, asked = 0;
-    double when, had[MOST_SITES] = {0}, learnt = learn(&sites[learner], name, sleeps), next = now(), step = 0;
+    int left = count - 1, asked = 0;
+    double when, had[MOST_SITES] = {0}, learnt = learn(&sites[learner], name), next = now(), step = 0;
     double ran = time_of(CLOCK_PROCESS_CPUTIME_ID);
-    for (int at = 0; at < count; at++) sites[at].answered = at == learner || (alone >= 0 && at != alone);
+    for (int at = 0; at < count; at++) sites[at].answered = at == learner;
     write_question(octets, 2, name, 0);
     for (; left > 0 && now() < learnt + seconds; next += step) {
         step = asked++ < QUICK && most > 0.0005 ? 0.0005 : most;
@@ -201,7 +200,7 @@ static void follow(int learner, long name, double most, double seconds, int alon
             if (!sites[at].answered && send(sites[at].socket, octets, LENGTH, 0) != LENGTH) continue;
         }
         do {
-            if (sleeps) wait_until(next + step);
+            wait_until(next + step);
             for (int at = 0; at < count; at++) {
                 for (int length; (length = take(sites[at].socket, reply, &when)) >= 0;) {
                     if (sites[at].answered || !is_answer(reply, length)) continue;
@@ -220,7 +219,7 @@ static void follow(int learner, long name, double most, double seconds, int alon
 
 /* Has a site learn a name, and tells when that was. */
 static void learn_alone(int learner, long name, double seconds) {
-    double learnt = learn(&sites[learner], name, 1);
+    double learnt = learn(&sites[learner], name);
     usleep((useconds_t)(seconds * 1e6));
     printf("at %.7f\n", learnt);
 }
@@ -231,9 +230,9 @@ static int is_command(int argc, char **words, const char *name, int least, int m
 
 int main(int argc, char **words) {
     int is_load = is_command(argc, words, "load", 8, 9), is_learn = is_command(argc, words, "learn", 7, 7);
-    if (!is_load && !is_learn && !is_command(argc, words, "news", 8, 9)) {
+    if (!is_load && !is_learn && !is_command(argc, words, "news", 8, 8)) {
         fprintf(stderr, "usage: ask load PORT SITES RATE SECONDS NAMES SLOW [awake]\n"
-                        "       ask news PORT SITES LEARNER NAME MICROSECONDS SECONDS [SITE|all]\n"
+                        "       ask news PORT SITES LEARNER NAME MICROSECONDS SECONDS\n"
                         "       ask learn PORT SITES LEARNER NAME SECONDS\n");
         return 2;
     }
@@ -245,8 +244,7 @@ int main(int argc, char **words) {
     } else if (is_learn) {
         learn_alone(atoi(words[4]) % count, atol(words[5]), atof(words[6]));
     } else {
-        int alone = argc == 8 || strcmp(words[8], "all") == 0 ? -1 : atoi(words[8]) % count;
-        follow(atoi(words[4]) % count, atol(words[5]), atof(words[6]) / 1e6, atof(words[7]), alone, argc == 8);
+        follow(atoi(words[4]) % count, atol(words[5]), atof(words[6]) / 1e6, atof(words[7]));
     }
     return 0;
 }
