@@ -105,7 +105,7 @@ def follow_news(options, folder, asker):
             rounds.append(tell_news(options, group, asker, waits_for_sweeps))
         if watch:
             slept = watch.end()
-            rounds = [(learner, {it: after(slept[it], learnt) for it in group.peers[learner]}) for learner, learnt in rounds]
+            rounds = [(learner, taken_by(group.peers[learner], slept, learnt)) for learner, learnt in rounds]
     finally:
         client.close()
         group.end()
@@ -127,6 +127,12 @@ def tell_news(options, group, asker, waits_for_sweeps):
 def learn_alone(options, asker, learner, name):
     """Has a site learn a name while nobody else asks. Gives the moment of its answer."""
     return float(asker.words("learn", FIRST, options.sites, learner, name, AFTERWARDS)[-1][1])
+
+
+def taken_by(peers, slept, learnt):
+    """How many seconds after a site learnt a name peers sleep next, which it had woken. One that sleeps later than the client
+    waits may not have had it."""
+    return {it: seconds for it in peers if (seconds := after(slept[it], learnt)) < AFTERWARDS}
 
 
 def after(moments, moment):
