@@ -10,10 +10,11 @@
  * one for each site (`site SITE ASKED ANSWERED OTHER SLOWEST`), then all (`all ASKED ANSWERED OTHER MEDIAN P999 SLOWEST`).
  * OTHER answers have a code or no record. With a last word this program never sleeps. `news` has site LEARNER learn the
  * name of this number, and then asks each other site that lacks it, four times in two milliseconds at least and then once
- * in so many microseconds, for SECONDS at most. It prints the processor time that it took to do so, and for each site how
- * long after LEARNER it had the name (`ran MILLISECONDS`, `had SITE MILLISECONDS`). `learn` has LEARNER learn the name,
- * asks nobody else, and prints SECONDS later when the answer came (`at SECONDS`, of the day's clock): by then the news has
- * gone its way, and nothing has delayed it.
+ * in so many microseconds, for SECONDS at most. It prints how long after LEARNER's answer it began to ask, the processor
+ * time of its questions and that of looking for answers, how many questions these were, and how often it looked (`client
+ * BEGAN ASKING LOOKING QUESTIONS LOOKS`, times in milliseconds), and for each site how long after LEARNER it had the name
+ * (`had SITE MILLISECONDS`). `learn` has LEARNER learn the name, asks nobody else, and prints SECONDS later when the answer
+ * came (`at SECONDS`, of the day's clock): by then the news has gone its way, and nothing has delayed it.
  *
  * An answer's time is from the call that sent its question to its arrival at this program's socket, as the kernel noted
  * it, so a delay of this program adds nothing.
@@ -186,32 +187,52 @@ static double learn(struct site *site, long name) {
     exit(1);
 }
 
+/* Asks each site that has not answered. Gives how many questions that were. */
+static int ask_others(const unsigned char *octets) {
+    int asked = 0;
+    for (int at = 0; at < count; at++) {
+        if (!sites[at].answered) asked += send(sites[at].socket, octets, LENGTH, 0) == LENGTH;
+    }
+    return asked;
+}
+
+/* Takes all answers that are there. Gives how many sites have the name by these, and notes since when. */
+static int take_news(double *had) {
+    unsigned char reply[LATEST];
+    double when;
+    int found = 0;
+    for (int at = 0; at < count; at++) {
+        for (int length; (length = take(sites[at].socket, reply, &when)) >= 0;) {
+            if (sites[at].answered || !is_answer(reply, length)) continue;
+            sites[at].answered = 1;
+            had[at] = when;
+            found++;
+        }
+    }
+    return found;
+}
+
 /* Nothing is printed before all have the name: that would get in its way. */
 static void follow(int learner, long name, double most, double seconds) {
-    unsigned char octets[LENGTH], reply[LATEST];
-    int left = count - 1, asked = 0;
-    double when, had[MOST_SITES] = {0}, learnt = learn(&sites[learner], name), next = now(), step = 0;
-    double ran = time_of(CLOCK_PROCESS_CPUTIME_ID);
+    unsigned char octets[LENGTH];
+    int left = count - 1, passes = 0, questions = 0, looks = 0;
+    double had[MOST_SITES] = {0}, learnt = learn(&sites[learner], name), step = 0, asking = 0;
     for (int at = 0; at < count; at++) sites[at].answered = at == learner;
     write_question(octets, 2, name, 0);
+    double ran = time_of(CLOCK_PROCESS_CPUTIME_ID), next = now(), began = next - learnt;
     for (; left > 0 && now() < learnt + seconds; next += step) {
-        step = asked++ < QUICK && most > 0.0005 ? 0.0005 : most;
-        for (int at = 0; at < count; at++) {
-            if (!sites[at].answered && send(sites[at].socket, octets, LENGTH, 0) != LENGTH) continue;
-        }
+        double before = time_of(CLOCK_PROCESS_CPUTIME_ID);
+        step = passes++ < QUICK && most > 0.0005 ? 0.0005 : most;
+        questions += ask_others(octets);
+        asking += time_of(CLOCK_PROCESS_CPUTIME_ID) - before;
         do {
             wait_until(next + step);
-            for (int at = 0; at < count; at++) {
-                for (int length; (length = take(sites[at].socket, reply, &when)) >= 0;) {
-                    if (sites[at].answered || !is_answer(reply, length)) continue;
-                    sites[at].answered = 1;
-                    left--;
-                    had[at] = when;
-                }
-            }
+            left -= take_news(had);
+            looks++;
         } while (left > 0 && now() < next + step);
     }
-    printf("ran %.4f\n", 1000 * (time_of(CLOCK_PROCESS_CPUTIME_ID) - ran));
+    ran = time_of(CLOCK_PROCESS_CPUTIME_ID) - ran;
+    printf("client %.4f %.4f %.4f %d %d\n", 1000 * began, 1000 * asking, 1000 * (ran - asking), questions, looks);
     for (int at = 0; at < count; at++) {
         if (had[at] > 0) printf("had %d %.4f\n", at, 1000 * (had[at] - learnt));
     }

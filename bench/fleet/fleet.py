@@ -21,6 +21,8 @@ UPSTREAM, FIRST = 15690, 15700
 MOST_SITES = 64
 # How many names each site is asked for, to see which share it has, and how many are asked for at a time.
 SAMPLE, AT_ONCE = 400, 50
+# A processor that was left so many seconds ago may have slept before another site got it.
+SOON = 0.00002
 
 
 def mesh(count):
@@ -186,26 +188,34 @@ class Fleet:
 
 
 class Watch:
-    """Has perf note when each site goes to sleep."""
+    """Has perf note when each site gets a processor, and when it leaves it."""
 
     def __init__(self, sites, folder):
         self.sites, self.path = sites, os.path.join(folder, "switches")
         numbers = ",".join(str(site.process.pid) for site in sites)
         self.process = subprocess.Popen(["perf", "record", "-q", "-k", "CLOCK_REALTIME", "-e", "dummy:u", "--switch-events",
-                                         "-p", numbers, "-o", self.path], stdin=subprocess.DEVNULL)
+                                         "--sample-cpu", "-p", numbers, "-o", self.path], stdin=subprocess.DEVNULL)
         time.sleep(1)
 
     def end(self):
-        """These moments, in order, for each site."""
+        """The moments at which each site went to sleep, in order, and the seconds that processors took from one site to the
+        next, where that was soon."""
         self.process.send_signal(signal.SIGINT)
         self.process.wait()
-        told = subprocess.run(["perf", "script", "-i", self.path, "--show-switch-events", "--ns", "-F", "pid,time"],
+        told = subprocess.run(["perf", "script", "-i", self.path, "--show-switch-events", "--ns", "-F", "pid,cpu,time"],
                               stdout=subprocess.PIPE, text=True, check=True).stdout
-        moments = {site.process.pid: [] for site in self.sites}
+        slept, left, switches = {site.process.pid: [] for site in self.sites}, {}, []
         # The line of a site that another process pushes from its processor ends otherwise.
-        for number, moment in re.findall(r"(\d+) +([\d.]+): PERF_RECORD_SWITCH OUT *$", told, re.MULTILINE):
-            moments[int(number)].append(float(moment))
-        return [moments[site.process.pid] for site in self.sites]
+        lines = re.findall(r"(\d+) +\[(\d+)\] +([\d.]+): PERF_RECORD_SWITCH (IN|OUT)(.*)$", told, re.MULTILINE)
+        for number, processor, moment, way, rest in sorted(lines, key=lambda line: float(line[2])):
+            number, moment = int(number), float(moment)
+            if way == "OUT":
+                left[processor] = number, moment
+                if not rest.strip():
+                    slept[number].append(moment)
+            elif processor in left and left[processor][0] != number and moment < left[processor][1] + SOON:
+                switches.append(moment - left[processor][1])
+        return [slept[site.process.pid] for site in self.sites], switches
 
 
 def dropped_at(sites):

@@ -9,6 +9,8 @@ import random
 import sys
 from dataclasses import dataclass, field
 
+from machine import ASLEEP, Client, Processors
+
 # A turn waits so many seconds for a datagram.
 WAIT = 0.2
 # So many datagrams of a sweep leave at a time, so many seconds apart; a frame of at most SHORT octets leaves at once.
@@ -17,12 +19,8 @@ BURST, PAUSE, SHORT = 2, 0.001, 512
 LONGEST_FRAME, HEAD, HEADERS = 16384, 5, 28
 # How many seconds a frame of over SHORT octets takes its receiver, where all of it is known, and where something is new.
 KNOWN, NEW = 0.0001, 0.0003
-# How many seconds a processor is idle before it sleeps.
-ASLEEP = 0.001
 # How many frames wait to be sent at most, each once for all peers.
 MOST_LEAVING = 4095
-# How many times a client that measures asks quickly at first, and how many seconds apart.
-QUICK, QUICKLY = 4, 0.0005
 # How many seconds a record lives whose worth is told.
 LIFE = 300
 # News comes up over so many sweeps at least; in small fleets over more, so that few go through the same sweeps.
@@ -57,7 +55,10 @@ class Scenario:
     take: float = option(0.06, "milliseconds that a frame of at most 512 octets takes its receiver")
     question: float = option(0.06, "milliseconds that a question of a client that measures takes its site")
     answer: float = option(0.06, "milliseconds that an answer to it takes once its question has come")
-    client: float = option(0.0, "milliseconds that an answer takes that client")
+    begin: float = option(0.0, "milliseconds after which that client begins to ask")
+    ask: float = option(0.06, "milliseconds that a question takes it")
+    look: float = option(0.0, "milliseconds that it takes to look for answers")
+    switch: float = option(0.0, "milliseconds that a shared processor takes from one site to the next")
     processors: int = option(0, "processors that all sites and the client share; 0: each has its own")
     link: int = option(0, "octets of the link for each datagram; loopback counts 14")
     rounds: int = option(64, "how many news, or late sites, are followed")
@@ -130,8 +131,8 @@ class Sweep:
         self.frames = math.ceil(scenario.names / self.entries)
         self.octets = scenario.names * scenario.entry + self.frames * (HEAD + HEADERS + scenario.link)
         self.is_short = scenario.names * scenario.entry + HEAD <= SHORT
-        self.send, self.wake, self.take, self.question, self.answer, self.client = (
-            getattr(scenario, it) / 1000 for it in ("send", "wake", "take", "question", "answer", "client"))
+        self.send, self.wake, self.take, self.question, self.answer, self.begin, self.ask, self.look = (
+            getattr(scenario, it) / 1000 for it in "send wake take question answer begin ask look".split())
 
     def arrival(self, number):
         """How many seconds after the begin of a sweep its datagram of this number arrives, of those to all peers."""
@@ -160,17 +161,18 @@ class Run:
         self.polls = scenario.questions if scenario.polled else 0
         self.rate = scenario.questions - self.polls
         self.held, self.known, self.turns = ([0] * scenario.sites for _ in range(3))
-        # When each site is idle again, when its sweep has left, and when its turn ends. The client that measures comes last.
+        # When each site, and the client, is idle again, when its sweep has left, and when its turn ends.
         self.idle, self.left, self.end = ([0.0] * (scenario.sites + 1) for _ in range(3))
         self.due = [scenario.spread * it * scenario.sweep // scenario.sites for it in range(scenario.sites)]
-        sweeps = max(LEAST_SWEEPS, min(scenario.rounds, SWEEPS_OF_SITES // scenario.sites))
+        sweeps = max(LEAST_SWEEPS, min(news, SWEEPS_OF_SITES // scenario.sites))
         self.begun = [1 + sweeps * scenario.sweep * self.words.random() for _ in range(news)]
         self.learners = [self.words.randrange(scenario.sites) for _ in range(news)]
         # In which frame of a sweep each news is: a sweep is in the order of names.
         self.places = [self.words.randrange(max(1, self.sweep.frames)) for _ in range(news)]
         self.arrivals, self.missing, self.lives = [[] for _ in range(news)], news * scenario.sites, 0
-        # When each processor is idle again, if all share some.
-        self.free = [0.0] * scenario.processors
+        # The client that measures works, too, and comes behind the sites.
+        self.processors = Processors(scenario, scenario.sites + 1, self.push)
+        self.client = Client(self, scenario.sites)
         for one, begun in enumerate(self.begun):
             self.push(begun, self.learn, one)
         for site in range(scenario.sites):
@@ -238,32 +240,40 @@ class Run:
     def receive(self, now, site, news, is_short):
         """A frame comes in, behind what its receiver is at."""
         news &= ~self.held[site]
-        done = self.work(now, site, self.sweep.take if is_short else NEW if news else KNOWN, self.sweep.wake)
-        self.take(done, site, news)
-        if now >= self.due[site]:
-            self.end_turn(done, site)
+        self.work(now, site, self.sweep.take if is_short else NEW if news else KNOWN, self.took, site, news, now)
 
-    def work(self, now, site, seconds, wake=0):
-        """A site works so long, once it and a processor are idle. One that sleeps has to wake first. Gives the moment at
-        which that is done."""
-        free = heapq.heappop(self.free) if self.free else self.idle[site]
-        begin = max(now + (wake if now > free + ASLEEP else 0), self.idle[site], free)
-        self.idle[site] = begin + seconds
+    def took(self, now, site, news, came):
+        """A site has taken a frame."""
+        self.take(now, site, news)
+        if came >= self.due[site]:
+            self.end_turn(now, site)
+
+    def work(self, now, worker, seconds, then, *what):
+        """A site, or the client, works so long, once it has a processor; then something happens."""
         if self.scenario.processors:
-            heapq.heappush(self.free, self.idle[site])
-        return self.idle[site]
+            self.processors.give(now, worker, seconds, then, *what)
+        else:
+            sleeps = now > self.idle[worker] + ASLEEP
+            self.idle[worker] = max(now + self.sweep.wake * sleeps, self.idle[worker]) + seconds
+            self.push(self.idle[worker], then, *what)
+
+    def ran(self, now, worker):
+        """A site, or the client, has just run, so its processor does not sleep."""
+        self.idle[worker] = max(now, self.idle[worker])
+        self.processors.rouse(now)
 
     def learn(self, now, one):
         """A site learns news from an upstream, and tells its peers at once."""
         site = self.learners[one]
         self.take(now, site, 1 << one)
-        for place, peer in enumerate(self.fleet.peers[site]):
-            self.send(now + self.sweep.send * (place + 1), peer, 1 << one, True)
-        self.work(now, site, self.sweep.send * len(self.fleet.peers[site]))
-        self.end_turn(now, site)
+        self.ran(now, site)
+        for peer in self.fleet.peers[site]:
+            self.work(now, site, self.sweep.send, self.send, peer, 1 << one, True)
         if self.polls:
             self.note(now, site, 1 << one)
-            self.poll(now, [it for it in range(self.scenario.sites) if it != site], 0)
+            self.ran(now, self.client.number)
+            self.work(now, self.client.number, self.sweep.begin, self.client.begin)
+        self.end_turn(now, site)
 
     def take(self, now, site, news):
         self.held[site] |= news
@@ -290,22 +300,15 @@ class Run:
         self.plan(site)
         self.push(now + self.words.expovariate(self.scenario.restarts / 3600), self.restart, site)
 
-    def poll(self, now, sites, asked):
-        """The client asks each of the sites that did not answer yet, and some time later again."""
-        sites, client, done = [it for it in sites if not self.known[it]], self.scenario.sites, now
-        for site in sites:
-            done = self.work(now, client, self.sweep.send, self.sweep.wake)
-            self.push(done, self.ask, site)
-        step = min(1 / self.polls, QUICKLY) if asked < QUICK else 1 / self.polls
-        if sites:
-            self.push(max(now + step, done), self.poll, sites, asked + 1)
-
     def ask(self, now, site):
         """A question of the client comes in."""
-        done = self.work(now, site, self.sweep.question, self.sweep.wake)
-        self.note(done - self.sweep.question + self.sweep.answer, site, self.held[site])
-        self.push(done, self.work, self.scenario.sites, self.sweep.client)
-        self.end_turn(done, site)
+        self.work(now, site, self.sweep.question, self.answer, site)
+
+    def answer(self, now, site):
+        """A site has answered the client, and is done with it."""
+        self.note(now - self.sweep.question + self.sweep.answer, site, self.held[site])
+        self.client.be_answered(now)
+        self.end_turn(now, site)
 
 
 @functools.lru_cache(1)

@@ -24,8 +24,6 @@ HERE = Path(__file__).resolve().parent
 FIRST_NEWS = 9_000_000
 # How often a site that lacks the news is asked for it, in microseconds: where all are peers, and elsewhere.
 STEPS = {"mesh": 100, "ring": 20_000, "tree": 20_000}
-# And how often where most have answered before they are asked again.
-ONCE = 500
 # How many seconds the client does nothing where nobody asks; by then peers have taken the news.
 AFTERWARDS = 0.01
 # How often and for how many seconds a site is asked, to see how soon an answer comes from one that is awake.
@@ -104,7 +102,7 @@ def follow_news(options, folder, asker):
             time.sleep((phase - time.time()) % options.sweep if waits_for_sweeps else PAUSE)
             rounds.append(tell_news(options, group, asker, waits_for_sweeps))
         if watch:
-            slept = watch.end()
+            slept, _ = watch.end()
             rounds = [(learner, taken_by(group.peers[learner], slept, learnt)) for learner, learnt in rounds]
     finally:
         client.close()
@@ -291,8 +289,9 @@ def ran_for(group, rounds, action):
 
 def costs_of(options, folder, asker, sites):
     """What a mesh takes in ms: how long a site works after its answer, while it sends what it learnt, and processor time of
-    a peer that takes it, where nobody asks; how soon the first peer has it; processor time of a peer where a client asks
-    all, too, and of that client for each; and how soon an answer comes from a site that is awake."""
+    a peer that takes it, where nobody asks; how soon the first peer has it; how long a processor takes from one site to the
+    next; where a client asks all, processor time of a peer, what that client took, and for how much; and how soon an answer
+    comes from a site that is awake."""
     options = argparse.Namespace(**{**vars(options), "arrangement": "mesh", "sites": sites})
     group, names, learnt, client = Fleet(options, folder), itertools.count(FIRST_NEWS), [], []
 
@@ -300,19 +299,20 @@ def costs_of(options, folder, asker, sites):
         learnt.append((learner, learn_alone(options, asker, learner, next(names))))
 
     def follow(learner):
-        lines = asker.words("news", FIRST, sites, learner, next(names), ONCE, 2)
-        client.append(float(lines[0][1]) / (sites - 1))
+        lines = asker.words("news", FIRST, sites, learner, next(names), STEPS["mesh"], 2)
+        client.append([float(it) for it in lines[0][1:]])
 
     try:
         group.start()
         watch = fleet.Watch(group.sites, folder)
         take = ran_for(group, options.rounds, learn)
-        slept = watch.end()
+        slept, switches = watch.end()
         both = ran_for(group, options.rounds, follow)
         waited = float(asker.words("load", FIRST, 1, OFTEN, LONG, 1, SLOW, "awake")[-1][4])
         works = statistics.median(after(slept[learner], moment) for learner, moment in learnt)
         first = statistics.median(min(after(slept[it], moment) for it in group.peers[learner]) for learner, moment in learnt)
-        return 1000 * works, take, 1000 * first, both, statistics.median(client), waited
+        switch = 1000 * statistics.median(switches or [0])
+        return [1000 * works, take, 1000 * first, switch, both, *map(statistics.median, zip(*client)), waited]
     finally:
         group.end()
 
@@ -321,12 +321,14 @@ def measure_costs(options, folder, asker):
     """What the simulation of the first hop needs. What a processor that sleeps costs is what is left of the time until the
     first peer has the news."""
     few, many = (costs_of(options, folder, asker, it) for it in (2, options.sites))
-    print_table(["Sites", "Sends for ms", "A peer takes ms", "The first has it after ms", "Is asked, too, ms",
-                 "The client for each ms", "An answer takes ms"],
+    print_table(["Sites", "Sends for ms", "A peer takes ms", "The first has it after ms", "From site to site ms",
+                 "Is asked, too, ms", "The client begins after ms", "Asks for ms", "Looks for ms", "Questions", "Looks", "An answer takes ms"],
                 [(sites, *(f"{it:.4f}" for it in row)) for sites, row in ((2, few), (options.sites, many))])
-    send, (_, take, first, both, client, waited) = (many[0] - few[0]) / (options.sites - 2), many
-    print(f"\n--send {send:.4f} --wake {first - take - send:.4f} --take {take:.4f} --question {both - take:.4f} "
-          f"--answer {waited - send:.4f} --client {client - send:.4f} --processors {os.cpu_count()}")
+    _, take, first, switch, both, begin, asking, looking, questions, looks, waited = many
+    send, ask = (many[0] - few[0]) / (options.sites - 2), asking / questions
+    print(f"\n--send {send:.4f} --wake {first - take - send:.4f} --take {take:.4f} "
+          f"--question {(both - take) * (options.sites - 1) / questions:.4f} --answer {waited - ask:.4f} --begin {begin:.4f} "
+          f"--ask {ask:.4f} --look {looking / looks:.4f} --switch {switch:.4f} --processors {os.cpu_count()}")
 
 
 JOBS = {"news": follow_news, "costs": measure_costs, "sweeps": measure_sweeps, "quiet": measure_quiet, "late": measure_late}

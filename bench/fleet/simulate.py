@@ -118,7 +118,7 @@ def print_compared(scenario, path):
 
 
 # The options that say what short datagrams cost.
-COSTS = "send wake take question answer client processors"
+COSTS = "send wake take question answer begin ask look switch processors"
 # What each command does, its options, and what is the default of some.
 COMMANDS = {
     "news": (print_news, "degree sweep spread names entry questions polled loss restarts " + COSTS + " rounds seed", {}),
