@@ -240,7 +240,7 @@ class Run:
     def receive(self, now, site, news, is_short):
         """A frame comes in, behind what its receiver is at."""
         news &= ~self.held[site]
-        self.work(now, site, self.sweep.take if is_short else NEW if news else KNOWN, self.took, site, news, now)
+        self.follow(now, site, self.sweep.take if is_short else NEW if news else KNOWN, self.took, site, news, now)
 
     def took(self, now, site, news, came):
         """A site has taken a frame."""
@@ -250,12 +250,17 @@ class Run:
 
     def work(self, now, worker, seconds, then, *what):
         """A site, or the client, works so long, once it has a processor; then something happens."""
+        later = () if self.scenario.processors else (self.push,)
+        self.follow(now, worker, seconds, *later, then, *what)
+
+    def follow(self, now, worker, seconds, then, *what):
+        """As `work`; but what happens then is told at once, with its moment, where each has a processor of its own."""
         if self.scenario.processors:
             self.processors.give(now, worker, seconds, then, *what)
         else:
             sleeps = now > self.idle[worker] + ASLEEP
             self.idle[worker] = max(now + self.sweep.wake * sleeps, self.idle[worker]) + seconds
-            self.push(self.idle[worker], then, *what)
+            then(self.idle[worker], *what)
 
     def ran(self, now, worker):
         """A site, or the client, has just run, so its processor does not sleep."""
@@ -268,7 +273,7 @@ class Run:
         self.take(now, site, 1 << one)
         self.ran(now, site)
         for peer in self.fleet.peers[site]:
-            self.work(now, site, self.sweep.send, self.send, peer, 1 << one, True)
+            self.follow(now, site, self.sweep.send, self.send, peer, 1 << one, True)
         if self.polls:
             self.note(now, site, 1 << one)
             self.ran(now, self.client.number)

@@ -322,7 +322,8 @@ def measure_costs(options, folder, asker):
     first peer has the news."""
     few, many = (costs_of(options, folder, asker, it) for it in (2, options.sites))
     print_table(["Sites", "Sends for ms", "A peer takes ms", "The first has it after ms", "From site to site ms",
-                 "Is asked, too, ms", "The client begins after ms", "Asks for ms", "Looks for ms", "Questions", "Looks", "An answer takes ms"],
+                 "Is asked, too, ms", "The client begins after ms", "Asks for ms", "Looks for ms", "Questions", "Looks",
+                 "An answer takes ms"],
                 [(sites, *(f"{it:.4f}" for it in row)) for sites, row in ((2, few), (options.sites, many))])
     _, take, first, switch, both, begin, asking, looking, questions, looks, waited = many
     send, ask = (many[0] - few[0]) / (options.sites - 2), asking / questions
