@@ -110,8 +110,9 @@ add_cases(
         ("none", [site(1, [9], [2]), site(2, [9], [1])], []),
         ("its own address as an upstream", [site(1, [1], [])], [(0, "own address: upstreams, 1: 127.0.0.1:1")]),
         ("its own address as a peer", [site(1, [9], [2, 1])], [(0, "own address: peers, 2: 127.0.0.1:1")]),
+        ("a peer on another host", [site(1, [9], [2]).replace("127.0.0.1:2", "10.0.0.1:2")], []),
         (
-            "an address elsewhere",
+            "an upstream elsewhere",
             [site(1, [9], []).replace("127.0.0.1:9", "10.0.0.1:9")],
             [(0, "no loopback address: upstreams, 1: 10.0.0.1:9")],
         ),
@@ -128,6 +129,11 @@ add_cases(
                 (1, "the peer does not have this site as one: peers, 1: 127.0.0.1:1"),
             ],
         ),
-        ("two sites at one address", [site(1, [9], []), site(1, [9], [])], [(1, "two sites at one address: listen: 127.0.0.1:1")]),
+        ("two sites at one address", [site(1, [9], [2]), site(1, [9], [])], [(1, "two sites at one address: listen: 127.0.0.1:1")]),
+        (
+            "two sites of hosts that each have that address",
+            [site(1, [9], []), site(1, [9], [2]).replace("127.0.0.1:2", "128.0.0.1:2"), site(1, [9], [])],
+            [],
+        ),
     ],
 )

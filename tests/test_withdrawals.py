@@ -1,4 +1,4 @@
-"""The command `withdraw`: the flush that sites are sent, and what they say then."""
+"""The command `withdraw`: where aliases lead, the flush that sites are sent, and what they say then."""
 
 import struct
 import subprocess
@@ -6,7 +6,8 @@ import time
 
 from support import program
 from support.checks import Case, add_cases
-from support.messages import AAAA, HEADER_LENGTH, NAME_ERROR, REFUSED, RESPONSE, entry, frame, name_of, question, record
+from support.messages import AAAA, CNAME, HEADER_LENGTH, NAME_ERROR, REFUSED, RESPONSE, TRUNCATED, entry, frame, name_of
+from support.messages import question, record, response
 from support.program import LONGEST_RUN, Ended, failed, run
 from support.sessions import HOST, LONGEST_DATAGRAM, ask_until_known, configuration, free_ports, open_socket, port_of
 from support.sessions import serving_one
@@ -15,6 +16,9 @@ from support.sessions import serving_one
 SESSIONS = 3
 
 NO_ANSWER = b" no answer\n"
+
+# How many targets of aliases are asked for, one after the other.
+MOST_LINKS = 8
 
 
 def address(one):
@@ -25,6 +29,16 @@ def address(one):
 def flush(name, stamp):
     """A frame that flushes a name (docs/FORMATS.md)."""
     return frame([struct.pack("!2BQI", 4, 3, stamp, 86400) + name_of(name) + struct.pack("!H", 0)])
+
+
+def refused(asked):
+    """A site's reply to a question of which it has no answer, with RD clear."""
+    return asked[:2] + struct.pack("!H", RESPONSE | REFUSED) + asked[4:]
+
+
+def aliased(asked, target, owner=None):
+    """A site's reply that the name asked for is an alias of a target, with names in full (RFC 1035 3.3.1)."""
+    return response(asked, [record(CNAME, name_of(target), owner=owner or asked[HEADER_LENGTH:-4])], flags=RESPONSE)
 
 
 def in_time(session):
@@ -51,6 +65,10 @@ class Flushes(Case):
             before = int(time.time())
             with subprocess.Popen([program.path(), *words], stdout=subprocess.PIPE, stderr=subprocess.PIPE) as child:
                 for site in (one, other):
+                    asked, client = site.recvfrom(LONGEST_DATAGRAM)
+                    self.check_equal(asked[2:], question(0, name, CNAME, flags=0)[2:])
+                    site.sendto(refused(asked), client)
+                for site in (one, other):
                     sent, source = site.recvfrom(LONGEST_DATAGRAM)
                     self.check_equal(source, (HOST, place))
                     stamp = struct.unpack("!Q", sent[7:15])[0]
@@ -59,7 +77,7 @@ class Flushes(Case):
                     asked, client = site.recvfrom(LONGEST_DATAGRAM)
                     self.check_true(client != source, "another address", client)
                     self.check_equal(asked[2:], question(0, name, rtype, flags=0)[2:])
-                    site.sendto(asked[:2] + struct.pack("!H", RESPONSE | REFUSED) + asked[4:], client)
+                    site.sendto(refused(asked), client)
                 output, errors = child.communicate(timeout=LONGEST_RUN)
             wanted = f"{address(one)} withdrawn\n{address(other)} withdrawn\n".encode()
             return Ended(child.returncode, output, errors), Ended(0, wanted)
@@ -91,6 +109,8 @@ class Answers(Case):
             [place] = free_ports(1)
             words = ["withdraw", "--from", f"{HOST}:{place}", "--to", address(one), "example.com"]
             with subprocess.Popen([program.path(), *words], stdout=subprocess.PIPE, stderr=subprocess.PIPE) as child:
+                asked, client = one.recvfrom(LONGEST_DATAGRAM)
+                one.sendto(refused(asked), client)
                 one.recv(LONGEST_DATAGRAM)
                 asked, client = one.recvfrom(LONGEST_DATAGRAM)
                 for octets in answer(asked):
@@ -135,6 +155,109 @@ add_cases(
         ),
         ("two answers, of which the first counts", lambda asked: [reply(asked, 0, 1), reply(asked, REFUSED)], "still answers: code 0, records 1"),
     ],
+)
+
+
+class Aliases(Case):
+    """Where a site says that the name is an alias."""
+
+    def check(self, *given):
+        """What is said of a site that answers so."""
+        self.check_equal(*in_time(lambda: self.withdraw(*given)))
+
+    def withdraw(self, replies, says, status, last=refused):
+        """A socket as a site is asked for the CNAME of one name after the other, and replies so; then it is sent the
+        flush, and asked for the first name."""
+        with open_socket() as one:
+            [place] = free_ports(1)
+            words = ["withdraw", "--from", f"{HOST}:{place}", "--to", address(one), "www.example.com"]
+            with subprocess.Popen([program.path(), *words], stdout=subprocess.PIPE, stderr=subprocess.PIPE) as child:
+                for name, answer in replies:
+                    asked, client = one.recvfrom(LONGEST_DATAGRAM)
+                    self.check_equal(asked[2:], question(0, name, CNAME, flags=0)[2:])
+                    for octets in answer(asked):
+                        one.sendto(octets, client)
+                sent, source = one.recvfrom(LONGEST_DATAGRAM)
+                self.check_equal((source[1], sent[:7]), (place, flush("www.example.com", 0)[:7]))
+                asked, client = one.recvfrom(LONGEST_DATAGRAM)
+                self.check_equal(asked[2:], question(0, "www.example.com", flags=0)[2:])
+                one.sendto(last(asked), client)
+                output, errors = child.communicate(timeout=LONGEST_RUN)
+            return Ended(child.returncode, output, errors), Ended(status, f"{address(one)} {says}\n".encode())
+
+    def test_two_sites(self):
+        """at one of two sites the name is an alias"""
+        with open_socket() as one, open_socket() as other:
+            [place] = free_ports(1)
+            words = ["withdraw", "--from", f"{HOST}:{place}", "--to", address(one), address(other), "a.example"]
+            with subprocess.Popen([program.path(), *words], stdout=subprocess.PIPE, stderr=subprocess.PIPE) as child:
+                asked, client = one.recvfrom(LONGEST_DATAGRAM)
+                one.sendto(aliased(asked, "b.example"), client)
+                asked, client = other.recvfrom(LONGEST_DATAGRAM)
+                other.sendto(refused(asked), client)
+                asked, client = one.recvfrom(LONGEST_DATAGRAM)
+                self.check_equal(asked[2:], question(0, "b.example", CNAME, flags=0)[2:])
+                one.sendto(refused(asked), client)
+                for site in (one, other):
+                    site.recv(LONGEST_DATAGRAM)
+                    asked, client = site.recvfrom(LONGEST_DATAGRAM)
+                    site.sendto(refused(asked), client)
+                output, errors = child.communicate(timeout=LONGEST_RUN)
+            wanted = f"{address(one)} withdrawn, an alias of b.example., which stays\n{address(other)} withdrawn\n"
+            self.check_equal(Ended(child.returncode, output, errors), Ended(3, wanted.encode()))
+
+    def test_site(self):
+        """a site has an alias and its target; the target stays, and is withdrawn by its own name"""
+        with open_socket() as peer, open_socket() as client:
+            place = port_of(peer)
+            with serving_one(lambda port: configuration(port, [5301], [place], 0)) as site:
+                stamp = int(time.time()) - 100
+                alias = entry("www.example.com", stamp, rtype=CNAME, rdata=name_of("example.com"))
+                site.bring(peer, frame([entry("example.com", stamp), alias]))
+                ask_until_known(site, client, "www.example.com")
+                peer.close()
+                order = ["withdraw", "--from", f"{HOST}:{place}", "--to", f"{HOST}:{site.port}"]
+                stays = f"{HOST}:{site.port} withdrawn, an alias of example.com., which stays\n".encode()
+                self.check_equal(*in_time(lambda: (run([*order, "www.example.com"]), Ended(3, stays))))
+                self.check_equal(ask_until_known(site, client, "example.com"), 1)
+                gone = f"{HOST}:{site.port} withdrawn\n".encode()
+                self.check_equal(*in_time(lambda: (run([*order, "example.com"]), Ended(0, gone))))
+
+
+def chain(*names):
+    """Replies by which each name is an alias of the next, and of the last one nothing is known."""
+    replies = [(name, lambda asked, target=target: [aliased(asked, target)]) for name, target in zip(names, names[1:])]
+    return [*replies, (names[-1], lambda asked: [refused(asked)])]
+
+
+STAYS = "withdrawn, an alias of {}, which stays"
+LOOP = ["www.example.com", "example.com"] * (MOST_LINKS // 2) + ["www.example.com"]
+NOT_ALIASES = [
+    ("a denial of the alias", lambda asked: [response(asked, flags=RESPONSE)]),
+    ("a record of another type", lambda asked: [response(asked, [record(1, bytes([192, 0, 2, 1]))], flags=RESPONSE)]),
+    ("an alias of another class", lambda asked: [response(asked, [record(CNAME, name_of("b.example"), rclass=3)], flags=RESPONSE)]),
+    ("an alias of another owner", lambda asked: [aliased(asked, "b.example", owner="c.example")]),
+    ("what cannot be read", lambda asked: [aliased(asked, "b.example")[:-1]]),
+    ("what was cut off", lambda asked: [response(asked, flags=RESPONSE | TRUNCATED)]),
+]
+add_cases(
+    Aliases,
+    [
+        ("an alias", chain("www.example.com", "host.example.net"), STAYS.format("host.example.net."), 3),
+        ("two aliases in a row", chain("www.example.com", "a.example", "b.example"), STAYS.format("b.example."), 3),
+        ("an alias of a name below", chain("www.example.com", "a.www.example.com"), "withdrawn", 0),
+        ("a name below that is one of another", chain("www.example.com", "a.www.example.com", "b.example"), STAYS.format("b.example."), 3),
+        ("the root", chain("www.example.com", "."), STAYS.format("."), 3),
+        ("aliases in a circle", [*chain(*LOOP)[:-1], ("www.example.com", lambda asked: [aliased(asked, "example.com")])], "withdrawn", 0),
+        ("an alias that is still answered", chain("www.example.com", "b.example"), "still answers: code 0, records 1", 1, lambda asked: reply(asked, 0, 1)),
+        (
+            "a reply to another question, and one to this",
+            [("www.example.com", lambda asked: [aliased(b"\xff\xff" + asked[2:], "c.example"), refused(asked)])],
+            "withdrawn",
+            0,
+        ),
+    ]
+    + [(what, [("www.example.com", answer)], "withdrawn", 0) for what, answer in NOT_ALIASES],
 )
 
 

@@ -8,7 +8,7 @@ from support.program import Ended, failed, run, run_into_file
 from support.sessions import KEY
 
 ROWS = 13
-VERSION = b"dnsfleet 1.0.0 (frames: writes 2, reads 1 and 2)\n"
+VERSION = b"dnsfleet 1.1.0 (frames: writes 2, reads 1 and 2)\n"
 NO_KEY = failed("key: 64 hexadecimal digits wanted", status=2)
 NO_CONFIGURATION = failed("config: not readable")
 

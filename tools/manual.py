@@ -41,7 +41,7 @@ class Option(NamedTuple):
 # A space that does not end a line.
 GLUE = "\a"
 # The day on which the words changed last, set by hand.
-DATE = "2026-11-30"
+DATE = "2026-12-01"
 
 # What no text of the program says.
 STATUS = """\
@@ -56,7 +56,11 @@ allocation failed: a line on standard error says which.
 Or a site did not say that a name is withdrawn.
 .TP
 2
-The words or the key are not taken."""
+The words or the key are not taken.
+.TP
+3
+A name is withdrawn at all sites, and at one of them it was an alias of
+a name that stays."""
 STANDARDS = """\
 .SH STANDARDS
 RFC 1034, RFC 1035, RFC 2181, RFC 2308, RFC 8020."""

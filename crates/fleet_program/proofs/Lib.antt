@@ -10,3 +10,4 @@ mod Counting
 mod ListedFaults
 mod FindTwice
 mod NameIn
+mod AliasAt

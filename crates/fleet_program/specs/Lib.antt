@@ -11,5 +11,6 @@ pub mod Moments
 pub mod Usage
 pub mod Counting
 pub mod Findings
+pub mod Alias
 pub mod NameText
 pub mod steps

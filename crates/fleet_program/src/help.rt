@@ -53,9 +53,9 @@ Example, a site that asks the server at port 5301; with nothing to do it ends af
   dnsfleet serve --config site0.toml --turns 18000 \\
     --key 000102030405060708090a0b0c0d0e0f101112131415161718191a1b1c1d1e1f
 
-Whoever has the key can guess the identifiers of queries: draw one for each site, and keep it secret. A bad key ends
-with status 2; a bad configuration, an address that can't be bound, or output that fails with status 1, with a line on
-standard error.";
+Whoever has the key can guess the identifiers of queries: draw one for each site and each start. Every user of the machine
+sees it in the list of processes, unless /proc is mounted with hidepid=2. A bad key ends with status 2; a bad
+configuration, an address that can't be bound, or output that fails with status 1, with a line on standard error.";
 
 /// What `dnsfleet check --help` says at its end.
 pub const CHECK: &str = "\
@@ -63,18 +63,23 @@ For each good file it prints `FILE: listen ADDR upstreams ADDR.. peers ADDR.. sw
 every fault to standard error, as `FILE: WHAT: KEY, PLACE: FOUND`, in the order in which `serve` looks for them, and the
 status is 1. A line with `warning` is lawful, and surely meant otherwise:
   own address                              the site's own, as an upstream or a peer
-  no loopback address                      to another machine nothing can be sent
+  no loopback address                      an upstream on another machine, to which nothing can be sent
   the upstream has this site as a peer     it reads each question as a frame
   the peer does not have this site as one  it reads each frame as a question
-  two sites at one address                 only one of them can listen there
+  two sites at one address                 only one of them can listen there; not told where some site has a peer on another host
 The last three are seen where both files are given.";
 
 /// What `dnsfleet withdraw --help` says at its end.
 pub const WITHDRAW: &str = "\
-A flush of this moment is sent to each site. Then each is asked for the name with RD clear, from another port of the same
-host, and a line for it says `withdrawn` where it has no answer (code 5), `still answers: code C, records N`, `no answer`
-where none came within two seconds, or `not taken: ..` where it has no peer at that address. Nothing says so where that is
-the address of its upstream. The status is 0 where all say `withdrawn`, 1 where one does not, and 2 for bad words.
+Each site is asked first where the aliases at the name lead: for its CNAME, and for that of each target that it answers.
+Then it is sent a flush of this moment, and asked for the name. It is asked with RD clear, from another port of the same
+host, and a line says of it:
+  withdrawn                                 it has no answer (code 5)
+  withdrawn, an alias of LAST, which stays  the name was an alias, and what is held of LAST stays
+  still answers: code C, records N          it has an answer
+  no answer                                 nothing came within two seconds
+  not taken: ..                             it has no peer at that address; of an upstream nothing says so
+The status is 0 where all say `withdrawn`, 3 where besides an alias stays, else 1, and 2 for bad words.
 
 A name has labels of visible ASCII with dots between them, and a dot at its end or none. In a label `\\.` is a dot, and
 `\\DDD` the octet of this number (RFC 1035 5.1). A type is a word such as MX, or TYPE and a number (RFC 3597 5).

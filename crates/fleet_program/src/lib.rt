@@ -5,6 +5,7 @@
 //! contract: tests show that, and what is printed.
 #![tactic(auto)]
 
+mod asked;
 mod calls;
 mod check;
 mod command;
@@ -56,7 +57,7 @@ use withdraw::run_withdraw;
 const BAD_WORDS: u8 = 2;
 
 /// The version of the program.
-const VERSION: &str = "1.0.0";
+const VERSION: &str = "1.1.0";
 
 // Lets through: another text, since it has no clause. A case of `tests/run` (`test_words`) compares it.
 /// What `--version` prints after the program's name: its version, and those of frames.

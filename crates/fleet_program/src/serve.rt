@@ -52,8 +52,9 @@ pub struct Words<'a> {
 }
 
 impl<'a> Words<'a> {
-    // Lets through: other words than those given. The tested body `words_have_one_turn` has one turn; a
-    // case of `tests/run` (`test_configurations`) sees it.
+    // Lets through: another path, key, number of turns or period than those given, since it has no
+    // clause. The tested body `words_have_one_turn` has one turn; a case of `tests/run`
+    // (`test_configurations`) sees it.
     /// The words that `clap` found; it lets none be absent.
     pub fn of(matches: &ArgMatches<'a>) -> Words<'a> {
         Words {
@@ -65,6 +66,8 @@ impl<'a> Words<'a> {
     }
 }
 
+// Lets through: other options, ranges and texts, since it has no clause. Cases of `tests/run`
+// (`test_words`, `test_reports`) see which words are taken.
 /// The options of `serve`.
 pub fn options<'a>(alloc: Global, command: Command<'a>) -> Result<Command<'a>, AllocError> {
     let config = required(alloc, "config", "FILE", "The configuration, a TOML file");
@@ -158,8 +161,9 @@ pub fn read_start<R: Files>(rt: &R, alloc: Global, path: &str) -> io::Result<Vec
     Ok(octets)
 }
 
-// Lets through: any settings and any fault, since it has no clause. Cases of `tests/run`
-// (`test_configurations`) see each fault, and what is read.
+// Lets through: any settings, also those of another file, and any fault, since neither it nor
+// `read_start` has a clause. Cases of `tests/run` (`test_configurations`) see each fault, and what is
+// read.
 /// What the configuration at a path says. At most one octet more than a configuration has is read of
 /// it.
 pub fn settings_at<R: Files>(
@@ -199,6 +203,10 @@ pub fn print_report<O: Print>(out: &O, report: &Report) -> io::Result<()> {
 /// `sockets` of the laws [`own_replies`](fleet_site::laws::own_replies) and
 /// [`questions_answered`](fleet_site::laws::questions_answered) holds of what the socket received and
 /// was given to send, where socket and log keep their records.
+///
+/// The program's own socket and log keep none. Of these clause `run` says by itself only that some run
+/// of a new site has this report. But the function is the same over every socket and log, and does not
+/// look which it was given. No clause says that the port's peers are those of the settings.
 fn serve_new<S: Socket + Drop, L: CallLog + Drop, C: Clock>(
     alloc: Global,
     port: &mut BurstPort<S, L>,
@@ -217,9 +225,10 @@ fn serve_new<S: Socket + Drop, L: CallLog + Drop, C: Clock>(
     serve_socket(port, clock, &mut rng, &mut site, turns, settings.sweep)
 }
 
-// Lets through: another number of turns, other settings or another clock than it is given, and any
-// output. Three tested bodies are such, `server_reads_its_clock_once` among them; cases of `tests/run`
-// see them.
+// Lets through: serving nothing, or with other settings, another key, another number of turns or another
+// clock than it is given; any output, and any report: it has no clause. The tested bodies
+// `failed_listening_line_is_ignored` and `server_reads_its_clock_once` are such; cases of `tests/run`
+// (`test_serve_output`, `test_serving`) see them.
 /// Prints where a port listens, and serves a number of turns over it.
 fn serve_port<R: time::Clock + AllocGlobal, O: Print, L: CallLog + Drop>(
     rt: &R,
@@ -235,7 +244,11 @@ fn serve_port<R: time::Clock + AllocGlobal, O: Print, L: CallLog + Drop>(
     Ok(report)
 }
 
-// Lets through: any line of counts, and none. Sessions of `tests/run` see it.
+// Lets through: other settings than it is given, another address to bind, any line of counts, and none:
+// it has no clause. It also lets through a port with no peers, or with the upstreams in their place. That
+// port drops a peer's long frame that comes while a message waits, as it does a stranger's. The tested
+// body `port_has_the_upstreams_for_peers` has one. Cases of `tests/run` (`test_bursts`, `test_serving`)
+// see it.
 /// Serves over a socket of the system. Where a period is given, a line of counts is printed after each
 /// so many seconds, and one at the end.
 fn serve_site<R: time::Clock + Net + AllocGlobal, O: Print>(
@@ -253,6 +266,9 @@ fn serve_site<R: time::Clock + Net + AllocGlobal, O: Print>(
     Ok(report)
 }
 
+// Lets through: a silent log, another period, and other lists of addresses for the tally, such as each in
+// place of the other: it has no clause. Cases of `tests/run` (`test_reports`) see when lines come, and
+// most of the counts.
 /// The log of a server: it watches where a period is given, and is silent else.
 fn log_of<'a, R: time::Clock + AllocGlobal, O: Print>(
     rt: &'a R,
@@ -271,13 +287,18 @@ fn log_of<'a, R: time::Clock + AllocGlobal, O: Print>(
     Ok(ServerLog::Watched(watch))
 }
 
+// Lets through: another list, an empty one too, and failing at each call, since it has no clause. What
+// shows is told at `serve_site` and `log_of`.
 /// A copy of a list of addresses.
 fn copy_of(alloc: Global, addrs: &[Addr]) -> Result<Vec<Addr>, AllocError> {
     Vec::from_slice(alloc, addrs)
 }
 
-// Lets through: serving nothing or another number of turns, and printing that always fails, where there
-// are settings: the clauses have the status alone. Sessions of `tests/run` see it.
+// Lets through: where there are settings, serving nothing; serving with other settings, another key,
+// another number of turns or another period; printing other counts, and printing that always fails. The
+// clauses have the status alone. The tested bodies `failed_report_is_ignored` and
+// `server_reports_other_counts` are such; cases of `tests/run` (`test_serve_output`, `test_serving`)
+// see them.
 /// Serves with these settings, if there are any, and prints what was counted. A fault is printed to
 /// standard error, and ends with status 1; where output fails, its error is returned.
 pub fn serve_settings<R: time::Clock + Net + AllocGlobal, O: Print + Eprint>(
@@ -302,8 +323,9 @@ pub fn serve_settings<R: time::Clock + Net + AllocGlobal, O: Print + Eprint>(
     Ok(ExitCode::SUCCESS)
 }
 
-// Lets through: another number of turns than the words say. The tested body `server_serves_one_turn`
-// serves one; a case of `tests/run` (`test_configurations`) sees it.
+// Lets through: the settings of another file, another key, another number of turns or another period
+// than the words say, and any text: the clauses have the status alone. The tested body
+// `server_serves_one_turn` serves one; a case of `tests/run` (`test_configurations`) sees it.
 /// Serves one site as the words say. The key is looked at before the configuration; where it is none,
 /// the status is 2. Else it is 0 or 1, and 1 after a fault of the configuration or of the socket.
 pub fn run_server<R: Files + time::Clock + Net + AllocGlobal, O: Print + Eprint>(

@@ -23,8 +23,12 @@ const WAIT: u64 = 200;
 const LOWEST_FREE: i32 = 3;
 
 /// A UDP socket that is bound to one address, and the system's clock. A receive that waits does so for
-/// 200 milliseconds at most. It keeps no record of its calls: that it does what a `Socket` has to is
-/// read off its six methods, which make one call of the system each, or none (`is_waiting`).
+/// 200 milliseconds at most.
+///
+/// It keeps no record of its calls. So of what it received and sent the clauses say nothing by
+/// themselves: they are proved of the same functions over every socket, which do not look which one
+/// they were given. That it does what a `Socket` has to is read off its six methods, which make one call
+/// of the system each, or none (`is_waiting`).
 #[derive(Drop)]
 pub struct SystemSocket<'a, C: time::Clock> {
     socket: UdpSocket,
@@ -125,7 +129,8 @@ impl<C: time::Clock> Socket for SystemSocket<'_, C> {
     }
 }
 
-// Lets through: failing at each call, as `SystemSocket::bind`. Sessions of `tests/run` see it.
+// Lets through: failing at each call, and a socket at another port, as `SystemSocket::bind`. Sessions of
+// `tests/run` see it.
 /// Makes a port at an address, as [`SystemSocket::bind`] binds it, whose frames come from these peers;
 /// no call has failed. It keeps no record.
 pub fn bind_port<'a, N: Net, C: time::Clock, A: Allocator + Copy>(
@@ -142,7 +147,8 @@ pub fn bind_port<'a, N: Net, C: time::Clock, A: Allocator + Copy>(
     bind_logged(net, clock, alloc, addr, peers, Unnoted)
 }
 
-// Lets through: failing at each call, as `SystemSocket::bind`.
+// Lets through: failing at each call, and a socket at another port, as `SystemSocket::bind`. No clause
+// says which address and peers it is given: its caller `serve_site` has none.
 /// Makes a port as `bind_port` does, which tells a log each of its calls.
 pub fn bind_logged<'a, N: Net, C: time::Clock, A: Allocator + Copy, L: CallLog + Drop>(
     net: &N,
@@ -164,7 +170,8 @@ pub fn bind_logged<'a, N: Net, C: time::Clock, A: Allocator + Copy, L: CallLog +
     }
 }
 
-// Lets through: failing at each call, as `SystemSocket::bind`.
+// Lets through: failing at each call, and a socket at another address, as `SystemSocket::bind`; and
+// another time that receives wait, as `WAIT`.
 /// Opens a socket that is bound to an address, and whose receives wait 200 milliseconds at most.
 fn open<N: Net>(net: &N, addr: Addr) -> io::Result<UdpSocket>
     ensures { IfOk result (λ socket. pos 3 ≤ℤ udp_raw_fd socket) }
@@ -197,6 +204,8 @@ fn is_at(asked: Addr, own: Addr) -> bool
     asked.host == own.host && (asked.port == 0 || asked.port == own.port)
 }
 
+// Lets through: another address than the system tells, and none, since it has no clause. The tested body
+// `socket_is_at_another_port` is such, as at `SystemSocket::bind`.
 /// The address of a socket, if it is one of IPv4.
 fn address_of(socket: &UdpSocket) -> Option<Addr> {
     match socket.local_addr() {

@@ -17,32 +17,60 @@ fn warn<O: Eprint>(out: &O, site: &Checked<'_>, what: &str, key: &str, place: us
 
 /// Prints what is lawful in these configurations, and surely meant otherwise.
 pub fn print_warnings<O: Eprint>(out: &O, sites: &[Checked<'_>]) {
+    let is_one_host = !sites.iter().any(has_distant_peer);
     for (at, site) in sites.iter().enumerate() {
         let config = &site.settings.config;
+        warn_of_distant(out, site);
         warn_of_list(out, site, "upstreams", config.upstreams());
         warn_of_list(out, site, "peers", config.peers());
         for other in sites {
             warn_of_upstreams(out, site, other);
             warn_of_peers(out, site, other);
         }
-        if sites[..at]
-            .iter()
-            .any(|other| other.settings.listen == site.settings.listen)
-        {
-            let (path, listen) = (site.path, AddrText(site.settings.listen));
-            let _ = eprintln!(out; "{path}: warning: two sites at one address: listen: {listen}");
+        if is_one_host {
+            warn_of_places(out, site, &sites[..at]);
         }
     }
 }
 
-/// Warns of addresses in a list that are the site's own, or no loopback addresses.
+/// Whether an address is a loopback one.
+fn is_loopback(addr: Addr) -> bool {
+    addr.host >> 24 == LOOPBACK
+}
+
+/// Whether a site has a peer on another host. Its frames can go there, where the system is told so.
+fn has_distant_peer(site: &Checked<'_>) -> bool {
+    site.settings
+        .config
+        .peers()
+        .iter()
+        .any(|addr| !is_loopback(*addr))
+}
+
+/// Warns of an address where a site before listens, too. Where sites are on several hosts, this is none
+/// to warn of: each host has loopback addresses of its own.
+fn warn_of_places<O: Eprint>(out: &O, site: &Checked<'_>, before: &[Checked<'_>]) {
+    let listen = site.settings.listen;
+    if before.iter().any(|other| other.settings.listen == listen) {
+        let (path, listen) = (site.path, AddrText(listen));
+        let _ = eprintln!(out; "{path}: warning: two sites at one address: listen: {listen}");
+    }
+}
+
+/// Warns of upstreams on other machines: nothing that a site sends gets there.
+fn warn_of_distant<O: Eprint>(out: &O, site: &Checked<'_>) {
+    for (at, addr) in site.settings.config.upstreams().iter().enumerate() {
+        if !is_loopback(*addr) {
+            warn(out, site, "no loopback address", "upstreams", at + 1, *addr);
+        }
+    }
+}
+
+/// Warns of addresses in a list that are the site's own.
 fn warn_of_list<O: Eprint>(out: &O, site: &Checked<'_>, key: &str, addrs: &[Addr]) {
     for (at, addr) in addrs.iter().enumerate() {
         if *addr == site.settings.listen {
             warn(out, site, "own address", key, at + 1, *addr);
-        }
-        if addr.host >> 24 != LOOPBACK {
-            warn(out, site, "no loopback address", key, at + 1, *addr);
         }
     }
 }

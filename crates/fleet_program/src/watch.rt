@@ -195,7 +195,8 @@ impl<'a, C: time::Clock, O: Print, L: CallLog + Drop> CallLog for Watch<'a, C, O
 pub enum ServerLog<'a, C: time::Clock, O: Print> {
     /// It does nothing.
     Silent,
-    /// It counts, and prints lines.
+    /// It counts, and prints lines. Its log keeps no record, so `counted` says nothing by itself: it is
+    /// proved of a watch over every log.
     Watched(Watch<'a, C, O, Unnoted>),
 }
 
@@ -210,7 +211,8 @@ impl<'a, C: time::Clock, O: Print> ServerLog<'a, C, O> {
 
 // Lets through: telling its watch of no call. Cases of `tests/run` (`test_reports`) see it.
 impl<'a, C: time::Clock, O: Print> CallLog for ServerLog<'a, C, O> {
-    /// It keeps no record.
+    /// It keeps no record. So of the calls of a port with this log the clauses say nothing by
+    /// themselves: they are proved of the same functions over every log.
     ghost noted = { λ _. None };
 
     fn note_receive(

@@ -4,6 +4,7 @@ ghost use Rattle.std.specs.Prelude.{[], ◌∷◌, IfOk};
 ghost use Rattle.fleet_observe.specs.Observation.{flush_at};
 ghost use Rattle.fleet_gossip.specs.Frame.{WritesFrame};
 
+use crate::asked::{Answer, AskedSite, ask_sites, follow_aliases};
 use crate::fault::fail;
 use crate::names::{A, name_in, type_in};
 use crate::options::{optional, repeated, required, words};
@@ -13,33 +14,32 @@ use crate::udp_port::SystemSocket;
 use crate::words::address;
 use clap::{ArgMatches, Command};
 use fleet_gossip::encode;
-use fleet_name::{Name, Octets};
+use fleet_name::Name;
 use fleet_observe::{Moment, Observation};
 use fleet_pending::Addr;
 use fleet_site::{Clock, Socket};
 use fleet_wire::bounds::LONGEST_MESSAGE;
-use fleet_wire::class::IN;
-use fleet_wire::rcode::{FORMAT_ERROR, REFUSED};
-use fleet_wire::{Question, read_header, write_query};
+use fleet_wire::rcode::FORMAT_ERROR;
+use fleet_wire::read_header;
 use std::alloc::{AllocError, Global};
 use std::net::Net;
 use std::process::ExitCode;
-use std::time::{self, Duration};
-use std::{fmt, io};
+use std::{io, time};
 use thiserror::Error;
 
 /// The status with which words end that the command does not take.
 const BAD_WORDS: u8 = 2;
 
-/// How many milliseconds the sites have to answer.
-const PATIENCE: u64 = 2000;
+/// The status where all is withdrawn, and at some site an alias led to a name that stays.
+const ALIAS_STAYS: u8 = 3;
 
 /// How many datagrams are looked at that came to the place of the flush, where peers' frames come too.
 const MOST_REFUSALS: u16 = 4096;
 
-// Lets through: another question, other answers and any status, since it has no clause; so have the other
-// functions here but `flush_frame`, which they need not call. The tested bodies `withdraw_asks_with_recursion` and
-// `every_code_is_withdrawn` are such; cases of `tests/run` (`test_withdrawals`) see it.
+// Lets through: other answers and any status, since it has no clause; so have the other functions here but
+// `flush_frame`, and those of asked.rt but `target_in`, which they need not call. The tested bodies
+// `withdraw_asks_with_recursion`, `every_code_is_withdrawn` and `no_alias_is_followed` are such; cases of `tests/run`
+// (`test_withdrawals`) see it.
 /// The options of `withdraw`.
 pub fn options<'a>(alloc: Global, command: Command<'a>) -> Result<Command<'a>, AllocError> {
     let help = "An address that is a peer of the sites, and no upstream";
@@ -132,33 +132,6 @@ fn read_order<'a>(alloc: Global, matches: &ArgMatches<'a>) -> Result<Order, Orde
     })
 }
 
-/// What a site says of a name that was withdrawn.
-#[derive(Clone, Copy, PartialEq, Eq)]
-enum Answer {
-    /// Nothing came.
-    Nothing,
-    /// It has no answer: it refuses a question that it would have to ask an upstream.
-    Withdrawn,
-    /// It answers with this code, and so many records.
-    Still(u8, u16),
-    /// It read the flush as a question, since it has no peer at the address that the flush came from.
-    Untaken,
-}
-
-impl fmt::Display for Answer {
-    fn fmt<W: fmt::Write>(&self, f: &mut fmt::Formatter<W>) -> fmt::Result {
-        match self {
-            Answer::Nothing => write!(f, "no answer"),
-            Answer::Withdrawn => write!(f, "withdrawn"),
-            Answer::Untaken => write!(f, "not taken: the address of --from is none of its peers"),
-            Answer::Still(code, records) => write!(
-                f,
-                "still answers: code {code}, records {records}"
-            ),
-        }
-    }
-}
-
 /// The frame that flushes a name at a moment.
 fn flush_frame(alloc: Global, name: &Name, now: Moment) -> Result<Vec<u8>, AllocError>
     ensures { IfOk result (λ frame. WritesFrame frame.items (flush_at name.now now ∷ [])) }
@@ -168,86 +141,6 @@ fn flush_frame(alloc: Global, name: &Name, now: Moment) -> Result<Vec<u8>, Alloc
     match encode(alloc, &flushes) {
         Ok(frame) => Ok(frame),
         Err(_) => Err(AllocError),
-    }
-}
-
-/// A question for a name with RD clear, so that a site asks no upstream (RFC 1035 4.1.1).
-fn question(alloc: Global, id: u16, order: &Order) -> Result<Vec<u8>, AllocError> {
-    let asked = Question {
-        spelled: Octets::copy_of(alloc, order.name.octets())?,
-        name: order.name.try_clone()?,
-        rtype: order.rtype,
-        class: IN,
-    };
-    let mut octets = write_query(alloc, id, &asked)?;
-    octets[2] = 0;
-    Ok(octets)
-}
-
-/// What a datagram says, if it is a reply to the question.
-fn answer_in(datagram: &[u8], question: &[u8]) -> Option<Answer> {
-    let header = read_header(datagram)?;
-    let asked = question.get(12..)?;
-    if !header.response || datagram[..2] != question[..2] || !datagram[12..].starts_with(asked) {
-        return None;
-    }
-    Some(if header.rcode == REFUSED {
-        Answer::Withdrawn
-    } else {
-        Answer::Still(header.rcode, header.counts[1])
-    })
-}
-
-/// Receives what comes within the time that the sites have, and notes the first answer of each.
-fn receive_answers<C: time::Clock>(
-    asker: &mut SystemSocket<'_, C>,
-    question: &[u8],
-    sites: &[Addr],
-    answers: &mut [Answer],
-) {
-    let Some(began) = asker.time() else {
-        return;
-    };
-    let end = began.saturating_add(Duration::from_millis(PATIENCE));
-    let mut buffer = [0u8; LONGEST_MESSAGE];
-    // A receive waits 200 milliseconds at most; that so many come is not seen.
-    for _ in 0..u32::MAX {
-        match asker.time() {
-            Some(now) if now < end && answers.contains(&Answer::Nothing) => {}
-            _ => return,
-        }
-        let Ok(Some((from, len))) = asker.receive(&mut buffer) else {
-            continue;
-        };
-        if let Some(answer) = answer_in(&buffer[..len], question) {
-            note(sites, answers, from, answer);
-        }
-    }
-}
-
-/// Notes which sites read the flush as a question: they refuse it as one that can't be read, under its
-/// first two octets (RFC 1035 4.1.1).
-fn receive_refusals<C: time::Clock>(
-    place: &mut SystemSocket<'_, C>,
-    flush: &[u8],
-    sites: &[Addr],
-    answers: &mut [Answer],
-) {
-    if place.set_waiting(false).is_err() {
-        return;
-    }
-    let mut buffer = [0u8; LONGEST_MESSAGE];
-    for _ in 0..MOST_REFUSALS {
-        let Ok(Some((from, len))) = place.receive(&mut buffer) else {
-            return;
-        };
-        if is_refusal(&buffer[..len], flush) {
-            for (site, noted) in sites.iter().zip(answers.iter_mut()) {
-                if *site == from {
-                    *noted = Answer::Untaken;
-                }
-            }
-        }
     }
 }
 
@@ -261,36 +154,90 @@ fn is_refusal(datagram: &[u8], flush: &[u8]) -> bool {
     }
 }
 
-/// Notes the first answer of a site, at each place that it has.
-fn note(sites: &[Addr], answers: &mut [Answer], from: Addr, answer: Answer) {
-    for (site, noted) in sites.iter().zip(answers.iter_mut()) {
-        if *site == from && *noted == Answer::Nothing {
-            *noted = answer;
+/// Notes which sites read the flush as a question: they refuse it as one that can't be read, under its
+/// first two octets (RFC 1035 4.1.1).
+fn receive_refusals<C: time::Clock>(
+    place: &mut SystemSocket<'_, C>,
+    flush: &[u8],
+    sites: &mut [AskedSite],
+) {
+    if place.set_waiting(false).is_err() {
+        return;
+    }
+    let mut buffer = [0u8; LONGEST_MESSAGE];
+    for _ in 0..MOST_REFUSALS {
+        let Ok(Some((from, len))) = place.receive(&mut buffer) else {
+            return;
+        };
+        if is_refusal(&buffer[..len], flush) {
+            for site in sites.iter_mut() {
+                if site.address == from {
+                    site.answer = Answer::Untaken;
+                }
+            }
         }
     }
 }
 
-/// Sends octets to each site. What the system refuses is lost, and shows as no answer.
-fn send_to_all<C: time::Clock>(socket: &mut SystemSocket<'_, C>, sites: &[Addr], octets: &[u8]) {
+/// Sends the flush to each site. What the system refuses is lost, and shows as an answer that stays.
+fn send_flush<C: time::Clock>(place: &mut SystemSocket<'_, C>, sites: &[AskedSite], flush: &[u8]) {
     for site in sites {
-        let _ = socket.send(*site, octets);
+        let _ = place.send(site.address, flush);
     }
 }
 
+/// The sites of an order, not asked yet.
+fn sites_of(alloc: Global, order: &Order) -> Result<Vec<AskedSite>, AllocError> {
+    let mut sites = Vec::with_capacity(alloc, order.sites.len())?;
+    for address in order.sites.as_slice() {
+        sites.push(AskedSite::new(alloc, *address, &order.name)?)?;
+    }
+    Ok(sites)
+}
+
+/// Prints what a site says after the flush of a name.
+fn print_site<O: Print>(
+    alloc: Global,
+    out: &O,
+    site: &AskedSite,
+    flushed: &Name,
+) -> io::Result<()> {
+    let address = AddrText(site.address);
+    let answer = site.answer;
+    match site.alias_that_stays(flushed) {
+        Some(last) if answer == Answer::Withdrawn => {
+            let last = last.write_text(alloc)?;
+            println!(out; "{address} {answer}, an alias of {last}, which stays")
+        }
+        _ => println!(out; "{address} {answer}"),
+    }
+}
+
+/// The status that says what became of a name at sites.
+fn status_of(sites: &[AskedSite], flushed: &Name) -> ExitCode {
+    if !sites.iter().all(|it| it.answer == Answer::Withdrawn) {
+        return ExitCode::FAILURE;
+    }
+    if sites
+        .iter()
+        .any(|it| it.alias_that_stays(flushed).is_some())
+    {
+        return ExitCode::from(ALIAS_STAYS);
+    }
+    ExitCode::SUCCESS
+}
+
 /// Withdraws a name at sites, and prints what each of them says then. `None` where an address can't be
-/// bound.
+/// bound. Where aliases lead is asked before: afterwards the site no longer says it.
 fn withdraw<R: time::Clock + Net + AllocGlobal, O: Print>(
     rt: &R,
     out: &O,
     order: &Order,
-) -> io::Result<Option<bool>> {
+) -> io::Result<Option<ExitCode>> {
     let alloc = rt.alloc();
-    let now = SystemClock::new(rt).now();
-    let id = (now.value() % 65536) as u16;
-    let frame = flush_frame(alloc, &order.name, now)?;
-    let question = question(alloc, id, order)?;
-    let sites = order.sites.as_slice();
-    let mut answers = vec![in alloc; Answer::Nothing; sites.len()]?;
+    let mut clock = SystemClock::new(rt);
+    let id = (clock.now().value() % 65536) as u16;
+    let mut sites = sites_of(alloc, order)?;
     let host = order.from.host;
     let (Ok(mut place), Ok(mut asker)) = (
         SystemSocket::bind(rt, rt, order.from),
@@ -298,18 +245,19 @@ fn withdraw<R: time::Clock + Net + AllocGlobal, O: Print>(
     ) else {
         return Ok(None);
     };
-    send_to_all(&mut place, sites, &frame);
-    send_to_all(&mut asker, sites, &question);
-    receive_answers(&mut asker, &question, sites, &mut answers);
-    receive_refusals(&mut place, &frame, sites, &mut answers);
-    for (site, answer) in sites.iter().zip(answers.iter()) {
-        println!(out; "{} {answer}", AddrText(*site))?;
+    follow_aliases(&mut asker, alloc, id, &order.name, &mut sites)?;
+    let flush = flush_frame(alloc, &order.name, clock.now())?;
+    send_flush(&mut place, &sites, &flush);
+    ask_sites(&mut asker, alloc, id, &order.name, order.rtype, &mut sites)?;
+    receive_refusals(&mut place, &flush, &mut sites);
+    for site in sites.as_slice() {
+        print_site(alloc, out, site, &order.name)?;
     }
-    Ok(Some(answers.iter().all(|it| *it == Answer::Withdrawn)))
+    Ok(Some(status_of(&sites, &order.name)))
 }
 
-/// Withdraws a name at sites. The status is 0 where each said that it has no answer, and else 1; 2 for
-/// words that say no order.
+/// Withdraws a name at sites. The status is 0 where each said that it has no answer, 3 where besides a
+/// site had an alias at the name that leads to one which stays, and else 1; 2 for words that say no order.
 pub fn run_withdraw<R: time::Clock + Net + AllocGlobal, O: Print + Eprint>(
     rt: &R,
     out: &O,
@@ -323,9 +271,8 @@ pub fn run_withdraw<R: time::Clock + Net + AllocGlobal, O: Print + Eprint>(
             return Ok(ExitCode::from(BAD_WORDS));
         }
     };
-    Ok(match withdraw(rt, out, &order)? {
-        Some(true) => ExitCode::SUCCESS,
-        Some(false) => ExitCode::FAILURE,
-        None => fail(out, "socket"),
-    })
+    match withdraw(rt, out, &order)? {
+        Some(status) => Ok(status),
+        None => Ok(fail(out, "socket")),
+    }
 }

@@ -1,8 +1,12 @@
 //! A hit at a site that has no memory left: it takes none where the buffer has room. No clause asks
 //! for that.
 //!
-//! Plain hits of each kind of answer, and plain misses, with one who joins and with a full table,
-//! are tried from outside, by `tests/test_events.py`; hits over sockets by `tests/test_serving.py`.
+//! A server gives each datagram to its site by `datagram_into`, in which plain questions have a way of
+//! their own. The datagrams of a script go by `datagram`, which has no such way: those of the worked
+//! examples, of random scripts, and of the lists of `tests/test_events.py`, which have hits of each kind
+//! of answer, and misses, with one who joins and with a full table. Clause `follows` asks the same of
+//! both calls. `datagram_into` is tried from outside over sockets, by `tests/test_serving.py` and
+//! `tests/random_sockets`.
 
 use crate::tests::heaps::rest_of;
 use crate::tests::octets::octets;

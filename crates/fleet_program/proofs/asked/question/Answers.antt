@@ -3,7 +3,7 @@ use Rattle.std.specs.List.{AllByRecursion}
 use Rattle.fleet_name.specs.Types.{Labels}
 use Rattle.fleet_name.specs.Name.{IsLabel, IsName, lower, wire}
 use Rattle.fleet_name.proofs.Lemmas.{any_case-from_lower, lower-wire, lower_all-same}
-use Rattle.fleet_program.proofs.withdraw.question.Goals as goal
+use Rattle.fleet_program.proofs.asked.question.Goals as goal
 
 -- the octets of a name are in lower case
 own_lower : (name : Labels) → IsName name → lower (wire name) ≡ wire name
