@@ -1,4 +1,4 @@
-"""The worked examples: scripts with what they print.
+"""The worked examples: scripts with what they print, examples/drops.py and examples/metrics.py.
 
 An example is a transcript in `cases/examples_*.txt`. It begins with `= ` and what it shows. A
 line behind `> ` is one of the script's, and the lines below it are what it prints. A line that
@@ -6,13 +6,21 @@ begins with `; ` says what the message below it is, as dig would. `<name>` stand
 of `cases/example_messages.txt`.
 """
 
+import os
 import re
+import shutil
+import subprocess
+import sys
+import tempfile
+from pathlib import Path
 
 from support.checks import Case, add_cases, parts_of
 from support.messages import spelled
-from support.program import CASES, TESTS, Ended, run_octet_by_octet, run_script
+from support.program import CASES, LONGEST_RUN, TESTS, Ended, run_octet_by_octet, run_script
+from support.sessions import HOST, open_socket, port_of, waiting
 from support.streams import run_interrupted
 from support.transcripts import text_of
+from test_reports import KEYS
 
 FILES = ("examples_questions.txt", "examples_datagrams.txt", "examples_frames.txt")
 EXAMPLES = 58
@@ -130,3 +138,105 @@ class InTheCrate(Case):
         wanted = [(shows, script) for shows, script, _ in read_examples()]
         if SOURCE.is_file():
             self.check_equal(scripts_of_the_crate(), wanted)
+
+
+# How many long datagrams are sent to a socket that has room for some of them.
+SENT = 30
+
+
+def run_example(name, *words, given=b""):
+    """What a script of examples/ prints, and its status."""
+    script = [sys.executable, "-B", TESTS.parent / "examples" / name]
+    ran = subprocess.run([*script, *words], input=given, capture_output=True, timeout=LONGEST_RUN, check=False)
+    return ran.stdout.decode(), ran.returncode
+
+
+def drops(*words):
+    """What examples/drops.py prints, word by word of each line, and its status."""
+    printed, status = run_example("drops.py", *words)
+    return [line.split() for line in printed.splitlines()], status
+
+
+class Drops(Case):
+    """What the system dropped at the sockets of sites."""
+
+    def test_counted(self):
+        """what found no room at a socket is counted, and what waits there"""
+        with open_socket() as one:
+            address = f"{HOST}:{port_of(one)}"
+            for _ in range(SENT):
+                one.sendto(bytes(16384), one.getsockname())
+            [head, [_, dropped, room]], status = drops(address)
+            kept = len(waiting(one))
+            self.check_equal((head, status), (["site", "dropped", "waiting"], 0))
+            self.check_equal(int(dropped), SENT - kept, f"{kept} of {SENT} were kept")
+            self.check_true(int(room) >= kept * 16384, f"room for {kept} datagrams is taken", room)
+            self.check_equal(drops(address), ([head, [address, dropped, "0"]], 0), "nothing waits any more")
+
+    def test_no_socket(self):
+        """a configuration whose site is down, beside a site that is up; both are looked at twice"""
+        # No other process of the tests has a socket at this host.
+        down = f"127.1.{os.getpid() >> 8 & 255}.{os.getpid() & 255}:5400"
+        with open_socket() as one, tempfile.TemporaryDirectory() as folder:
+            address, path = f"{HOST}:{port_of(one)}", Path(folder) / "site.toml"
+            path.write_text(f'listen = "{down}"\nupstreams = ["127.0.0.1:5301"]\n', encoding="ascii")
+            [head, *lines], status = drops(address, path, "--every", "0.01", "--times", "2")
+            self.check_equal((head, status), (["time", "site", "dropped", "waiting"], 1))
+            self.check_equal([line[1:] for line in lines], [[address, "0", "0"], [down, "no", "socket"]] * 2)
+
+    def test_no_site(self):
+        """neither an address nor a configuration"""
+        self.check_equal(drops("127.0.0.1"), ([], 2))
+
+
+# The counts of a report that may fall. Of each other one the name ends so that Prometheus knows it only grows.
+GAUGES = ("items", "messages-waiting", "frames-waiting", "frames-leaving")
+
+# What stands before a line in the journal.
+JOURNAL = "Dec 01 20:00:00 host dnsfleet[7]: "
+
+
+def counts(more):
+    """A line of a report, each of whose numbers is another one."""
+    return " ".join(f"{key} {place + more}" for place, key in enumerate(KEYS))
+
+
+class Metrics(Case):
+    """The counts of a site as Prometheus reads them."""
+
+    def check(self, before, *lines):
+        """The last of some lines of counts is given, with something before each, and what was dropped at the socket."""
+        text = text_of([before + line for line in ("listening", *lines, "turns 7 received 3 sent 2 lost 0 short 0")])
+        with open_socket() as one:
+            address = f"{HOST}:{port_of(one)}"
+            printed, status = run_example("metrics.py", address, given=text)
+        names = [key.replace("-", "_") + ("" if key in GAUGES else "_total") for key in KEYS]
+        wanted = dict(zip(names, lines[-1].split()[1::2])) if lines else {}
+        wanted["socket_dropped_total"] = "0"
+        numbers = [line for line in printed.splitlines() if not line.startswith("#")]
+        self.check_equal(numbers, [f'dnsfleet_{name}{{site="{address}"}} {count}' for name, count in wanted.items()])
+        self.check_equal(status, 0 if lines else 1)
+        if shutil.which("promtool"):
+            judged = subprocess.run(["promtool", "check", "metrics"], input=printed.encode(), capture_output=True, check=False)
+            self.check_equal((judged.returncode, judged.stdout + judged.stderr), (0, b""), "promtool")
+
+    def test_no_socket(self):
+        """counts of a site that has ended"""
+        down = f"127.1.{os.getpid() >> 8 & 255}.{os.getpid() & 255}:5400"
+        printed, status = run_example("metrics.py", down, given=text_of([counts(7)]))
+        self.check_equal((status, printed.count("# TYPE")), (1, len(KEYS)))
+
+    def test_faults(self):
+        """no address, and a file that is not there"""
+        for words in (["5400"], [f"{HOST}:5400", "/not/there"]):
+            self.check_equal(run_example("metrics.py", *words), ("", 2))
+
+
+add_cases(
+    Metrics,
+    [
+        ("the last of two lines", "", counts(1), counts(100)),
+        ("a line as the journal shows it", JOURNAL, counts(10)),
+        ("a site that has printed no counts", ""),
+    ],
+)

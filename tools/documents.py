@@ -1,5 +1,5 @@
 #!/usr/bin/env python3
-"""Looks whether the pages speak of what is there: links, names and counts.
+"""Looks whether the pages speak of what is there: links, names, counts and commits.
 
     python3 tools/documents.py [FILE.md ..]
 
@@ -13,6 +13,8 @@ It reads every .md file of the repository, or those that are named, and ends wit
 - a clause in PROMISES.md, after its function as in "`Name::push`: `ok`", that the function does not have;
 - a count that is not what the tree has. After a number stands a comment that says what it counts, as in
   `158<!-- count: must-fail -->`; COUNTS lists what can be counted, and such a number without a comment is told too;
+- a commit that does not exist, or is no ancestor of the one that is checked out: a page names what has landed. It passes over
+  commits where the whole history is not at hand: without git, in a copy, in a shallow clone;
 - a page that a source names and that is not there.
 
 A page may name what belongs to others. A line `<!-- elsewhere: NAME .. -->` anywhere in it lists such names; one that a
@@ -21,6 +23,7 @@ source has all the same is told too, as is one that the page never names. Of wha
 
 import os
 import re
+import subprocess
 import sys
 from functools import lru_cache
 from pathlib import Path
@@ -286,6 +289,48 @@ def wrong_clauses(text):
                         yield at, f"no such clause: {function}: {name}"
 
 
+# Commits.
+
+COMMIT = re.compile(r"(?<![\w.,-])[0-9a-f]{7,40}(?![\w-])")
+
+
+@lru_cache(None)
+def git(*words):
+    """What git says of the repository, or None where it fails or is not there."""
+    try:
+        ran = subprocess.run(["git", "-C", ROOT, *words], capture_output=True, text=True, check=False)
+    except OSError:
+        return None
+    return None if ran.returncode else ran.stdout.strip()
+
+
+def has_history():
+    """Whether the whole history is at hand: the last word is the folder in the work tree, none at the top."""
+    words = ("--is-inside-work-tree", "--is-shallow-repository", "--show-prefix")
+    return git("rev-parse", *words) == "true\nfalse"
+
+
+def commits_in(text):
+    """The commits that a page names, each with its line: words of 7 to 40 hexadecimal digits in a table, or in a line that
+    speaks of a commit. Code and numbers count where the line does, or the head of the table."""
+    head = ""
+    for at, line in enumerate(text.splitlines(), 1):
+        is_row = line.startswith("|")
+        head = (head or line) if is_row else ""
+        is_said = re.search(r"\bcommits?\b", head + line, re.I)
+        if is_row or is_said:
+            found = COMMIT.findall(line if is_said else re.sub(r"`[^`]*`", " ", line))
+            yield from ((at, it) for it in found if is_said or not it.isdigit())
+
+
+def wrong_commits(text):
+    for at, commit in commits_in(text) if has_history() else []:
+        if git("rev-parse", "--verify", "--quiet", f"{commit}^{{commit}}") is None:
+            yield at, f"no such commit: {commit}"
+        elif git("merge-base", "--is-ancestor", commit, "HEAD") is None:
+            yield at, f"a commit that has not landed: {commit}"
+
+
 def wrong_pages():
     """Pages that a source names and that are not there."""
     for file in SOURCES:
@@ -302,7 +347,7 @@ def wrong(file):
     prose = unread(text, BLOCK)
     found = [*wrong_links(file, prose)]
     if not file.startswith(GENERATED):
-        found += [*wrong_names(prose), *wrong_commands(text), *wrong_counts(prose)]
+        found += [*wrong_names(prose), *wrong_commands(text), *wrong_counts(prose), *wrong_commits(prose)]
     if file == "docs/PROMISES.md":
         found += wrong_clauses(prose)
     return [f"{file}:{at}: {what}" for at, what in sorted(found)]

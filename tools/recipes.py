@@ -9,8 +9,9 @@ script below examples/. A block without a language right after a recipe is what 
 program running, other lines may come between. A TTL and a number of seconds may differ.
 
 `rt try .. -- WORDS` and `rt run -- WORDS` run the proved program in place of a new build. `apt-get` does nothing, and a
-recipe that is only `./check` is left out. The status is 1 where something else is printed, a recipe fails, or the clone is
-not as it was.
+recipe that is only `./check` is left out. So is one below a comment such as `<!-- needs: unbound -->` where that program is
+not installed, and a line says so. The status is 1 where something else is printed, a recipe fails, or the clone is not as it
+was.
 """
 
 import os
@@ -27,20 +28,24 @@ PAGES = ("README.md", "docs/OPERATING.md")
 PRINTED = {"agree-datagrams": "agree"}
 BLOCK = re.compile(r"^```(\w*)\n(.*?)^```$", re.M | re.S)
 LEFT_OUT = ("./check",)
+NEEDS = re.compile(r"<!-- needs: (\S+) -->\s*$")
 SECONDS = 300
 END = "-- the recipe ended with"
 # What stands in place of commands, so that the proved program is run and nothing is installed.
 IN_PLACE = {"rt": 'while [ "$1" != -- ]; do shift; done; shift; exec "$PROGRAM" "$@"', "apt-get": ":"}
 
 
-def recipes(text):
-    """The recipes of a page, each with its line and what it prints, or nothing where the page does not say."""
+def recipes(page, text, path):
+    """The recipes of a page that can run, each with its line and what it prints, or nothing where the page does not say."""
     blocks = list(BLOCK.finditer(text))
     for at, block in enumerate(blocks):
-        if block[1] == "sh" and block[2].strip() not in LEFT_OUT:
+        line, needs = text.count("\n", 0, block.start()) + 1, NEEDS.search(text, 0, block.start())
+        if needs and not shutil.which(needs[1], path=path):
+            print(f"{page}:{line}: skipped: {needs[1]} is not installed")
+        elif block[1] == "sh" and block[2].strip() not in LEFT_OUT:
             after = blocks[at + 1] if at + 1 < len(blocks) else None
             printed = after and not after[1] and "```" not in text[block.end() : after.start()]
-            yield text.count("\n", 0, block.start()) + 1, block[2], after[2] if printed else None
+            yield line, block[2], after[2] if printed else None
 
 
 def plain(text):
@@ -58,7 +63,7 @@ def is_printed(wanted, got, leaves_running):
 
 def run_page(page, folder, environment):
     """Runs the recipes of a page, and gives what is wrong."""
-    found = list(recipes((folder / page).read_text()))
+    found = list(recipes(page, (folder / page).read_text(), environment["PATH"]))
     script = "exec 2>&1\n" + "".join(f'{text}\necho "{END} $?"\n' for _, text, _ in found)
     with subprocess.Popen(["bash"], cwd=folder, env=environment, stdin=subprocess.PIPE, stdout=subprocess.PIPE, text=True,
                           errors="replace", start_new_session=True) as shell:

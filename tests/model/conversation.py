@@ -1,11 +1,13 @@
 """Random conversations with running sites: clients, upstreams that lie, repeat, answer late or never, and peers.
 
 After each step a client puts a question to the site that no site can answer. When its reply is there, all that came
-before was handled, and all that the site sent is there: a site handles datagrams in their order, and a datagram on the
-loopback is there when it was sent. So nothing is waited for that may not come."""
+before was handled, and what the site sent for it is there: a site handles datagrams in their order, and a datagram on
+the loopback is there when it was sent. Only the ticks of the last turn come behind the reply. Where they may be under
+way, what still comes is waited for."""
 
 import random as randomness
 import tempfile
+import time
 
 from .frames import pack
 from .generator.frames import FrameMaker
@@ -21,6 +23,7 @@ from .watched import Unexpected, Watched
 
 SITES = 2
 SHORT = 512                         # octets that a site sends at once, and handles in their order
+TICKING = 5                         # seconds within which a site that was seen at its ticks has sent the rest of them
 ACTIONS = {"ask": 30, "ask_together": 12, "answer": 26, "lie": 14, "late": 8, "frame": 14, "silence": 1.5}
 
 
@@ -119,16 +122,27 @@ class Conversation:
         """Sends datagrams to a site, and compares what it sends with the models. A datagram is a socket and octets.
 
         The site reads its clock for a datagram behind the turn of what came before. So the probe before it bounds the
-        moments from below."""
+        moments from below. Where what came fits no model, the site may stand in the middle of its ticks, without a
+        processor. Then what still comes is compared too. Nothing is sent to it meanwhile: what only another datagram
+        would bring stays missing."""
         self.did = ", ".join(f"{endpoint.address} sent {octets.hex()}" for endpoint, octets in datagrams) or "nothing"
         earliest = whole_seconds()
         self.probe(place)
         for endpoint, octets in datagrams:
             endpoint.send(place.site.place, octets)
         self.probe(place)
-        came, identifiers = self.drain(place)
-        handed = [(endpoint.address, identifiers.get(question_of(octets), 0), octets) for endpoint, octets in datagrams]
-        place.watched.narrow(handed, (earliest, whole_seconds()), came)
+        end = time.monotonic() + TICKING
+        while True:
+            self.collect()
+            left = end - time.monotonic()
+            try:
+                came = self.compare(place, datagrams, earliest)
+                break
+            except Unexpected:
+                if left <= 0:
+                    raise
+            wait_for_any(self.endpoints(), left)
+        place.unread = []
         for frame in came.get(place.listener.address, []):
             for other in self.places:
                 if other is not place:
@@ -147,21 +161,30 @@ class Conversation:
         if len(replies) != 1 or int.from_bytes(replies[0][:2], "big") != self.probes:
             raise Unexpected(f"the replies to a probe are {replies}")
 
-    def drain(self, place):
-        """All that a site sent, by address, and the identifiers of its queries, by question."""
-        for endpoint in [*self.clients, self.stranger, *(each for other in self.places for each in other.endpoints())]:
+    def endpoints(self):
+        """The sockets at which sites may send something, but for the prober's."""
+        return [*self.clients, self.stranger, *(each for place in self.places for each in place.endpoints())]
+
+    def collect(self):
+        """Takes all that came, and keeps it with the site that sent it. What another program of the machine sent to one
+        of these ports is passed over."""
+        for endpoint in self.endpoints():
             for sender, octets in endpoint.received():
-                senders = [other for other in self.places if other.site.place == sender]
-                if not senders:
-                    raise Unexpected(f"{address_text(sender)} sent {octets.hex()} to {endpoint.address}")
-                senders[0].unread.append((endpoint, octets))
+                for place in self.places:
+                    if place.site.place == sender:
+                        place.unread.append((endpoint, octets))
+
+    def compare(self, place, datagrams, earliest):
+        """Compares what a site sent with the models, and gives it by address. A new question has the identifier of its
+        query to the first upstream. To the second one a query of an older question may go, which failed meanwhile."""
         came, identifiers = {}, {}
         for endpoint, octets in place.unread:
             came.setdefault(endpoint.address, []).append(octets)
-            if endpoint in place.upstreams:
+            if endpoint is place.upstreams[0]:
                 identifiers[question_of(octets)] = int.from_bytes(octets[:2], "big")
-        place.unread = []
-        return came, identifiers
+        handed = [(endpoint.address, identifiers.get(question_of(octets), 0), octets) for endpoint, octets in datagrams]
+        place.watched.narrow(handed, (earliest, whole_seconds()), came)
+        return came
 
     # Actions
 
@@ -256,10 +279,10 @@ class Conversation:
         self.hand(place, (place.listener if self.random.random() < 0.9 else self.stranger, octets))
 
     def silence(self, place):
-        """Nobody answers, until the site asks the next upstream or gives up."""
+        """Nobody answers, until the site asks the next upstream or gives up, or did so since the last step at it."""
         if not all(model.entries for model in place.watched.models):
             return
-        if not wait_for_any([*place.upstreams, *self.clients], PATIENCE):
+        if not place.unread and not wait_for_any([*place.upstreams, *self.clients], PATIENCE):
             raise Unexpected("it asks no other upstream and does not give up")
         note("sockets: nobody answers in time")
         self.hand(place)
