@@ -40,7 +40,7 @@ FAULTS = {
 # `serve` has no such answer, and counts each step as short. A text that is too long is reported before any allocation: a clause
 # of `read_settings` says so.
 IN_PLACE_OF = {
-    "serve": ("server.rt", "carry_out", "if true { report.count_short(); return false; }"),
+    "serve": ("server.rt", "carry_out", "if true { count_one(&mut report.short); return false; }"),
     "read_settings": (
         "settings.rt",
         "read_settings",
