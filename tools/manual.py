@@ -59,8 +59,8 @@ Or a site did not say that a name is withdrawn.
 The words or the key are not taken.
 .TP
 3
-A name is withdrawn at all sites, and at one of them it was an alias of
-a name that stays."""
+A name is withdrawn at all sites, and at one of them it was an alias
+that ended at a name which the flush does not reach."""
 STANDARDS = """\
 .SH STANDARDS
 RFC 1034, RFC 1035, RFC 2181, RFC 2308, RFC 8020."""

@@ -61,25 +61,26 @@ configuration, an address that can't be bound, or output that fails with status 
 pub const CHECK: &str = "\
 For each good file it prints `FILE: listen ADDR upstreams ADDR.. peers ADDR.. sweep SECONDS`. For each other one it prints
 every fault to standard error, as `FILE: WHAT: KEY, PLACE: FOUND`, in the order in which `serve` looks for them, and the
-status is 1. A line with `warning` is lawful, and surely meant otherwise:
+status is 1. A line with `warning` names what is valid, and probably a mistake:
   own address                              the site's own, as an upstream or a peer
   no loopback address                      an upstream on another machine, to which nothing can be sent
   the upstream has this site as a peer     it reads each question as a frame
   the peer does not have this site as one  it reads each frame as a question
-  two sites at one address                 only one of them can listen there; not told where some site has a peer on another host
+  two sites at one address                 only one of them can listen there; not told if some file has a peer outside 127.0.0.0/8
 The last three are seen where both files are given.";
 
 /// What `dnsfleet withdraw --help` says at its end.
 pub const WITHDRAW: &str = "\
-Each site is asked first where the aliases at the name lead: for its CNAME, and for that of each target that it answers.
-Then it is sent a flush of this moment, and asked for the name. It is asked with RD clear, from another port of the same
-host, and a line says of it:
-  withdrawn                                 it has no answer (code 5)
-  withdrawn, an alias of LAST, which stays  the name was an alias, and what is held of LAST stays
-  still answers: code C, records N          it has an answer
+First each site is asked for the CNAME of the name, then of the target that it answers, and so on, for up to eight targets.
+It has two seconds for each. Then the site is sent a flush of this moment, and is asked for the name. Questions have RD
+clear, and come from another port of the same host. A line for each site says what became of the name there:
+  withdrawn                                 the site has no answer (code 5)
+  withdrawn, an alias of LAST, which stays  the name was an alias that ended at LAST, which the flush does not reach
+  still answers: code C, records N          the site has an answer
   no answer                                 nothing came within two seconds
-  not taken: ..                             it has no peer at that address; of an upstream nothing says so
-The status is 0 where all say `withdrawn`, 3 where besides an alias stays, else 1, and 2 for bad words.
+  not taken: ..                             the address of --from is no peer of the site; if it is an upstream, this is not told
+The status is 0 if each site says `withdrawn`, 3 if besides an alias stays at one of them, 1 if a site says something else,
+and 2 for bad words.
 
 A name has labels of visible ASCII with dots between them, and a dot at its end or none. In a label `\\.` is a dot, and
 `\\DDD` the octet of this number (RFC 1035 5.1). A type is a word such as MX, or TYPE and a number (RFC 3597 5).
