@@ -98,6 +98,17 @@ def dropped_by_system(server):
     return catchup.Site.dropped(server)
 
 
+class Drops:
+    """How many datagrams the system dropped at the socket of a server in each phase of a trial."""
+
+    def __init__(self, server):
+        self.server, self.phases, self.so_far = server, [], dropped_by_system(server)
+
+    def end_phase(self):
+        before, self.so_far = self.so_far, dropped_by_system(self.server)
+        self.phases.append(self.so_far - before)
+
+
 class Site(catchup.Site):
     """A running site that prints a report each second."""
 

@@ -19,7 +19,7 @@ from statistics import median
 sys.dont_write_bytecode = True
 
 import beside
-from beside import Bound, Client, Flooders, Site, ask_all, catchup, churn, dropped_by_system, head, is_right, memory_of
+from beside import Bound, Client, Drops, Flooders, Site, ask_all, catchup, churn, dropped_by_system, head, is_right, memory_of
 from beside import question, row, word_of
 from jumps import clock
 
@@ -206,20 +206,14 @@ def answered(port, numbers, options, recursion, most=50):
 
 
 def fill(options, first):
-    """Asks for new names until one in ten of some is not answered, or the names are over. Gives those that were answered,
-    and the number of the next one."""
-    taken, at = [], first
-    while at < first + options.names:
+    """Asks for new names until twice in a row one in ten of some is not answered, or the names are over: once alone it may
+    be the machine that is busy. Gives those that were answered, and the number of the next one."""
+    taken, at, short = [], first, 0
+    while at < first + options.names and short < 2:
         good, _, _ = answered(SITE, range(at, at + SOME), options, True, 100)
         taken, at = taken + good, at + SOME
-        if len(good) < SOME * 0.9:
-            break
+        short = short + 1 if len(good) < SOME * 0.9 else 0
     return taken, at
-
-
-def lost_at(site):
-    """How many datagrams the system dropped at the socket of a site so far, and how many messages its port did."""
-    return dropped_by_system(site), site.counts()["messages-dropped"]
 
 
 def shown(words):
@@ -229,24 +223,34 @@ def shown(words):
 def limit_once(options, site, first):
     """Fills a site to its limit, and looks what it does until all of that has ended. Gives the number of the next name,
     and what was not as it should be."""
-    began = time.monotonic()
+    began, drops = time.monotonic(), Drops(site)
     taken, at = fill(options, first)
-    kept, _, _ = answered(SITE, taken, options, False)
+    drops.end_phase()
+    kept, once, _ = answered(SITE, taken, options, False)
+    drops.end_phase()
     _, new, late = answered(SITE, range(at, at + NEW), options, True, 100)
-    before = lost_at(site)
+    drops.end_phase()
+    before = site.counts()
     again, other, _ = answered(SITE, kept, options, False)
-    by_system, by_port = (after - count for count, after in zip(before, lost_at(site)))
+    drops.end_phase()
+    now = site.counts()
+    received, by_port = (now[key] - before[key] for key in ("questions", "messages-dropped"))
+    missing = len(kept) + other["asked again"] - received
     lasted, held = time.monotonic() - began, memory_of(site)
     sample = kept[:: max(1, len(kept) // NEW)]
     gossip, _, _ = answered(PEER, sample, options, False)
     time.sleep(options.ttl + 2)
+    drops.end_phase()
     after, _, _ = answered(SITE, range(at + NEW, at + 2 * NEW), options, True)
     stay, _, _ = answered(SITE, after, options, False)
+    drops.end_phase()
     row(f"{len(taken):,}", f"{len(kept):,}", shown(new), f"{min(late):.1f} to {max(late):.1f}" if late else "none",
-        f"{len(again):,}, {other['asked again']}", f"{by_system}, {by_port}", f"{len(gossip)} of {len(sample)}",
-        f"{len(after)}, {len(stay)}", f"{held:.1f}, {memory_of(site):.1f}", f"{lasted:.0f}")
+        f"{len(again):,}", f"{once['asked again']}, {other['asked again']}", ", ".join(map(str, drops.phases)),
+        f"{missing}, {by_port}", f"{len(gossip)} of {len(sample)}", f"{len(after)}, {len(stay)}",
+        f"{held:.1f}, {memory_of(site):.1f}", f"{lasted:.0f}")
     wrong = {f"kept names at the limit: {shown(other)}": len(again) < len(kept),
              "the limit was not reached, as the names were over": at >= first + options.names,
+             f"the limit was not reached: of {NEW} new ones {new['answer']} were answered": new["answer"] > NEW / 2,
              f"it took {lasted:.0f} s, so names may have ended": lasted > options.ttl - 2,
              f"after the TTL: {len(after)} new names answered, {len(stay)} kept, of {NEW}": len(stay) < NEW}
     return at + 2 * NEW, [text for text, is_wrong in wrong.items() if is_wrong]
@@ -262,8 +266,9 @@ def limit(options, folder, stack):
                 preexec_fn=lambda: resource.setrlimit(resource.RLIMIT_AS, (room, room)))
     stack.callback(site.end)
     stack.callback(Site(options, folder, PEER, [NSD], [SITE], 5).end)
-    head("Answered while filled", "Kept", f"{NEW} new ones at the limit", "Seconds to code 2",
-         "Kept, once more; asked twice", "Dropped meanwhile by the system, by the port", "Of some at a peer",
+    head("Answered while filled", "Kept", f"{NEW} new ones at the limit", "Seconds to code 2", "Kept, once more",
+         "Asked twice: for kept ones, once more", "Dropped by the system: filled, kept, new, once more, until the TTL, after",
+         "Once more: questions not received, dropped by the port", "Of some at a peer",
          f"Of {NEW} new ones after the TTL: answered, kept", "MiB at the limit, after", "Seconds at the limit")
     bound, first, faults = Bound(options.seconds), 0, []
     for number in range(1, options.rounds + 1):
@@ -284,7 +289,7 @@ WORDS = {
             "flooders": (2, "addresses that flood"), "length": (10.0, "seconds of a run"), "times": (3, "runs"),
             "rate": (1000, "questions a second of the client"), "names": (100, "known names"), "size": (40, "octets of junk")},
     limit: {"limit": (24, "MiB that the site may have"), "names": (200_000, "names that it is asked for at most"),
-            "ttl": (60, "seconds that a name lives"), "rounds": (30, "fillings")},
+            "ttl": (60, "seconds that a name lives"), "rounds": (12, "fillings")},
     clock: {"jumps": (1500, "jumps"), "pause": (2.0, "seconds between two"), "names": (100, "names that are looked at"),
             "rate": (1000, "questions a second beside")},
 }
