@@ -23,6 +23,12 @@ form of this tool wrote among them.
 With --only NAME (more than once, if need be) the bodies of that name alone; with --stale-only those alone whose verdict is
 stale; --jobs N shares the bodies of a crate out to N copies, each with a run of its own (FOLDER-2 is the second room). It ends
 with 1 where a body was not refused, is no edit or was not spoken of. One that could not be tried keeps its verdict from before.
+
+With --together the bodies that stand inside of functions are tried many at a time: one check of a copy with at most one in
+each function (`rt check --allow-holes`) says of each function what of it is not proved. A body is refused if a goal of its own
+function stays open, or a stored answer of that is refused by what it means. An answer that is not found any more, or a callee
+that is not proved, shows nothing. Such bodies, and those in a head, a constant or a type, are tried by `rt must-fail`. What
+`rt check` kept of the crate (its out/) is copied.
 """
 
 import argparse
@@ -35,6 +41,7 @@ import tempfile
 import threading
 from concurrent.futures import ThreadPoolExecutor
 from pathlib import Path
+from typing import NamedTuple
 
 sys.dont_write_bytecode = True
 import promises
@@ -44,6 +51,11 @@ FOLDER = "wrong-bodies"
 # What `rt must-fail` says of an edit, and the verdicts that are kept of it.
 TOLD = re.compile(r"rt: must-fail (\w+)/(\w+)\.edit: (refused|NOT REFUSED|BAD EDIT|NOT TRIED)\b")
 KEPT = {"refused": "refused", "NOT REFUSED": "passed"}
+# What `rt check` says of a function: what of its own is not proved. And what it says of an answer that it does not find.
+CHECKED = re.compile(r"^fn (\S+): (.*)$", re.M)
+OWN_GOALS = re.compile(r"did not prove ((?:`[^`]+`(?:, | and )?)+)")
+OWN_ANSWER = re.compile(r"stands on `\S+?\.proofs\.(\S+)\.Answers\.(\S+)`, which antt refuses")
+NOT_FOUND = "that can be named from here"
 
 
 def read_crates():
@@ -169,6 +181,132 @@ def lay_out(room, lines, below, name, bodies):
         shutil.copy(body, edits)
 
 
+class Place(NamedTuple):
+    """A function in whose body the texts of a wrong body stand: its file, its type, if it is of one, and its name."""
+
+    file: str
+    owner: str
+    name: str
+
+    def is_of(self, crate, path):
+        """Whether a function that `rt check` names is this one, or a closure or an instance inside of it."""
+        module = self.file.removeprefix("src/").removesuffix(".rt").replace("/", "::")
+        head = f"{crate}::" if module == "lib" else f"{crate}::{module}::"
+        rest = path.removeprefix(head).split("::")
+        if not path.startswith(head):
+            return False
+        return rest[0] == "fn" and self.name in rest or rest[-1] == self.name and "::".join(rest[:-1]).startswith(self.owner)
+
+
+def type_of(words):
+    """The type that an `impl` or a trait is of, by the words before its brace; nothing where these are of another item."""
+    depth, found = 0, ""
+    for word in words if "impl" in words or "trait" in words else []:
+        depth += (word == "<") - (word == ">")
+        if depth == 0 and word[0].isupper() and not found:
+            found = word
+        elif depth == 0 and word == "for":
+            found = ""
+    return found
+
+
+def functions_in(text):
+    """The functions of a file: the type that each is of, or nothing, its name, and where its body begins and ends."""
+    spans = [(it[0], *it.span()) for it in promises.TOKEN.finditer(text)]
+    spans = [it for it in spans if not it[0].isspace() and not it[0].startswith(("//", "/*"))]
+    words, owner, item, at = [it[0] for it in spans], [], [], 0
+    while at < len(words):
+        if words[at] == "fn" and words[at + 1].isidentifier():
+            end = promises.end_of_head(words, at)
+            stop = promises.end_of_group(words, end)
+            yield next((it for it in reversed(owner) if it), ""), words[at + 1], spans[end][1], spans[stop - 1][2]
+            at, item = stop, []
+            continue
+        if words[at] == "{":
+            owner.append(type_of(item))
+        elif words[at] == "}":
+            owner.pop()
+        item = [] if words[at] in "{};" else [*item, words[at]]
+        at += 1
+
+
+def place_of(body):
+    """The function in whose body all texts of a wrong body stand, or None."""
+    crate, file, places = body.parent.parent, None, set()
+    for line in promises.read(body).splitlines():
+        word, _, rest = line.partition(": ")
+        if word == "file":
+            file = rest
+        elif word == "old":
+            text = promises.read(crate / file)
+            at = text.find(rest)
+            inside = [it for it in functions_in(text) if it[2] <= at and at + len(rest) <= it[3]]
+            places.add(Place(file, *inside[0][:2]) if inside else None)
+    return places.pop() if len(places) == 1 else None
+
+
+def rounds_of(bodies):
+    """Bodies by rounds, each with at most one body a function, and the bodies that stand in none."""
+    rounds, alone = [], []
+    for body in bodies:
+        place = place_of(body)
+        free = [it for it in rounds if place not in it]
+        if place is None:
+            alone.append(body)
+        elif free:
+            free[0][place] = body
+        else:
+            rounds.append({place: body})
+    return rounds, alone
+
+
+def edited(room, name, body):
+    """Lays a body into the copy of its crate."""
+    file, old = None, None
+    for line in promises.read(body).splitlines():
+        word, _, rest = line.partition(": ")
+        if word == "file":
+            file = room / "crates" / name / rest
+        elif word == "old":
+            old = rest
+        elif word == "new":
+            text = promises.read(file)
+            assert text.count(old) == 1, f"{body.stem}: {old}"
+            file.write_text(text.replace(old, rest), encoding="utf-8")
+
+
+def judged(told, crate, place):
+    """What a check tells of the body in a function: what refuses it; or None where it shows nothing."""
+    for path, said in CHECKED.findall(told):
+        if place.is_of(crate, path):
+            goals, answers = OWN_GOALS.search(said), OWN_ANSWER.findall(said)
+            lost = [it for it in answers if re.search(rf"{it[0].replace('.', '/')}/Answers\.antt:.*{it[1]}.*{NOT_FOUND}", told)]
+            if goals:
+                return f"{path}: {goals[1]}"
+            if answers and not lost:
+                return f"{path}: " + ", ".join(f"`{it[1]}`" for it in answers)
+    return None
+
+
+def try_together(room, lines, below, name, bodies, note):
+    """Tries bodies of a crate many at a time, and gives those of which that showed nothing."""
+    rounds, left = rounds_of(bodies)
+    for each in rounds:
+        lay_out(room, lines, below, name, [])
+        shutil.copytree(ROOT / "crates" / name / "out", room / "crates" / name / "out", dirs_exist_ok=True)
+        for body in each.values():
+            edited(room, name, body)
+        words = ["rt", "check", "--allow-holes"]
+        ran = subprocess.run(words, cwd=room / "crates" / name, capture_output=True, text=True, check=False)
+        for place, body in each.items():
+            why = judged(ran.stdout + ran.stderr, name, place)
+            if why:
+                note(f"{name}/{body.stem}.edit: refused: {why}", body.stem, "refused")
+            else:
+                left.append(body)
+    return left
+
+
 def try_share(room, lines, below, name, bodies, note):
     """Tries bodies of a crate in a copy: passes each line of `rt must-fail` on, with the body that it speaks of and what it
     tells of it; and names those of which it told nothing."""
@@ -187,7 +325,7 @@ def try_share(room, lines, below, name, bodies, note):
         note(f"{name}/{body}.edit: nothing was said of it", body, None)
 
 
-def try_crate(rooms, lines, states, name, bodies):
+def try_crate(rooms, lines, states, name, bodies, together=False):
     """Tries bodies of a crate, shared out to the rooms; says whether each was refused."""
     refused, lock = set(), threading.Lock()
     stamps = {it.stem: states.stamp(it) for it in bodies}
@@ -202,8 +340,10 @@ def try_crate(rooms, lines, states, name, bodies):
             if told == "refused":
                 refused.add(body)
 
+    if together:
+        bodies = try_together(rooms[0], lines, states.below, name, bodies, note)
     shares = [(room, bodies[at :: len(rooms)]) for at, room in enumerate(rooms) if bodies[at :: len(rooms)]]
-    with ThreadPoolExecutor(len(shares)) as pool:
+    with ThreadPoolExecutor(len(shares) or 1) as pool:
         for done in [pool.submit(try_share, room, lines, states.below, name, it, note) for room, it in shares]:
             done.result()
     return refused == stamps.keys()
@@ -217,6 +357,7 @@ def main():
     words.add_argument("--stale", action="store_true")
     words.add_argument("--stale-only", action="store_true")
     words.add_argument("--only", action="append", default=[])
+    words.add_argument("--together", action="store_true")
     words.add_argument("--jobs", type=int, default=1)
     words.add_argument("--room", type=Path)
     given = words.parse_args()
@@ -237,7 +378,7 @@ def main():
                 bodies = stale_bodies(states, name) if given.stale_only else bodies_of(name)
                 bodies = [it for it in bodies if not given.only or it.stem in given.only]
                 if bodies:
-                    well = try_crate(rooms, lines, states, name, bodies) and well
+                    well = try_crate(rooms, lines, states, name, bodies, given.together) and well
     return 0 if well else 1
 
 
