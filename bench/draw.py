@@ -144,10 +144,10 @@ def curves(title, across, up, series, log_x=False, log_y=False):
     return picture(title, drawn + legend(series))
 
 
-def bars(title, up, groups, series):
+def bars(title, across, up, groups, series):
     """Bars side by side: of each group one in each series."""
     y_axis = Axis([value for some in series.values() for value in some], HEIGHT - BELOW, ABOVE, False)
-    drawn = frame(title, "", up) + heights(y_axis)
+    drawn = frame(title, across, up) + heights(y_axis)
     room = (WIDTH - RIGHT - LEFT) / len(groups)
     width = room * 0.8 / len(series)
     for group, name in enumerate(groups):
@@ -166,6 +166,10 @@ def picture(title, drawn):
     return "\n".join([head, *drawn, "</svg>"]) + "\n"
 
 
+# What the colours of the next two pictures are.
+ASKED = "by the number of names and the client; mixed: questions in mixed case"
+
+
 def servers(place):
     """The servers of the table, and a series for each row: of each server the first or the second figure of its cell."""
     rows, heads = table("bench/serve/README.md", "Names, client"), " rate, CPU"
@@ -175,13 +179,13 @@ def servers(place):
 
 
 def draw_servers():
-    return bars("Answers a second from the cache", "share of a bare UDP echo's rate", *servers(0))
+    return bars("Answers a second from the cache", ASKED, "share of a bare UDP echo's rate", *servers(0))
 
 
 def draw_processor():
     names, shares = servers(1)
     series = {row: [1 / it for it in some] for row, some in shares.items()}
-    return bars("Processor time of an answer from the cache", "times that of a bare UDP echo", names, series)
+    return bars("Processor time of an answer from the cache", ASKED, "times that of a bare UDP echo", names, series)
 
 
 def columns(rows, key):

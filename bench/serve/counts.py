@@ -131,6 +131,7 @@ def options_of():
     words = argparse.ArgumentParser(description=__doc__)
     words.add_argument("--program", required=True, help="the built dnsfleet")
     words.add_argument("--names", type=int, default=1000, help="how many names (1000)")
+    words.add_argument("--mixed-case", action="store_true", help="ask in mixed case")
     words.add_argument("--passes", type=int, default=10, help="how often each name is asked for, and twice that (10)")
     words.add_argument("--lines", type=int, default=30, help="how many functions are shown (30)")
     words.add_argument("--report", action="store_true", help="the site counts what goes through its port (serve --report)")
@@ -145,7 +146,7 @@ def main():
     servers = run.Servers(folder, None)
     try:
         run.write_zone(folder, options.names)
-        data = run.write(os.path.join(folder, "names"), "".join(f"{run.name_of(i)} A\n" for i in range(options.names)))
+        data = run.write_names(folder, options.names, options.mixed_case)
         servers.start("nsd", run.nsd_words(folder))
         time.sleep(2)
         system_calls(servers, folder, options, data)

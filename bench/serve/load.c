@@ -6,8 +6,8 @@
  * one that ends with it. OPEN questions are kept open (at most 1024); they are sent, and their replies taken, many in
  * one call of the system, so that the server has a question waiting at any time. It ends after SECONDS or COUNT
  * questions, and takes the replies to what is open then. Prints how many replies came, how many of them were good
- * (NOERROR), the seconds and how many questions were sent. A question without a reply for half a second is counted as
- * lost.
+ * (NOERROR, with the question in the file's spelling), the seconds and how many questions were sent. A question without
+ * a reply for half a second is counted as lost.
  */
 #define _GNU_SOURCE
 #include <arpa/inet.h>
@@ -87,13 +87,14 @@ static int prepare(int count) {
     return count;
 }
 
-/* Whether a reply is NOERROR, with the address of its question where the file has one. */
+/* Whether a reply is NOERROR, with its question as it was sent, and its address where the file has one. */
 static int is_good(const unsigned char *reply, unsigned length) {
     if (length < 12 || (reply[2] & 128) == 0 || (reply[3] & 15) != 0) return 0;
     /* The last question that was sent with this identifier. */
     long id = reply[0] * 256 + reply[1], number = next - 1 - ((next - 1 - id) & 65535);
     if (number < 0) return 0;
     const struct question *q = &list[number % listed];
+    if (length < (unsigned)q->length || memcmp(reply + 12, q->octets + 12, (size_t)q->length - 12) != 0) return 0;
     return !q->has_address || (length > (unsigned)q->length && memcmp(reply + length - 4, q->address, 4) == 0);
 }
 

@@ -3,6 +3,7 @@
 
 import argparse
 import os
+import random
 import re
 import shutil
 import signal
@@ -34,6 +35,14 @@ def write(path, text):
     with open(path, "w") as file:
         file.write(text)
     return path
+
+
+def write_names(folder, count, mixed=False):
+    """The questions, for dnsperf and load. Mixed, each letter is a capital or not by chance, as resolvers send it (0x20)."""
+    chance = random.Random(count)
+    spell = (lambda text: "".join(map(chance.choice, zip(text, text.upper())))) if mixed else str
+    path = os.path.join(folder, f"names-{count}{'-mixed' if mixed else ''}")
+    return write(path, "".join(f"{spell(name_of(i))} A\n" for i in range(count)))
 
 
 def write_zone(folder, count):
@@ -279,6 +288,7 @@ def options_of():
     words = argparse.ArgumentParser(description=__doc__)
     words.add_argument("--program", help="the built dnsfleet; without it only the others are measured")
     words.add_argument("--names", default="1000,100000", help="how many names, as a list (1000,100000)")
+    words.add_argument("--mixed-case", action="store_true", help="ask for names in mixed case as well")
     words.add_argument("--rounds", type=int, default=7, help="alternating rounds for each list of names (7)")
     words.add_argument("--seconds", type=int, default=2, help="seconds of one measure (2)")
     words.add_argument("--server-cpu", help="pin each server to these processors, as taskset -c")
@@ -331,15 +341,19 @@ def main():
         write_zone(folder, max(counts))
         names = start_all(servers, options)
         for count in counts:
-            data = write(os.path.join(folder, f"names-{count}"), "".join(f"{name_of(i)} A\n" for i in range(count)))
+            data = write_names(folder, count)
             for name in names:
                 took = fill(name, data, count, options.client_cpus)
                 print(f"{name}: {count} names asked once, and answered, in {took:.1f} s")
             sys.stdout.flush()
-            seen = rounds(servers, names, data, options, measure)
-            table(f"{count} names, dnsperf, {options.rounds} rounds of {options.seconds} s", names, seen, servers)
-            seen = rounds(servers, names, data, options, lambda *words: press(*words, folder))
-            table(f"{count} names, load, {options.rounds} rounds of {options.seconds} s", names, seen, servers)
+            asked = {f"{count} names": data}
+            if options.mixed_case:
+                asked[f"{count} names in mixed case"] = write_names(folder, count, True)
+            for what, data in asked.items():
+                seen = rounds(servers, names, data, options, measure)
+                table(f"{what}, dnsperf, {options.rounds} rounds of {options.seconds} s", names, seen, servers)
+                seen = rounds(servers, names, data, options, lambda *words: press(*words, folder))
+                table(f"{what}, load, {options.rounds} rounds of {options.seconds} s", names, seen, servers)
         idle(servers, names, 5)
     finally:
         servers.stop_all()
