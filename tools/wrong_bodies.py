@@ -28,7 +28,7 @@ With --together the bodies that stand inside of functions are tried many at a ti
 each function (`rt check --allow-holes`) says of each function what of it is not proved. A body is refused if a goal of its own
 function stays open, or a stored answer of that is refused by what it means. An answer that is not found any more, or a callee
 that is not proved, shows nothing. Such bodies, and those in a head, a constant or a type, are tried by `rt must-fail`. What
-`rt check` kept of the crate (its out/) is copied.
+`rt check` kept of the crate (its out/), if anything, is copied.
 """
 
 import argparse
@@ -293,7 +293,8 @@ def try_together(room, lines, below, name, bodies, note):
     rounds, left = rounds_of(bodies)
     for each in rounds:
         lay_out(room, lines, below, name, [])
-        shutil.copytree(ROOT / "crates" / name / "out", room / "crates" / name / "out", dirs_exist_ok=True)
+        if (ROOT / "crates" / name / "out").is_dir():
+            shutil.copytree(ROOT / "crates" / name / "out", room / "crates" / name / "out", dirs_exist_ok=True)
         for body in each.values():
             edited(room, name, body)
         words = ["rt", "check", "--allow-holes"]

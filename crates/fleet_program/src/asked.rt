@@ -152,6 +152,8 @@ fn answer_in(datagram: &[u8], question: &[u8]) -> Option<Answer> {
     })
 }
 
+// Lets through: no alias, whatever the record says, since its clause speaks of `true` alone. Cases of
+// `tests/run` (`test_withdrawals`) see it.
 /// Whether a record says that a name is an alias (RFC 1035 3.3.1).
 fn is_alias(link: &Record, name: &Name) -> bool
     ensures { IsTrue result → IsOfRrSet name.now CNAME link.now }
@@ -159,6 +161,8 @@ fn is_alias(link: &Record, name: &Name) -> bool
     link.rtype == CNAME && link.class == IN && link.name.same(name)
 }
 
+// Lets through: none, and another alias of the name than the first: the clause speaks of what is found.
+// A cache answers one alias of a name at most. Cases of `tests/run` (`test_withdrawals`) see none.
 /// The first record of an answer section that says a name to be an alias.
 fn alias_at<'a>(answer: &'a [Record], name: &Name) -> Option<&'a Record>
     ensures { IfSome result (λ r. Has answer.now r.now × IsOfRrSet name.now CNAME r.now) }
@@ -171,6 +175,8 @@ fn alias_at<'a>(answer: &'a [Record], name: &Name) -> Option<&'a Record>
     None
 }
 
+// Lets through: none, and an allocation that fails, whatever the reply says: the clause speaks of what is
+// found. Cases of `tests/run` (`test_withdrawals`) see it.
 /// The target of the alias that a reply says its question's name to be. `None` where it says none, or
 /// can't be read.
 fn target_in(alloc: Global, reply: &[u8]) -> Result<Option<Name>, AllocError>

@@ -37,7 +37,7 @@ const ALIAS_STAYS: u8 = 3;
 const MOST_REFUSALS: u16 = 4096;
 
 // Lets through: other answers and any status, since it has no clause; so have the other functions here but
-// `flush_frame`, and those of asked.rt but `target_in`, which they need not call. The tested bodies
+// `flush_frame`, and those of asked.rt but three, which they need not call. The tested bodies
 // `withdraw_asks_with_recursion`, `every_code_is_withdrawn` and `no_alias_is_followed` are such; cases of `tests/run`
 // (`test_withdrawals`) see it.
 /// The options of `withdraw`.
